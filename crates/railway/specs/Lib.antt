@@ -1,0 +1,5 @@
+pub mod Types
+pub mod Ranges
+pub mod Relations
+pub mod Edits
+pub mod Networks

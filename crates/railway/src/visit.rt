@@ -1,0 +1,41 @@
+// A visit and its two links.
+use crate::minute::Minute;
+use crate::sorts::Line;
+use crate::sorts::Station;
+use crate::sorts::Track;
+
+// "a previous station and a line"
+pub struct Inward {
+    pub station: Station,
+    pub line: Line,
+}
+
+// "a next station, a line and a running time"
+pub struct Outward {
+    pub station: Station,
+    pub line: Line,
+    pub run: u8,
+}
+
+// "The in-link is none or a previous station and a line."
+pub enum InLink {
+    Nothing,
+    From(Inward),
+}
+
+// "The out-link is none or a next station, a line and a running time."
+pub enum OutLink {
+    Nothing,
+    To(Outward),
+}
+
+// "It has a track; arrival and departure, each a time and a status, pending (0) or occurred (1)."
+pub struct Visit {
+    pub track: Track,
+    pub arrival: Minute,
+    pub arrived: bool,
+    pub departure: Minute,
+    pub departed: bool,
+    pub inward: InLink,
+    pub outward: OutLink,
+}

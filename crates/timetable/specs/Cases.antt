@@ -1,0 +1,268 @@
+-- The kinds of cases of the examples' table, the test of a case, and short forms to write cases with. Assumes nothing.
+use Prim.Native.Nat.{ℕ, zero, suc, _+_, _-_}
+use mathlib.Core.Bool.{Bool, true, false, not, _&&_, Bool·beq}
+use mathlib.Core.List.{List, [], _∷_, _++_, map, flatMap}
+use lib.Dec.{eqb}
+use lib.IntN.{ℤ, pos, negsuc}
+use lib.ListN.{length, replicate, getD, take}
+use Rattle.base.specs.Choice.{if_then_else_}
+use Rattle.base.specs.Lists as Lists
+use Rattle.base.specs.Lists.{any, keep, same}
+use Rattle.base.specs.Runs as Runs
+use Rattle.base.specs.Runs.{run, answers}
+use Rattle.numbers.specs.Numbers as Numbers
+use Rattle.numbers.specs.Numbers.{Reading, value, refused, read-number, write-number}
+use Rattle.railway.specs.Relations as Relations
+use Rattle.railway.specs.Relations.{key}
+use Rattle.railway.specs.Edits as Edits
+use Rattle.railway.specs.Networks as Networks
+use Rattle.railway.specs.Networks.{network-refusal, area-of}
+use Rattle.timetable.specs.Types.{Station, Train, Track, Line, Area, Minute, InLink, OutLink, Trains, Pair}
+use Rattle.timetable.specs.Types.{Relation, Connection, Disconnection, Dependency, Plan, Extension, Deletion, Report}
+use Rattle.timetable.specs.Types.{Edit, Place, Prepend, Append, DeleteFirst, DeleteLast, Amend}
+use Rattle.timetable.specs.Types.{ReportArrival, ReportDeparture, AddRelation, RemoveRelation, DeleteTrain}
+use Rattle.timetable.specs.Types.{StationRow, LineRow, Network, Answer, Finding, Row, Tally}
+use Rattle.timetable.specs.Visits as Visits
+use Rattle.timetable.specs.Tables as Tables
+use Rattle.timetable.specs.Tables.{Entry, Table}
+use Rattle.timetable.specs.Machine as Machine
+use Rattle.timetable.specs.Machine.{Timetable, put, nothing-placed, answer, after}
+use Rattle.timetable.specs.Groups as Groups
+use Rattle.timetable.specs.Groups.{names-group, divide}
+use Rattle.timetable.specs.Good as Good
+use Rattle.timetable.specs.Good.{table-good}
+use Rattle.timetable.specs.Rules as Rules
+use Rattle.timetable.specs.Findings as Findings
+use Rattle.timetable.specs.Findings.{findings, finding, group-findings, pair-findings}
+use Rattle.timetable.specs.Projection as Projection
+use Rattle.timetable.specs.Projection.{projection}
+use Rattle.timetable.specs.Count as Count
+use Rattle.timetable.specs.Count.{raise, raise-refusal}
+use Rattle.timetable.specs.Listing as Listing
+use Rattle.timetable.specs.Listing.{listing, finding-line, tally-line}
+
+-- short forms
+
+unfoldable pub st : ℕ → Station
+st s = record { 0 = s }
+
+unfoldable pub tr : ℕ → Train
+tr t = record { 0 = t }
+
+unfoldable pub ln : ℕ → Line
+ln l = record { 0 = l }
+
+unfoldable pub at : ℕ → Minute
+at m = record { 0 = m }
+
+unfoldable pub plan : ℕ → ℕ → ℕ → ℕ → ℕ → Plan
+plan s t k a d = record { station = st s; train = tr t; track = record { 0 = k }; arrival = at a; departure = at d }
+
+-- s, t, track, arrival, departure
+unfoldable pub place : ℕ → ℕ → ℕ → ℕ → ℕ → Edit
+place s t k a d = Place (plan s t k a d)
+
+-- the plan, then p, line, running time
+unfoldable pub prepend : Plan → ℕ → ℕ → ℕ → Edit
+prepend p q l r = Prepend (record { plan = p; other = st q; line = ln l; run = r })
+
+unfoldable pub append : Plan → ℕ → ℕ → ℕ → Edit
+append p q l r = Append (record { plan = p; other = st q; line = ln l; run = r })
+
+unfoldable pub delete-first : ℕ → ℕ → ℕ → Edit
+delete-first s t p = DeleteFirst (record { station = st s; train = tr t; other = st p })
+
+unfoldable pub delete-last : ℕ → ℕ → ℕ → Edit
+delete-last s t p = DeleteLast (record { station = st s; train = tr t; other = st p })
+
+unfoldable pub arrives : ℕ → ℕ → ℕ → Edit
+arrives s t m = ReportArrival (record { station = st s; train = tr t; time = at m })
+
+unfoldable pub departs : ℕ → ℕ → ℕ → Edit
+departs s t m = ReportDeparture (record { station = st s; train = tr t; time = at m })
+
+unfoldable pub relate : Relation → Edit
+relate r = AddRelation (record { station = st 1; relation = r })
+
+unfoldable pub unrelate : Relation → Edit
+unrelate r = RemoveRelation (record { station = st 1; relation = r })
+
+unfoldable pub delete-train : ℕ → Edit
+delete-train t = DeleteTrain (record { train = tr t })
+
+unfoldable pub four : ℕ → ℕ → ℕ → ℕ → Trains
+four a b c d = record { a = tr a; b = tr b; c = tr c; d = tr d }
+
+unfoldable pub two : ℕ → ℕ → Trains
+two a b = four a b 0 0
+
+unfoldable pub pair : ℕ → ℕ → Pair
+pair a d = record { arriver = tr a; departer = tr d }
+
+unfoldable pub station : ℕ → ℕ → ℕ → StationRow
+station s a k = record { station = st s; area = record { 0 = a }; tracks = k }
+
+unfoldable pub line : ℕ → ℕ → ℕ → ℕ → ℕ → ℕ → LineRow
+line l a b k r c = record { line = ln l; first = st a; second = st b; kind = k; least = r; capacity = c }
+
+unfoldable pub network : List StationRow → ℕ → List LineRow → Network
+network ss h ls = record {
+  stationcount = length ss;
+  stations = ss ++ replicate (16 - length ss) (station 0 0 0);
+  headway = h;
+  linecount = length ls;
+  lines = ls ++ replicate (32 - length ls) (line 0 0 0 0 0 0);
+}
+
+-- the network of the listing: `2, 1 1 2, 2 2 1, 3, 1, 1 1 2 3 10 1`
+unfoldable pub with-capacity : ℕ → Network
+with-capacity c = network (station 1 1 2 ∷ station 2 2 1 ∷ []) 3 (line 1 1 2 3 10 c ∷ [])
+
+unfoldable pub net : Network
+net = with-capacity 1
+
+-- three stations in areas 1, 2 and 2, a line of kind 1 from 1 to 2, one of kind 2 from 3 to 2, one of kind 3 between 1 and 2
+unfoldable pub triangle : Network
+triangle = network (station 1 1 2 ∷ station 2 2 2 ∷ station 3 2 2 ∷ []) 3 (line 1 1 2 1 10 1 ∷ line 2 2 3 2 10 1 ∷ line 3 1 2 3 10 2 ∷ [])
+
+-- the train leaves station 1 at d for station 2 on line 1, with a run of r
+unfoldable pub leaving : ℕ → ℕ → ℕ → List Edit
+leaving t d r = place 2 t 1 (d + r) (d + r) ∷ prepend (plan 1 t 1 d d) 2 1 r ∷ []
+
+-- the train leaves station 2 for station 1 so that it arrives at a
+unfoldable pub inbound : ℕ → ℕ → List Edit
+inbound t a = place 2 t 1 (a - 12) (a - 12) ∷ append (plan 1 t 2 a a) 2 1 12 ∷ []
+
+-- k trains from the given number at station 1
+unfoldable pub crowd : ℕ → ℕ → List Edit
+crowd from zero = []
+crowd from (suc k) = place 1 from 1 100 102 ∷ crowd (suc from) k
+
+-- k connections at station 1
+unfoldable pub connections : ℕ → List Edit
+connections zero = []
+connections (suc k) = relate (Connection k (two 7 8)) ∷ connections k
+
+-- a visit on track 1, given directly, with its statuses and links
+unfoldable pub visiting : ℕ → ℕ → Bool → ℕ → Bool → InLink → OutLink → Entry
+visiting t a x d y i o = record {
+  train = tr t;
+  visit = record { track = record { 0 = 1 }; arrival = at a; arrived = x; departure = at d; departed = y; inward = i; outward = o };
+}
+
+-- links by line 1, or by another
+unfoldable pub by : ℕ → ℕ → InLink
+by p l = InLink.From (record { station = st p; line = ln l })
+
+unfoldable pub to : ℕ → ℕ → ℕ → OutLink
+to p l r = OutLink.To (record { station = st p; line = ln l; run = r })
+
+unfoldable pub tabled : List Entry → List Relation → Table
+tabled es rs = record { visits = es; relations = rs }
+
+-- the tables of stations 1 and 2, the others bare
+unfoldable pub standing : Table → Table → Timetable
+standing one two = put (st 1) one (put (st 2) two nothing-placed)
+
+unfoldable pub bare : Table
+bare = tabled [] []
+
+unfoldable pub counted : ℕ → ℕ → ℕ → ℕ → Tally
+counted a r d m = record { accepted = a; refused = r; added = d; removed = m }
+
+unfoldable pub told : ℕ → ℕ → Answer
+told r c = record { refusal = r; removed = c }
+
+-- cases
+
+pub data Case : Type 0 where
+  -- the number's bytes, which read back as the number
+  bytes : ℕ → List ℕ → Case
+  -- reading the bytes is refused with the number
+  unread : List ℕ → ℕ → Case
+  -- after the edits on an empty timetable the finding is listed, or not
+  found : Network → List Edit → Finding → Bool → Case
+  -- in the timetable, given directly, the finding is listed, or not
+  stands : Network → Timetable → Finding → Bool → Case
+  -- after the edits these are the relations of station 1
+  related : List Edit → List Relation → Case
+  -- the answers to the edits, refusal and removed in turn
+  answered : Network → List Edit → List ℕ → Case
+  -- the answers to the edits on the timetable, given directly
+  answered-on : Timetable → List Edit → List ℕ → Case
+  -- the relations' order: each is before the next
+  ordered : List Relation → Bool → Case
+  -- the network's refusal, 0 for a good one
+  network-is : Network → ℕ → Case
+  -- the areas of 1..6 that the edit names
+  naming : Network → Edit → List ℕ → Case
+  -- the table is good at station 1, or not
+  table-is : Table → Bool → Case
+  -- the findings of an area, of a pair of areas, as numbers
+  area-has : Network → Timetable → ℕ → List ℕ → Case
+  pair-has : Network → Timetable → ℕ → ℕ → List ℕ → Case
+  -- the rows of a projection: station, arrival, departure, 1 if early, minutes
+  projected : Timetable → ℕ → ℕ → ℕ → List ℕ → Case
+  -- raising the tally by an edit and its answer: the refusal, and the tally after
+  tallied : Tally → Edit → Answer → List ℕ → Case
+  -- what shift prints
+  printed : List Edit → List (List ℕ) → Case
+
+unfoldable pub reads-as : ℕ → Reading → Bool
+reads-as n (value k rest) = eqb n k && same rest []
+reads-as n (refused k) = false
+
+unfoldable pub reads-refused : ℕ → Reading → Bool
+reads-refused n (value k rest) = false
+reads-refused n (refused k) = eqb n k
+
+unfoldable pub lists : Finding → List Finding → Bool
+lists f fs = any (λ g. same (finding-line f) (finding-line g)) fs
+
+unfoldable pub answer-numbers : List Answer → List ℕ
+answer-numbers as′ = flatMap (λ a. a .refusal ∷ a .removed ∷ []) as′
+
+unfoldable pub finding-numbers : List Finding → List ℕ
+finding-numbers fs = flatMap (λ f. f .station .0 ∷ f .rule ∷ f .first ∷ f .second ∷ []) fs
+
+unfoldable pub signed : ℤ → List ℕ
+signed (pos k) = 0 ∷ k ∷ []
+signed (negsuc k) = 1 ∷ suc k ∷ []
+
+unfoldable pub row-numbers : List Row → List ℕ
+row-numbers rs = flatMap (λ r. r .station .0 ∷ r .arrival ∷ r .departure ∷ signed (r .lateness)) rs
+
+unfoldable pub each-before : List Relation → Bool
+each-before rs = Lists.each-two Relations.precedes rs
+
+unfoldable pub passes : Case → Bool
+passes (bytes n bs) = same (write-number n) bs && reads-as n (read-number bs)
+passes (unread bs k) = reads-refused k (read-number bs)
+passes (found n es f b) = Bool·beq b (lists f (findings n (run (after n) es nothing-placed)))
+passes (stands n m f b) = Bool·beq b (lists f (findings n m))
+passes (related es rs) = same (flatMap key (run (after net) es nothing-placed (st 1) .relations)) (flatMap key rs)
+passes (answered n es ks) = same ks (answer-numbers (answers (after n) (answer n) es nothing-placed))
+passes (answered-on m es ks) = same ks (answer-numbers (answers (after net) (answer net) es m))
+passes (ordered rs b) = Bool·beq b (each-before rs)
+passes (network-is n k) = eqb k (network-refusal n)
+passes (naming n e gs) = same gs (keep (names-group n (area-of n) e) (1 ∷ 2 ∷ 3 ∷ 4 ∷ 5 ∷ 6 ∷ []))
+passes (table-is tab b) = Bool·beq b (table-good net (st 1) tab)
+passes (area-has n m a ks) = same ks (finding-numbers (group-findings n (area-of n) m a))
+passes (pair-has n m a b ks) = same ks (finding-numbers (pair-findings n (area-of n) m a b))
+passes (projected m t s a ks) = same ks (row-numbers (projection m (tr t) (st s) a))
+passes (tallied y e a ks) = same ks (raise-refusal y a ∷ tally-line (raise y e a))
+passes (printed es ls) = same (flatMap (λ l. l) (listing net es)) (flatMap (λ l. l) ls)
+
+-- the cases that fail, by their place from 1
+unfoldable pub failing : ℕ → List Case → List ℕ
+failing k [] = []
+failing k (c ∷ cs) = if passes c then failing (suc k) cs else k ∷ failing (suc k) cs
+
+-- The key ring of this module and of all that it computes with.
+unfoldable pub opened : Unit {0}
+unfolding st tr ln at plan place prepend append delete-first delete-last arrives departs relate unrelate delete-train four two pair station line network
+    with-capacity net triangle leaving inbound crowd connections visiting by to tabled standing bare counted told
+    reads-as reads-refused lists answer-numbers finding-numbers signed row-numbers each-before passes failing
+    Lists.opened Runs.opened Numbers.opened Relations.opened Edits.opened Networks.opened
+    Visits.opened Tables.opened Machine.opened Groups.opened Good.opened Rules.opened Findings.opened Projection.opened Count.opened Listing.opened
+opened = tt

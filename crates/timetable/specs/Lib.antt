@@ -1,0 +1,13 @@
+pub mod Types
+pub mod Visits
+pub mod Tables
+pub mod Machine
+pub mod Groups
+pub mod Good
+pub mod Rules
+pub mod Findings
+pub mod Projection
+pub mod Count
+pub mod Listing
+pub mod Cases
+pub mod Examples

@@ -1,0 +1,33 @@
+// What document 01 says of a timetable, as definitions that compute (specs/), with its examples as one computed table.
+// This file has the values that the calls answer with.
+use railway::sorts::Station;
+
+// "An answer is a refusal number or 0, and the count of visits removed."
+pub struct Answer {
+    pub refusal: u8,
+    pub removed: u8,
+}
+
+// "Each is four numbers: station, rule, first, second (0 if unused)"
+pub struct Finding {
+    pub station: Station,
+    pub rule: u8,
+    pub first: u16,
+    pub second: u16,
+}
+
+// "Each visit's row is station, expected arrival, expected departure and lateness"
+pub struct Row {
+    pub station: Station,
+    pub arrival: u32,
+    pub departure: u32,
+    pub lateness: i32,
+}
+
+// "one small tally record which each edit raises: accepted, refused, added, removed"
+pub struct Tally {
+    pub accepted: u32,
+    pub refused: u32,
+    pub added: u32,
+    pub removed: u32,
+}
