@@ -1,0 +1,146 @@
+-- What is promised of every list of edits, in the words of the demands, for the definitions of document 01. The proofs are in proofs/; nothing here is proved.
+-- A reader needs: Reordering (beside this file), and of the crate timetable Machine (the central machine), Groups (dividing, merging, edits on a division),
+-- Good (whole timetables), Findings and Count (the tally). Groups of stations are the areas, or any other grouping. Assumes nothing.
+use mathlib.Core.Bool.{Bool, true, _&&_, _||_}
+use mathlib.Core.List.{List, [], _∷_, _++_, map, flatMap}
+use mathlib.Core.Path.{_≡_}
+use Prim.Native.Nat.{ℕ, _+_}
+use lib.Dec.{T, eqb, ltb}
+use Rattle.base.specs.Lists.{any, count, each-two, pairs, below, same}
+use Rattle.base.specs.Runs.{run, answers}
+use Rattle.railway.specs.Networks.{network-refusal, listed}
+use Rattle.timetable.specs.Machine.{Timetable, refusal, answer, after}
+use Rattle.timetable.specs.Groups.{Grouping, areas, names, names-group, Divided, divide, merge, gather, divided-answer, divided-after}
+use Rattle.timetable.specs.Good.{Whole, GoodDivision}
+use Rattle.timetable.specs.Findings.{findings, group-findings, pair-findings}
+use Rattle.timetable.specs.Count.{zero-tally, raise-all, counts-in-full, visit-count}
+use Rattle.theory.specs.Types.{Station, Edit, Network, Answer, Finding, Tally}
+use Rattle.theory.specs.Reordering.{along, Reordering}
+
+-- hypotheses
+
+-- "A good network is one that 3 and 4 don't refuse."
+abbrev pub GoodNetwork : Network → Type 0
+GoodNetwork n = network-refusal n ≡ 0
+
+-- γ groups the network's stations by the groups gs: a listed station is in just one of them, no other station is in any
+pub record Grouped (n : Network) (γ : Grouping) (gs : List ℕ) : Type 0 where
+  pub in-one : (k : Station) → T (listed n k) → count (eqb (γ k)) gs ≡ 1
+  pub in-none : (k : Station) → listed n k ≡ ltb 0 (γ k)
+
+-- the six areas
+abbrev pub six : List ℕ
+six = 1 ∷ 2 ∷ 3 ∷ 4 ∷ 5 ∷ 6 ∷ []
+
+-- 1. An edit reads and changes only the tables of the stations that it names; "one refused with 3 or 7 names none".
+pub record Local (n : Network) (e : Edit) : Type 0 where
+  pub same-answer : (m m′ : Timetable) → ((k : Station) → T (names n e k) → m k ≡ m′ k) → answer n e m ≡ answer n e m′
+  pub same-change : (m m′ : Timetable) → ((k : Station) → T (names n e k) → m k ≡ m′ k) → (k : Station) → T (names n e k) → after n e m k ≡ after n e m′ k
+  pub others-kept : (m : Timetable) (k : Station) → ¬ T (names n e k) → after n e m k ≡ m k
+  pub names-none : (m : Timetable) → T (eqb (refusal n e m) 3 || eqb (refusal n e m) 7) → (k : Station) → ¬ T (names n e k)
+
+-- 2. Any order: the central machine's answers, read along the positions, and its last timetable are those of the first order.
+pub record AnyOrder (n : Network) (m : Timetable) (es : List Edit) (ps : List ℕ) : Type 0 where
+  pub same-answers : answers (after n) (answer n) (along es ps) m ≡ along (answers (after n) (answer n) es m) ps
+  pub same-timetable : run (after n) (along es ps) m ≡ run (after n) es m
+
+-- 3. Same order: working on the named groups' parts of a divided timetable, the others bare, is working on the whole.
+pub record SameOrder (n : Network) (γ : Grouping) (m : Timetable) (es : List Edit) : Type 0 where
+  pub same-answers : answers (divided-after n γ) (divided-answer n γ) es (divide γ m) ≡ answers (after n) (answer n) es m
+  pub same-parts : run (divided-after n γ) es (divide γ m) ≡ divide γ (run (after n) es m)
+
+-- 4. Merging a division gives the timetable back; dividing what was merged gives the division back.
+pub record RoundTrip (n : Network) (γ : Grouping) : Type 0 where
+  pub merged-back : (m : Timetable) → Whole n m → merge γ (divide γ m) ≡ m
+  pub divided-back : (d : Divided) → GoodDivision n γ d → divide γ (merge γ d) ≡ d
+  pub divided-good : (m : Timetable) → Whole n m → GoodDivision n γ (divide γ m)
+  pub merged-whole : (d : Divided) → GoodDivision n γ d → Whole n (merge γ d)
+
+-- 5. Findings
+
+-- the four numbers of a finding
+abbrev pub numbers : Finding → List ℕ
+numbers f = f .station .0 ∷ f .rule ∷ f .first ∷ f .second ∷ []
+
+-- how often a finding stands in a list
+unfoldable pub times-listed : Finding → List Finding → ℕ
+times-listed f fs = count (λ g. same (numbers f) (numbers g)) fs
+
+-- a group's list from its own part alone; the list of two groups from their two parts alone
+unfoldable pub own-list : Network → Grouping → Divided → ℕ → List Finding
+own-list n γ d g = group-findings n γ (d g) g
+
+unfoldable pub pair-list : Network → Grouping → Divided → ℕ × ℕ → List Finding
+pair-list n γ d gh = pair-findings n γ (gather γ (λ x. eqb x (gh .0) || eqb x (gh .1)) d) (gh .0) (gh .1)
+
+-- all the lists: of the groups, and of their pairs
+unfoldable pub all-lists : Network → Grouping → List ℕ → Divided → List Finding
+all-lists n γ gs d = flatMap (own-list n γ d) gs ++ flatMap (pair-list n γ d) (pairs gs)
+
+pub record Findings (n : Network) (γ : Grouping) (gs : List ℕ) (m : Timetable) : Type 0 where
+  -- "listed rising", strictly
+  pub rising : T (each-two (λ f g. below (numbers f) (numbers g)) (findings n m))
+  -- "each finding exactly once among six areas and fifteen pairs"
+  pub exactly-once : (f : Finding) → T (any (λ g. same (numbers f) (numbers g)) (findings n m)) → times-listed f (all-lists n γ gs (divide γ m)) ≡ 1
+  -- and no other stands there
+  pub no-other : (f : Finding) → T (any (λ g. same (numbers f) (numbers g)) (all-lists n γ gs (divide γ m))) → T (any (λ g. same (numbers f) (numbers g)) (findings n m))
+
+-- 6. An accepted edit leaves every table within the limits, in order, with values that an edit could carry; a refused edit leaves the timetable as it was.
+pub record Kept (n : Network) (m : Timetable) (e : Edit) : Type 0 where
+  pub whole : Whole n m → Whole n (after n e m)
+  pub refused : ¬ (refusal n e m ≡ 0) → after n e m ≡ m
+
+-- 7. "Over every list of edits that the tally counts in full, visits at the start plus added less removed are the visits at the end."
+pub record Balanced (n : Network) (m : Timetable) (es : List Edit) : Type 0 where
+  pub balance : T (counts-in-full zero-tally es (answers (after n) (answer n) es m))
+      → visit-count n m + raise-all zero-tally es (answers (after n) (answer n) es m) .added
+      ≡ visit-count n (run (after n) es m) + raise-all zero-tally es (answers (after n) (answer n) es m) .removed
+
+-- 8. Demand 3: the edits reach the centre in the order ps and work on the division; the central machine takes them in their first order, undivided.
+pub record Demand3 (n : Network) (γ : Grouping) (gs : List ℕ) (m : Timetable) (es : List Edit) (ps : List ℕ) : Type 0 where
+  -- "same answers"
+  pub same-answers : answers (divided-after n γ) (divided-answer n γ) (along es ps) (divide γ m) ≡ along (answers (after n) (answer n) es m) ps
+  -- "same sheets"
+  pub same-sheets : run (divided-after n γ) (along es ps) (divide γ m) ≡ divide γ (run (after n) es m)
+  -- "same merged timetable"
+  pub same-merged : merge γ (run (divided-after n γ) (along es ps) (divide γ m)) ≡ run (after n) es m
+  -- "each finding exactly once among six areas and fifteen pairs", the lists formed from the division that the reordered edits leave
+  pub same-findings : (f : Finding) → T (any (λ g. same (numbers f) (numbers g)) (findings n (run (after n) es m)))
+      → times-listed f (all-lists n γ gs (run (divided-after n γ) (along es ps) (divide γ m))) ≡ 1
+  pub no-other-finding : (f : Finding) → T (any (λ g. same (numbers f) (numbers g)) (all-lists n γ gs (run (divided-after n γ) (along es ps) (divide γ m))))
+      → T (any (λ g. same (numbers f) (numbers g)) (findings n (run (after n) es m)))
+
+-- The statements themselves
+
+abbrev pub EveryEditIsLocal : Type 0
+EveryEditIsLocal = (n : Network) (e : Edit) → Local n e
+
+abbrev pub AnyOrderIsTheFirst : Type 0
+AnyOrderIsTheFirst = (n : Network) (γ : Grouping) (m : Timetable) (es : List Edit) (ps : List ℕ) → Reordering (names-group n γ) es ps → AnyOrder n m es ps
+
+abbrev pub DividedIsWhole : Type 0
+DividedIsWhole = (n : Network) (γ : Grouping) (gs : List ℕ) → Grouped n γ gs → (m : Timetable) (es : List Edit) → SameOrder n γ m es
+
+abbrev pub DivisionsRoundTrip : Type 0
+DivisionsRoundTrip = (n : Network) (γ : Grouping) (gs : List ℕ) → Grouped n γ gs → RoundTrip n γ
+
+abbrev pub FindingsAreShared : Type 0
+FindingsAreShared = (n : Network) → GoodNetwork n → (γ : Grouping) (gs : List ℕ) → Grouped n γ gs → (m : Timetable) → Whole n m → Findings n γ gs m
+
+abbrev pub WholeIsKept : Type 0
+WholeIsKept = (n : Network) (m : Timetable) (e : Edit) → Kept n m e
+
+abbrev pub TallyBalances : Type 0
+TallyBalances = (n : Network) → GoodNetwork n → (m : Timetable) → Whole n m → (es : List Edit) → Balanced n m es
+
+abbrev pub AreasGroup : Type 0
+AreasGroup = (n : Network) → GoodNetwork n → Grouped n (areas n) six
+
+-- demand 3 for any grouping of the stations, and for the areas
+abbrev pub DemandOfGroups : Type 0
+DemandOfGroups = (n : Network) → GoodNetwork n → (γ : Grouping) (gs : List ℕ) → Grouped n γ gs → (m : Timetable) → Whole n m
+    → (es : List Edit) (ps : List ℕ) → Reordering (names-group n γ) es ps → Demand3 n γ gs m es ps
+
+abbrev pub DemandOfAreas : Type 0
+DemandOfAreas = (n : Network) → GoodNetwork n → (m : Timetable) → Whole n m
+    → (es : List Edit) (ps : List ℕ) → Reordering (names-group n (areas n)) es ps → Demand3 n (areas n) six m es ps
