@@ -121,9 +121,11 @@ with-capacity c = network (station 1 1 2 ∷ station 2 2 1 ∷ []) 3 (line 1 1 2
 unfoldable pub net : Network
 net = with-capacity 1
 
--- three stations in areas 1, 2 and 2, a line of kind 1 from 1 to 2, one of kind 2 from 3 to 2, one of kind 3 between 1 and 2
-unfoldable pub triangle : Network
-triangle = network (station 1 1 2 ∷ station 2 2 2 ∷ station 3 2 2 ∷ []) 3 (line 1 1 2 1 10 1 ∷ line 2 2 3 2 10 1 ∷ line 3 1 2 3 10 2 ∷ [])
+-- stations 1, 2 and 3 in areas 1, 2 and 2; line 1 runs from 1 to 2, line 2 from 3 to 2, line 3 either way between 1 and 2, line 4 between 2 and 3
+unfoldable pub branch : Network
+branch =
+    network (station 1 1 2 ∷ station 2 2 2 ∷ station 3 2 2 ∷ []) 3
+    (line 1 1 2 1 10 1 ∷ line 2 2 3 2 10 1 ∷ line 3 1 2 3 10 2 ∷ line 4 2 3 3 10 1 ∷ [])
 
 -- the train leaves station 1 at d for station 2 on line 1, with a run of r
 unfoldable pub leaving : ℕ → ℕ → ℕ → List Edit
@@ -150,7 +152,7 @@ visiting t a x d y i o = record {
   visit = record { track = record { 0 = 1 }; arrival = at a; arrived = x; departure = at d; departed = y; inward = i; outward = o };
 }
 
--- links by line 1, or by another
+-- links: station and line; outwards with the running time
 unfoldable pub by : ℕ → ℕ → InLink
 by p l = InLink.From (record { station = st p; line = ln l })
 
@@ -172,6 +174,14 @@ counted a r d m = record { accepted = a; refused = r; added = d; removed = m }
 
 unfoldable pub told : ℕ → ℕ → Answer
 told r c = record { refusal = r; removed = c }
+
+-- what the edits make of an empty timetable
+unfoldable pub run-of : List Edit → Timetable
+run-of es = run (after net) es nothing-placed
+
+-- the edits of the listing
+unfoldable pub listed-edits : List Edit
+listed-edits = place 1 7 1 100 102 ∷ append (plan 2 7 1 115 115) 1 1 12 ∷ place 1 7 1 100 102 ∷ relate (Connection 5 (two 7 9)) ∷ []
 
 -- cases
 
@@ -240,7 +250,7 @@ passes (bytes n bs) = same (write-number n) bs && reads-as n (read-number bs)
 passes (unread bs k) = reads-refused k (read-number bs)
 passes (found n es f b) = Bool·beq b (lists f (findings n (run (after n) es nothing-placed)))
 passes (stands n m f b) = Bool·beq b (lists f (findings n m))
-passes (related es rs) = same (flatMap key (run (after net) es nothing-placed (st 1) .relations)) (flatMap key rs)
+passes (related es rs) = same (flatMap key (run-of es (st 1) .relations)) (flatMap key rs)
 passes (answered n es ks) = same ks (answer-numbers (answers (after n) (answer n) es nothing-placed))
 passes (answered-on m es ks) = same ks (answer-numbers (answers (after net) (answer net) es m))
 passes (ordered rs b) = Bool·beq b (each-before rs)
@@ -261,7 +271,7 @@ failing k (c ∷ cs) = if passes c then failing (suc k) cs else k ∷ failing (s
 -- The key ring of this module and of all that it computes with.
 unfoldable pub opened : Unit {0}
 unfolding st tr ln at plan place prepend append delete-first delete-last arrives departs relate unrelate delete-train four two pair station line network
-    with-capacity net triangle leaving inbound crowd connections visiting by to tabled standing bare counted told
+    with-capacity net branch leaving inbound crowd connections visiting by to tabled standing bare counted told run-of listed-edits
     reads-as reads-refused lists answer-numbers finding-numbers signed row-numbers each-before passes failing
     Lists.opened Runs.opened Numbers.opened Relations.opened Edits.opened Networks.opened
     Visits.opened Tables.opened Machine.opened Groups.opened Good.opened Rules.opened Findings.opened Projection.opened Count.opened Listing.opened

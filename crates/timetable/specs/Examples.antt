@@ -5,12 +5,13 @@ use mathlib.Core.Bool.{true, false}
 use mathlib.Core.List.{List, [], _∷_, _++_}
 use Rattle.timetable.specs.Types.{Connection, Disconnection, Dependency, InLink, OutLink, Edit, Amend}
 use Rattle.timetable.specs.Findings.{finding}
+use Rattle.timetable.specs.Machine.{nothing-placed}
 use Rattle.timetable.specs.Cases as Cases
 use Rattle.timetable.specs.Cases.{st, plan, place, prepend, append, delete-first, delete-last, arrives, departs, relate, unrelate, delete-train}
-use Rattle.timetable.specs.Cases.{four, two, pair, station, line, network, with-capacity, net, triangle, leaving, inbound, crowd, connections}
+use Rattle.timetable.specs.Cases.{four, two, pair, station, line, network, with-capacity, net, branch, leaving, inbound, crowd, connections}
 use Rattle.timetable.specs.Cases.{visiting, by, to, tabled, standing, bare, counted, told}
 use Rattle.timetable.specs.Cases.{Case, bytes, unread, found, stands, related, answered, answered-on, ordered, network-is, naming, table-is}
-use Rattle.timetable.specs.Cases.{area-has, pair-has, projected, tallied, printed, failing}
+use Rattle.timetable.specs.Cases.{area-has, pair-has, projected, tallied, printed, failing, run-of, listed-edits}
 
 -- document 01, "Examples on the edges" and "A run of the program `shift`"
 pub document : List Case
@@ -44,7 +45,7 @@ document =
     ∷ answered net (crowd 1 25)
     (0 ∷ 0 ∷ 0 ∷ 0 ∷ 0 ∷ 0 ∷ 0 ∷ 0 ∷ 0 ∷ 0 ∷ 0 ∷ 0 ∷ 0 ∷ 0 ∷ 0 ∷ 0 ∷ 0 ∷ 0 ∷ 0 ∷ 0 ∷ 0 ∷ 0 ∷ 0 ∷ 0 ∷ 0 ∷ 0 ∷ 0 ∷ 0 ∷ 0 ∷ 0 ∷ 0 ∷ 0 ∷ 0 ∷ 0 ∷ 0 ∷ 0 ∷ 0 ∷ 0 ∷ 0 ∷ 0 ∷ 0 ∷ 0 ∷ 0 ∷ 0 ∷ 0 ∷ 0 ∷ 0 ∷ 0 ∷ 12 ∷ 0 ∷ [])
     -- the listing
-    ∷ printed (place 1 7 1 100 102 ∷ append (plan 2 7 1 115 115) 1 1 12 ∷ place 1 7 1 100 102 ∷ relate (Connection 5 (two 7 9)) ∷ [])
+    ∷ printed listed-edits
     ((69 ∷ 1 ∷ 0 ∷ 0 ∷ [])
     ∷ (69 ∷ 2 ∷ 0 ∷ 0 ∷ [])
     ∷ (69 ∷ 3 ∷ 8 ∷ 0 ∷ [])
@@ -56,9 +57,259 @@ document =
     ∷ [])
     ∷ []
 
+-- which values are in range: 3 and 7
+pub ranges : List Case
+ranges =
+    answered net
+    (place 17 7 1 1 1 ∷ place 1 0 1 1 1 ∷ place 1 10000 1 1 1 ∷ place 1 9999 2 2879 2879 ∷ place 1 8 1 2880 2880 ∷ place 1 8 9 1 1 ∷ place 1 8 3 1 1 ∷ place 3 8 1 1 1 ∷ [])
+    (3 ∷ 0 ∷ 3 ∷ 0 ∷ 3 ∷ 0 ∷ 0 ∷ 0 ∷ 3 ∷ 0 ∷ 3 ∷ 0 ∷ 7 ∷ 0 ∷ 7 ∷ 0 ∷ [])
+    ∷ answered net (place 2 7 1 50 50 ∷ prepend (plan 1 7 1 9 9) 2 1 0 ∷ prepend (plan 1 7 1 9 9) 2 1 241 ∷ prepend (plan 1 7 1 9 9) 2 33 12 ∷ prepend (plan 1 7 1 9 9) 2 2 12 ∷ prepend (plan 1 7 1 9 9) 2 1 240 ∷ [])
+    (0 ∷ 0 ∷ 3 ∷ 0 ∷ 3 ∷ 0 ∷ 3 ∷ 0 ∷ 7 ∷ 0 ∷ 0 ∷ 0 ∷ [])
+    ∷ answered net (relate (Connection 241 (two 7 8)) ∷ relate (Connection 240 (two 7 8)) ∷ relate (Connection 5 (two 7 7)) ∷ relate (Connection 5 (two 8 7)) ∷ [])
+    (3 ∷ 0 ∷ 0 ∷ 0 ∷ 3 ∷ 0 ∷ 3 ∷ 0 ∷ [])
+    ∷ answered net (relate (Connection 5 (four 7 0 8 0)) ∷ relate (Connection 5 (four 7 8 0 9)) ∷ relate (Connection 5 (four 7 8 9 9)) ∷ relate (Connection 5 (four 7 8 9 10)) ∷ relate (Connection 5 (four 7 0 0 0)) ∷ relate (Connection 5 (two 7 10000)) ∷ [])
+    (3 ∷ 0 ∷ 3 ∷ 0 ∷ 3 ∷ 0 ∷ 0 ∷ 0 ∷ 3 ∷ 0 ∷ 3 ∷ 0 ∷ [])
+    ∷ answered net (relate (Dependency 5 (pair 9 7)) ∷ relate (Dependency 5 (pair 7 0)) ∷ []) (0 ∷ 0 ∷ 3 ∷ 0 ∷ [])
+    -- a line runs its own way only
+    ∷ answered branch (place 2 7 1 50 50 ∷ prepend (plan 1 7 1 30 40) 2 1 12 ∷ []) (0 ∷ 0 ∷ 0 ∷ 0 ∷ [])
+    ∷ answered branch (place 1 7 1 50 50 ∷ prepend (plan 2 7 1 30 40) 1 1 12 ∷ append (plan 2 7 1 60 60) 1 1 12 ∷ []) (0 ∷ 0 ∷ 7 ∷ 0 ∷ 0 ∷ 0 ∷ [])
+    ∷ answered branch (place 2 7 1 50 50 ∷ prepend (plan 3 7 1 30 40) 2 2 12 ∷ []) (0 ∷ 0 ∷ 0 ∷ 0 ∷ [])
+    ∷ answered branch (place 3 7 1 50 50 ∷ prepend (plan 2 7 1 30 40) 3 2 12 ∷ []) (0 ∷ 0 ∷ 7 ∷ 0 ∷ [])
+    -- s = p
+    ∷ answered net (place 1 7 1 50 50 ∷ prepend (plan 1 8 1 30 40) 1 1 12 ∷ append (plan 1 8 1 30 40) 1 1 12 ∷ delete-first 1 7 1 ∷ delete-last 1 7 1 ∷ delete-first 1 8 1 ∷ [])
+    (0 ∷ 0 ∷ 7 ∷ 0 ∷ 7 ∷ 0 ∷ 10 ∷ 0 ∷ 10 ∷ 0 ∷ 9 ∷ 0 ∷ [])
+    -- networks
+    ∷ network-is net 0
+    ∷ network-is branch 0
+    ∷ network-is (network [] 3 []) 3
+    ∷ network-is (network (station 1 1 2 ∷ []) 0 []) 3
+    ∷ network-is (network (station 1 1 2 ∷ []) 31 []) 3
+    ∷ network-is (network (station 1 1 2 ∷ []) 30 []) 0
+    ∷ network-is (network (station 1 1 9 ∷ []) 3 []) 3
+    ∷ network-is (network (station 1 7 2 ∷ []) 3 []) 3
+    ∷ network-is (network (station 2 1 2 ∷ station 2 1 2 ∷ []) 3 []) 3
+    ∷ network-is (network (station 2 1 2 ∷ station 1 1 2 ∷ []) 3 []) 3
+    ∷ network-is (network (station 1 1 2 ∷ station 2 1 2 ∷ []) 3 (line 1 1 2 4 10 1 ∷ [])) 3
+    ∷ network-is (network (station 1 1 2 ∷ station 2 1 2 ∷ []) 3 (line 1 1 2 3 10 10 ∷ [])) 3
+    ∷ network-is (network (station 1 1 2 ∷ station 2 1 2 ∷ []) 3 (line 1 1 1 3 10 1 ∷ [])) 4
+    ∷ network-is (network (station 1 1 2 ∷ station 2 1 2 ∷ []) 3 (line 1 1 3 3 10 1 ∷ [])) 4
+    ∷ network-is (network (station 1 1 2 ∷ station 2 1 2 ∷ []) 3 (line 1 3 2 3 10 1 ∷ [])) 4
+    ∷ network-is (network (station 1 1 2 ∷ station 2 1 2 ∷ []) 3 (line 1 1 1 3 10 1 ∷ line 1 1 2 3 10 1 ∷ [])) 3
+    -- the areas that an edit names
+    ∷ naming branch (place 3 7 1 1 1) (2 ∷ [])
+    ∷ naming branch (prepend (plan 1 7 1 1 1) 2 1 12) (1 ∷ 2 ∷ [])
+    ∷ naming branch (prepend (plan 3 7 1 1 1) 2 2 12) (2 ∷ [])
+    ∷ naming branch (delete-first 1 7 3) (1 ∷ 2 ∷ [])
+    ∷ naming branch (delete-train 7) (1 ∷ 2 ∷ [])
+    ∷ naming branch (place 4 7 1 1 1) []
+    ∷ naming branch (prepend (plan 2 7 1 1 1) 1 1 12) []
+    ∷ naming branch (delete-train 0) []
+    -- tables that are good, and that are not
+    ∷ table-is (tabled (visiting 7 100 false 90 true (by 2 1) (to 2 1 12) ∷ visiting 8 100 true 100 true InLink.Nothing OutLink.Nothing ∷ []) (Connection 5 (two 7 8) ∷ Dependency 5 (pair 9 9) ∷ [])) true
+    ∷ table-is (tabled (visiting 8 1 false 1 false InLink.Nothing OutLink.Nothing ∷ visiting 7 1 false 1 false InLink.Nothing OutLink.Nothing ∷ []) []) false
+    ∷ table-is (tabled (visiting 7 1 false 1 false InLink.Nothing OutLink.Nothing ∷ visiting 7 1 false 1 false InLink.Nothing OutLink.Nothing ∷ []) []) false
+    ∷ table-is (tabled (visiting 7 2880 false 1 false InLink.Nothing OutLink.Nothing ∷ []) []) false
+    ∷ table-is (tabled (visiting 7 1 false 1 false (by 3 1) OutLink.Nothing ∷ []) []) false
+    ∷ table-is (tabled (visiting 7 1 false 1 false (by 2 2) OutLink.Nothing ∷ []) []) false
+    ∷ table-is (tabled (visiting 7 1 false 1 false InLink.Nothing (to 2 1 0) ∷ []) []) false
+    ∷ table-is (tabled [] (Connection 5 (two 7 8) ∷ Connection 5 (two 7 8) ∷ [])) false
+    ∷ table-is (tabled [] (Connection 5 (two 7 9) ∷ Connection 5 (two 7 8) ∷ [])) false
+    ∷ table-is (tabled [] (Connection 5 (four 7 0 8 0) ∷ [])) false
+    ∷ []
+
+-- the central machine: 8 to 12, links, and relations that lose a train
+pub edits : List Case
+edits =
+    -- 8, and before 12
+    answered net (relate (Connection 5 (two 7 8)) ∷ relate (Connection 5 (two 7 8)) ∷ relate (Disconnection 5 (two 7 8)) ∷ []) (0 ∷ 0 ∷ 8 ∷ 0 ∷ 0 ∷ 0 ∷ [])
+    ∷ answered-on (run-of (crowd 1 24)) (place 1 24 1 1 1 ∷ place 1 25 1 1 1 ∷ prepend (plan 1 25 1 1 1) 2 1 12 ∷ []) (8 ∷ 0 ∷ 12 ∷ 0 ∷ 9 ∷ 0 ∷ [])
+    -- 9
+    ∷ answered net (Amend (plan 1 7 1 1 1) ∷ arrives 1 7 1 ∷ departs 1 7 1 ∷ unrelate (Connection 5 (two 7 8)) ∷ prepend (plan 1 7 1 1 1) 2 1 12 ∷ append (plan 1 7 1 1 1) 2 1 12 ∷ delete-last 1 7 2 ∷ [])
+    (9 ∷ 0 ∷ 9 ∷ 0 ∷ 9 ∷ 0 ∷ 9 ∷ 0 ∷ 9 ∷ 0 ∷ 9 ∷ 0 ∷ 9 ∷ 0 ∷ [])
+    -- (s, t) there and (p, t) missing: 9, whatever the links
+    ∷ answered net (place 1 7 1 1 1 ∷ delete-first 1 7 2 ∷ delete-last 1 7 2 ∷ delete-first 2 7 1 ∷ []) (0 ∷ 0 ∷ 9 ∷ 0 ∷ 9 ∷ 0 ∷ 9 ∷ 0 ∷ [])
+    -- 10: a link is there already; a visit in the middle; a link that goes elsewhere
+    ∷ answered branch (place 2 7 1 50 50 ∷ prepend (plan 1 7 1 30 30) 2 1 12 ∷ prepend (plan 3 7 1 30 30) 2 2 12 ∷ []) (0 ∷ 0 ∷ 0 ∷ 0 ∷ 10 ∷ 0 ∷ [])
+    ∷ answered branch (place 2 7 1 50 50 ∷ append (plan 1 7 1 70 70) 2 3 12 ∷ append (plan 3 7 1 70 70) 2 4 12 ∷ []) (0 ∷ 0 ∷ 0 ∷ 0 ∷ 10 ∷ 0 ∷ [])
+    ∷ answered branch (place 1 7 1 10 10 ∷ append (plan 2 7 1 30 30) 1 1 12 ∷ append (plan 3 7 1 50 50) 2 4 12
+    ∷ delete-first 2 7 3 ∷ delete-last 2 7 1 ∷ delete-first 1 7 3 ∷ delete-last 3 7 1 ∷ delete-first 3 7 2 ∷ delete-first 1 7 2 ∷ delete-last 3 7 2 ∷ delete-train 7 ∷ [])
+    (0 ∷ 0 ∷ 0 ∷ 0 ∷ 0 ∷ 0 ∷ 10 ∷ 0 ∷ 10 ∷ 0 ∷ 10 ∷ 0 ∷ 10 ∷ 0 ∷ 10 ∷ 0 ∷ 0 ∷ 1 ∷ 0 ∷ 1 ∷ 0 ∷ 1 ∷ [])
+    -- the far link names another line
+    ∷ answered-on (standing (tabled (visiting 7 100 false 100 false InLink.Nothing (to 2 1 12) ∷ []) []) (tabled (visiting 7 112 false 112 false (by 1 2) OutLink.Nothing ∷ []) []))
+    (delete-first 1 7 2 ∷ delete-last 2 7 1 ∷ []) (10 ∷ 0 ∷ 10 ∷ 0 ∷ [])
+    -- the run of the far out-link does not matter
+    ∷ answered-on (standing (tabled (visiting 7 100 false 100 false InLink.Nothing (to 2 1 99) ∷ []) []) (tabled (visiting 7 112 false 112 false (by 1 1) OutLink.Nothing ∷ []) []))
+    (delete-last 2 7 1 ∷ []) (0 ∷ 1 ∷ [])
+    -- deleting clears the far link, so that the train can be put on again
+    ∷ answered net (leaving 7 100 12 ++ (delete-last 2 7 1 ∷ append (plan 2 7 1 115 115) 1 1 12 ∷ delete-first 1 7 2 ∷ prepend (plan 1 7 1 100 100) 2 1 12 ∷ []))
+    (0 ∷ 0 ∷ 0 ∷ 0 ∷ 0 ∷ 1 ∷ 0 ∷ 0 ∷ 0 ∷ 1 ∷ 0 ∷ 0 ∷ [])
+    -- 11: an occurred time, the track after an occurred arrival; equal values alter nothing
+    ∷ answered net (place 1 7 1 100 102 ∷ arrives 1 7 100 ∷ Amend (plan 1 7 1 101 102) ∷ Amend (plan 1 7 2 100 102) ∷ Amend (plan 1 7 1 100 103) ∷ arrives 1 7 99 ∷ Amend (plan 1 7 1 99 103) ∷ [])
+    (0 ∷ 0 ∷ 0 ∷ 0 ∷ 11 ∷ 0 ∷ 11 ∷ 0 ∷ 0 ∷ 0 ∷ 0 ∷ 0 ∷ 0 ∷ 0 ∷ [])
+    ∷ answered net (place 1 7 1 100 102 ∷ departs 1 7 102 ∷ Amend (plan 1 7 2 99 102) ∷ Amend (plan 1 7 2 99 103) ∷ []) (0 ∷ 0 ∷ 0 ∷ 0 ∷ 0 ∷ 0 ∷ 11 ∷ 0 ∷ [])
+    -- the seventh relation
+    ∷ answered net (connections 7) (0 ∷ 0 ∷ 0 ∷ 0 ∷ 0 ∷ 0 ∷ 0 ∷ 0 ∷ 0 ∷ 0 ∷ 0 ∷ 0 ∷ 12 ∷ 0 ∷ [])
+    -- edit 11 counts what it removes, and is never 9
+    ∷ answered net (leaving 7 100 12 ++ (delete-train 7 ∷ delete-train 7 ∷ [])) (0 ∷ 0 ∷ 0 ∷ 0 ∷ 0 ∷ 2 ∷ 0 ∷ 0 ∷ [])
+    -- a relation of two trains vanishes, one of three stays; a dependency with the train vanishes; trains need not visit
+    ∷ related (relate (Connection 5 (two 7 9)) ∷ relate (Disconnection 5 (four 7 8 9 0)) ∷ relate (Dependency 5 (pair 9 7)) ∷ relate (Dependency 6 (pair 7 9)) ∷ delete-train 9 ∷ [])
+    (Disconnection 5 (two 7 8) ∷ [])
+    -- losing a train moves a relation up in the order
+    ∷ related (relate (Connection 5 (four 7 8 9 0)) ∷ relate (Connection 5 (two 8 10)) ∷ delete-train 9 ∷ []) (Connection 5 (two 7 8) ∷ Connection 5 (two 8 10) ∷ [])
+    -- edits 4 and 5 take t from the relations at s, and from no others
+    ∷ related (leaving 7 100 12 ++ (relate (Dependency 4 (pair 7 7)) ∷ relate (Connection 5 (four 6 7 8 0)) ∷ relate (Connection 5 (two 6 8)) ∷ delete-first 1 7 2 ∷ [])) (Connection 5 (two 6 8) ∷ [])
+    ∷ related (leaving 7 100 12 ++ (relate (Dependency 4 (pair 7 7)) ∷ delete-last 2 7 1 ∷ [])) (Dependency 4 (pair 7 7) ∷ [])
+    ∷ related (relate (Connection 5 (two 7 8)) ∷ relate (Connection 6 (two 7 8)) ∷ unrelate (Connection 5 (two 7 8)) ∷ []) (Connection 6 (two 7 8) ∷ [])
+    -- the order of relations: kind, interval, count of trains, trains
+    ∷ ordered (Connection 240 (two 8 9) ∷ Disconnection 0 (two 1 2) ∷ Dependency 0 (pair 2 1) ∷ []) true
+    ∷ ordered (Connection 4 (four 1 2 3 0) ∷ Connection 5 (two 1 2) ∷ []) true
+    ∷ ordered (Connection 5 (two 8 9) ∷ Connection 5 (four 1 2 3 0) ∷ []) true
+    ∷ ordered (Connection 5 (four 1 2 3 0) ∷ Connection 5 (four 1 2 4 0) ∷ Connection 5 (four 1 2 3 4) ∷ []) true
+    ∷ ordered (Dependency 5 (pair 7 9) ∷ Dependency 5 (pair 8 1) ∷ []) true
+    ∷ ordered (Connection 5 (two 7 8) ∷ Connection 5 (two 7 8) ∷ []) false
+    ∷ []
+
+-- rules 1 to 3 and 5 to 10 at their bounds
+pub rules : List Case
+rules =
+    -- 1
+    found net (place 1 7 1 100 100 ∷ []) (finding (st 1) 1 7 0) false
+    ∷ found net (place 1 7 1 100 99 ∷ []) (finding (st 1) 1 7 0) true
+    ∷ found net (place 1 7 1 100 102 ∷ departs 1 7 102 ∷ []) (finding (st 1) 1 7 0) true
+    ∷ found net (place 1 7 1 100 102 ∷ arrives 1 7 100 ∷ departs 1 7 102 ∷ []) (finding (st 1) 1 7 0) false
+    -- 2: the other way round; one arrival occurred, either; another track
+    ∷ found net (place 1 8 1 100 102 ∷ place 1 7 1 102 104 ∷ []) (finding (st 1) 2 7 8) true
+    ∷ found net (place 1 8 1 100 102 ∷ place 1 7 1 103 104 ∷ []) (finding (st 1) 2 7 8) false
+    ∷ found net (place 1 7 1 100 102 ∷ place 1 8 1 102 104 ∷ arrives 1 7 100 ∷ []) (finding (st 1) 2 7 8) false
+    ∷ found net (place 1 7 1 100 102 ∷ place 1 8 1 102 104 ∷ arrives 1 8 102 ∷ []) (finding (st 1) 2 7 8) false
+    ∷ found net (place 1 7 1 100 102 ∷ place 1 8 2 102 104 ∷ []) (finding (st 1) 2 7 8) false
+    -- 3: one departed, both departed; another line
+    ∷ found net (leaving 7 102 12 ++ leaving 8 104 12 ++ (departs 1 7 102 ∷ [])) (finding (st 1) 3 7 8) true
+    ∷ found net (leaving 7 102 12 ++ leaving 8 104 12 ++ (departs 1 7 102 ∷ departs 1 8 104 ∷ [])) (finding (st 1) 3 7 8) false
+    ∷ found branch (leaving 7 102 12 ++ (place 2 8 2 114 114 ∷ prepend (plan 1 8 1 102 102) 2 3 12 ∷ [])) (finding (st 1) 3 7 8) false
+    -- 5
+    ∷ found net (leaving 7 100 10) (finding (st 1) 5 7 0) false
+    ∷ found net (leaving 7 100 9) (finding (st 1) 5 7 0) true
+    -- 6: an equal departure is not ahead; caught up at the same minute, or not; trains are counted, not times; statuses
+    ∷ found net (leaving 7 100 12 ++ leaving 8 100 12) (finding (st 1) 6 8 0) false
+    ∷ found (with-capacity 2) (leaving 7 100 20 ++ leaving 8 110 10) (finding (st 1) 6 8 0) true
+    ∷ found (with-capacity 2) (leaving 7 100 20 ++ leaving 8 110 11) (finding (st 1) 6 8 0) false
+    ∷ found (with-capacity 2) (leaving 7 100 12 ++ leaving 9 100 12 ++ leaving 8 105 12) (finding (st 1) 6 8 0) true
+    ∷ found (with-capacity 3) (leaving 7 100 12 ++ leaving 9 100 12 ++ leaving 8 105 12) (finding (st 1) 6 8 0) false
+    ∷ found net (leaving 7 100 12 ++ leaving 8 111 12 ++ (departs 1 7 100 ∷ [])) (finding (st 1) 6 8 0) true
+    ∷ found net (leaving 7 100 12 ++ leaving 8 111 12 ++ (departs 1 8 111 ∷ [])) (finding (st 1) 6 8 0) false
+    -- 7 and 8: the far visit is missing, comes from elsewhere, by another line; the run does not matter
+    ∷ stands net (standing (tabled (visiting 7 100 false 102 false InLink.Nothing (to 2 1 12) ∷ []) []) bare) (finding (st 1) 7 7 0) true
+    ∷ stands net (standing (tabled (visiting 7 100 false 102 false InLink.Nothing (to 2 1 12) ∷ []) []) (tabled (visiting 7 114 false 114 false InLink.Nothing OutLink.Nothing ∷ []) [])) (finding (st 1) 7 7 0) true
+    ∷ stands branch (standing (tabled (visiting 7 100 false 102 false InLink.Nothing (to 2 1 12) ∷ []) []) (tabled (visiting 7 114 false 114 false (by 1 3) OutLink.Nothing ∷ []) [])) (finding (st 1) 7 7 0) true
+    ∷ stands branch (standing (tabled (visiting 7 100 false 102 false InLink.Nothing (to 2 1 12) ∷ []) []) (tabled (visiting 7 114 false 114 false (by 3 1) OutLink.Nothing ∷ []) [])) (finding (st 1) 7 7 0) true
+    ∷ found net (leaving 7 100 12) (finding (st 1) 7 7 0) false
+    ∷ found net (leaving 7 100 12) (finding (st 2) 8 7 0) false
+    ∷ stands net (standing bare (tabled (visiting 7 114 false 114 false (by 1 1) OutLink.Nothing ∷ []) [])) (finding (st 2) 8 7 0) true
+    ∷ stands branch (standing (tabled (visiting 7 100 false 102 false InLink.Nothing (to 2 3 12) ∷ []) []) (tabled (visiting 7 114 false 114 false (by 1 1) OutLink.Nothing ∷ []) [])) (finding (st 2) 8 7 0) true
+    -- 9: equal; the far arrival occurred; the link not answered
+    ∷ found net (leaving 7 100 12) (finding (st 1) 9 7 0) false
+    ∷ found net (place 1 7 1 100 102 ∷ append (plan 2 7 1 113 113) 1 1 12 ∷ []) (finding (st 1) 9 7 0) true
+    ∷ found net (place 1 7 1 100 102 ∷ append (plan 2 7 1 115 115) 1 1 12 ∷ arrives 2 7 115 ∷ []) (finding (st 1) 9 7 0) false
+    ∷ found net (place 1 7 1 100 102 ∷ append (plan 2 7 1 115 115) 1 1 12 ∷ departs 1 7 102 ∷ []) (finding (st 1) 9 7 0) true
+    ∷ stands net (standing (tabled (visiting 7 100 false 102 false InLink.Nothing (to 2 1 12) ∷ []) []) (tabled (visiting 7 115 false 115 false InLink.Nothing OutLink.Nothing ∷ []) [])) (finding (st 1) 9 7 0) false
+    -- 10: departs after t is through, or not; the answered arrival counts, else departure + run; at both ends; statuses; the same train; kind 3 only
+    ∷ found net (leaving 7 100 12 ++ inbound 8 125) (finding (st 1) 10 7 8) false
+    ∷ found net (leaving 7 100 12 ++ inbound 8 124) (finding (st 1) 10 7 8) true
+    ∷ found net (leaving 7 100 12 ++ inbound 8 124) (finding (st 2) 10 8 7) true
+    ∷ found net (leaving 7 100 12 ++ (place 2 8 1 88 88 ∷ append (plan 1 8 2 99 99) 2 1 12 ∷ [])) (finding (st 1) 10 7 8) false
+    ∷ stands net (standing (tabled (visiting 7 100 false 100 false InLink.Nothing (to 2 1 12) ∷ visiting 8 99 false 99 false InLink.Nothing OutLink.Nothing ∷ []) []) (tabled (visiting 8 88 false 88 false InLink.Nothing (to 1 1 12) ∷ []) [])) (finding (st 1) 10 7 8) true
+    ∷ stands net (standing (tabled (visiting 7 100 false 100 false InLink.Nothing (to 2 1 12) ∷ []) []) (tabled (visiting 8 88 false 88 false InLink.Nothing (to 1 1 11) ∷ []) [])) (finding (st 1) 10 7 8) false
+    ∷ found net (leaving 7 100 12 ++ inbound 8 100 ++ (departs 2 8 88 ∷ [])) (finding (st 1) 10 7 8) true
+    ∷ found net (leaving 7 100 12 ++ inbound 8 100 ++ (departs 1 7 100 ∷ [])) (finding (st 1) 10 7 8) false
+    ∷ stands net (standing (tabled (visiting 7 100 false 100 false (by 2 1) (to 2 1 12) ∷ []) []) (tabled (visiting 7 112 false 112 false (by 1 1) (to 1 1 12) ∷ []) [])) (finding (st 1) 10 7 7) false
+    ∷ stands branch (standing (tabled (visiting 7 100 false 100 false InLink.Nothing (to 2 1 12) ∷ []) []) (tabled (visiting 8 100 false 100 false InLink.Nothing (to 1 1 12) ∷ []) [])) (finding (st 1) 10 7 8) false
+    ∷ stands branch (standing (tabled (visiting 7 100 false 100 false InLink.Nothing (to 2 3 12) ∷ []) []) (tabled (visiting 8 100 false 100 false InLink.Nothing (to 1 3 12) ∷ []) [])) (finding (st 1) 10 7 8) true
+    ∷ stands branch (standing (tabled (visiting 7 100 false 100 false InLink.Nothing (to 2 3 12) ∷ []) []) (tabled (visiting 8 100 false 100 false InLink.Nothing (to 3 4 12) ∷ []) [])) (finding (st 1) 10 7 8) false
+    -- the lists of areas and pairs
+    ∷ area-has net (run-of listed-edits) 1 (1 ∷ 4 ∷ 1 ∷ 0 ∷ [])
+    ∷ area-has net (run-of listed-edits) 2 []
+    ∷ pair-has net (run-of listed-edits) 1 2 (1 ∷ 9 ∷ 7 ∷ 0 ∷ [])
+    ∷ pair-has net (run-of listed-edits) 2 1 (1 ∷ 9 ∷ 7 ∷ 0 ∷ [])
+    ∷ []
+
+-- rule 4
+pub relations : List Case
+relations =
+    -- a train that does not visit; one that does not stop; departures occurred, one or both
+    found net (place 1 7 1 100 110 ∷ relate (Connection 5 (two 7 8)) ∷ []) (finding (st 1) 4 1 0) true
+    ∷ stands net (standing (tabled (visiting 7 105 false 105 false (by 2 1) (to 2 1 12) ∷ visiting 8 100 false 110 false InLink.Nothing OutLink.Nothing ∷ []) (Connection 0 (two 7 8) ∷ [])) bare) (finding (st 1) 4 1 0) true
+    ∷ stands net (standing (tabled (visiting 7 105 false 105 false (by 2 1) OutLink.Nothing ∷ visiting 8 100 false 110 false InLink.Nothing OutLink.Nothing ∷ []) (Connection 0 (two 7 8) ∷ [])) bare) (finding (st 1) 4 1 0) false
+    ∷ found net (place 1 7 1 100 110 ∷ place 1 8 2 106 112 ∷ relate (Connection 5 (two 7 8)) ∷ departs 1 7 110 ∷ []) (finding (st 1) 4 1 0) true
+    ∷ found net (place 1 7 1 100 110 ∷ place 1 8 2 106 112 ∷ relate (Connection 5 (two 7 8)) ∷ departs 1 7 110 ∷ departs 1 8 112 ∷ []) (finding (st 1) 4 1 0) false
+    -- every two of three
+    ∷ found net (place 1 7 1 100 110 ∷ place 1 8 2 105 112 ∷ place 1 9 2 106 120 ∷ relate (Connection 5 (four 7 8 9 0)) ∷ []) (finding (st 1) 4 1 0) true
+    ∷ found net (place 1 7 1 100 110 ∷ place 1 8 2 105 112 ∷ place 1 9 2 105 120 ∷ relate (Connection 5 (four 7 8 9 0)) ∷ []) (finding (st 1) 4 1 0) false
+    -- disconnection: the gap either way; both arrived; one that does not stop; one that does not visit
+    ∷ found net (place 1 7 1 100 110 ∷ place 1 8 2 114 120 ∷ relate (Disconnection 5 (two 7 8)) ∷ []) (finding (st 1) 4 1 0) true
+    ∷ found net (place 1 7 1 100 110 ∷ place 1 8 2 115 120 ∷ relate (Disconnection 5 (two 7 8)) ∷ []) (finding (st 1) 4 1 0) false
+    ∷ found net (place 1 7 1 125 130 ∷ place 1 8 2 114 120 ∷ relate (Disconnection 5 (two 7 8)) ∷ []) (finding (st 1) 4 1 0) false
+    ∷ found net (place 1 7 1 124 130 ∷ place 1 8 2 114 120 ∷ relate (Disconnection 5 (two 7 8)) ∷ []) (finding (st 1) 4 1 0) true
+    ∷ found net (place 1 7 1 100 110 ∷ place 1 8 2 114 120 ∷ relate (Disconnection 5 (two 7 8)) ∷ arrives 1 7 100 ∷ []) (finding (st 1) 4 1 0) true
+    ∷ found net (place 1 7 1 100 110 ∷ place 1 8 2 114 120 ∷ relate (Disconnection 5 (two 7 8)) ∷ arrives 1 7 100 ∷ arrives 1 8 114 ∷ []) (finding (st 1) 4 1 0) false
+    ∷ stands net (standing (tabled (visiting 7 105 false 105 false (by 2 1) (to 2 1 12) ∷ visiting 8 100 false 110 false InLink.Nothing OutLink.Nothing ∷ []) (Disconnection 5 (two 7 8) ∷ [])) bare) (finding (st 1) 4 1 0) false
+    ∷ found net (place 1 7 1 100 110 ∷ relate (Disconnection 5 (two 7 8)) ∷ []) (finding (st 1) 4 1 0) true
+    -- dependency: departed, it is met; the arriver's arrival counts, not its own
+    ∷ found net (place 1 7 1 100 103 ∷ relate (Dependency 4 (pair 7 7)) ∷ departs 1 7 103 ∷ []) (finding (st 1) 4 1 0) false
+    ∷ found net (place 1 7 1 100 103 ∷ place 1 8 2 90 104 ∷ relate (Dependency 4 (pair 7 8)) ∷ []) (finding (st 1) 4 1 0) false
+    ∷ found net (place 1 7 1 100 103 ∷ place 1 8 2 90 104 ∷ relate (Dependency 5 (pair 7 8)) ∷ []) (finding (st 1) 4 1 0) true
+    ∷ stands net (standing (tabled (visiting 7 105 true 105 true (by 2 1) (to 2 1 12) ∷ []) (Dependency 0 (pair 7 7) ∷ [])) bare) (finding (st 1) 4 1 0) true
+    -- the rank counts the met ones too
+    ∷ found net (place 1 7 1 100 110 ∷ relate (Dependency 4 (pair 7 7)) ∷ relate (Dependency 11 (pair 7 7)) ∷ []) (finding (st 1) 4 2 0) true
+    ∷ found net (place 1 7 1 100 110 ∷ relate (Dependency 4 (pair 7 7)) ∷ relate (Dependency 11 (pair 7 7)) ∷ []) (finding (st 1) 4 1 0) false
+    ∷ []
+
+-- numbers of files, projections and the tally
+pub others : List Case
+others =
+    bytes 0 (0 ∷ [])
+    ∷ bytes 127 (0x7f ∷ [])
+    ∷ bytes 128 (0x80 ∷ 0x01 ∷ [])
+    ∷ bytes 16383 (0xff ∷ 0x7f ∷ [])
+    ∷ bytes 16384 (0x80 ∷ 0x80 ∷ 0x01 ∷ [])
+    ∷ bytes 2097151 (0xff ∷ 0xff ∷ 0x7f ∷ [])
+    ∷ unread [] 1
+    ∷ unread (0x80 ∷ []) 1
+    ∷ unread (0x80 ∷ 0x80 ∷ []) 1
+    ∷ unread (0x80 ∷ 0x80 ∷ 0x80 ∷ []) 2
+    ∷ unread (0x80 ∷ 0x80 ∷ 0x80 ∷ 0x01 ∷ []) 2
+    ∷ unread (0x80 ∷ 0x80 ∷ 0x00 ∷ []) 2
+    -- late and early, one that does not stop, times that stand, a link that is not answered, a train that is not there
+    ∷ projected (run-of listed-edits) 7 1 105 (1 ∷ 105 ∷ 106 ∷ 0 ∷ 5 ∷ 2 ∷ 118 ∷ 119 ∷ 0 ∷ 3 ∷ [])
+    ∷ projected (run-of listed-edits) 7 1 90 (1 ∷ 90 ∷ 102 ∷ 1 ∷ 10 ∷ 2 ∷ 114 ∷ 115 ∷ 1 ∷ 1 ∷ [])
+    ∷ projected (run-of listed-edits) 7 1 101 (1 ∷ 101 ∷ 102 ∷ 0 ∷ 1 ∷ 2 ∷ 114 ∷ 115 ∷ 1 ∷ 1 ∷ [])
+    ∷ projected (run-of (place 1 7 1 100 102 ∷ append (plan 2 7 1 115 115) 1 1 12 ∷ arrives 1 7 100 ∷ [])) 7 1 130 (1 ∷ 100 ∷ 102 ∷ 0 ∷ 0 ∷ 2 ∷ 114 ∷ 115 ∷ 1 ∷ 1 ∷ [])
+    ∷ projected (run-of (place 1 7 1 100 102 ∷ append (plan 2 7 1 115 115) 1 1 12 ∷ departs 1 7 101 ∷ [])) 7 1 130 (1 ∷ 130 ∷ 101 ∷ 0 ∷ 30 ∷ 2 ∷ 113 ∷ 115 ∷ 1 ∷ 2 ∷ [])
+    ∷ projected (run-of (place 1 7 1 100 102 ∷ append (plan 2 7 1 115 115) 1 1 12 ∷ arrives 2 7 120 ∷ [])) 7 1 130 (1 ∷ 130 ∷ 131 ∷ 0 ∷ 30 ∷ 2 ∷ 120 ∷ 121 ∷ 0 ∷ 0 ∷ [])
+    ∷ projected (standing (tabled (visiting 7 100 false 102 false InLink.Nothing (to 2 1 12) ∷ []) []) bare) 7 1 100 (1 ∷ 100 ∷ 102 ∷ 0 ∷ 0 ∷ [])
+    ∷ projected nothing-placed 7 1 100 []
+    -- a ring goes round until 16 rows
+    ∷ projected (standing (tabled (visiting 7 100 false 100 false (by 2 1) (to 2 1 12) ∷ []) []) (tabled (visiting 7 112 false 112 false (by 1 1) (to 1 1 12) ∷ []) [])) 7 1 100
+    (1 ∷ 100 ∷ 100 ∷ 0 ∷ 0 ∷ 2 ∷ 112 ∷ 112 ∷ 0 ∷ 0 ∷ 1 ∷ 124 ∷ 124 ∷ 0 ∷ 24 ∷ 2 ∷ 136 ∷ 136 ∷ 0 ∷ 24 ∷ 1 ∷ 148 ∷ 148 ∷ 0 ∷ 48 ∷ 2 ∷ 160 ∷ 160 ∷ 0 ∷ 48 ∷ 1 ∷ 172 ∷ 172 ∷ 0 ∷ 72 ∷ 2 ∷ 184 ∷ 184 ∷ 0 ∷ 72 ∷ 1 ∷ 196 ∷ 196 ∷ 0 ∷ 96 ∷ 2 ∷ 208 ∷ 208 ∷ 0 ∷ 96 ∷ 1 ∷ 220 ∷ 220 ∷ 0 ∷ 120 ∷ 2 ∷ 232 ∷ 232 ∷ 0 ∷ 120 ∷ 1 ∷ 244 ∷ 244 ∷ 0 ∷ 144 ∷ 2 ∷ 256 ∷ 256 ∷ 0 ∷ 144 ∷ 1 ∷ 268 ∷ 268 ∷ 0 ∷ 168 ∷ 2 ∷ 280 ∷ 280 ∷ 0 ∷ 168 ∷ [])
+    -- the tally: kinds that add, refusals, 5, the bounds of 3 and 5
+    ∷ tallied (counted 0 0 0 0) (place 1 7 1 1 1) (told 0 0) (0 ∷ 65 ∷ 1 ∷ 0 ∷ 1 ∷ 0 ∷ [])
+    ∷ tallied (counted 1 2 3 4) (prepend (plan 1 7 1 1 1) 2 1 12) (told 0 0) (0 ∷ 65 ∷ 2 ∷ 2 ∷ 4 ∷ 4 ∷ [])
+    ∷ tallied (counted 1 2 3 4) (append (plan 1 7 1 1 1) 2 1 12) (told 0 0) (0 ∷ 65 ∷ 2 ∷ 2 ∷ 4 ∷ 4 ∷ [])
+    ∷ tallied (counted 1 2 3 4) (Amend (plan 1 7 1 1 1)) (told 0 0) (0 ∷ 65 ∷ 2 ∷ 2 ∷ 3 ∷ 4 ∷ [])
+    ∷ tallied (counted 1 2 3 4) (delete-first 1 7 2) (told 0 1) (0 ∷ 65 ∷ 2 ∷ 2 ∷ 3 ∷ 5 ∷ [])
+    ∷ tallied (counted 1 2 3 4) (delete-train 7) (told 0 16) (0 ∷ 65 ∷ 2 ∷ 2 ∷ 3 ∷ 20 ∷ [])
+    ∷ tallied (counted 1 2 3 4) (delete-train 7) (told 0 17) (3 ∷ 65 ∷ 1 ∷ 2 ∷ 3 ∷ 4 ∷ [])
+    ∷ tallied (counted 1 2 3 4) (place 1 7 1 1 1) (told 8 0) (0 ∷ 65 ∷ 1 ∷ 3 ∷ 3 ∷ 4 ∷ [])
+    ∷ tallied (counted 1 2 3 4) (delete-first 1 7 2) (told 9 1) (3 ∷ 65 ∷ 1 ∷ 2 ∷ 3 ∷ 4 ∷ [])
+    ∷ tallied (counted 1 2 3 4) (place 1 7 1 1 1) (told 5 0) (0 ∷ 65 ∷ 1 ∷ 2 ∷ 3 ∷ 4 ∷ [])
+    ∷ tallied (counted 1000000 0 0 0) (place 1 7 1 1 1) (told 0 0) (0 ∷ 65 ∷ 1000001 ∷ 0 ∷ 1 ∷ 0 ∷ [])
+    ∷ tallied (counted 1000001 0 0 0) (place 1 7 1 1 1) (told 0 17) (5 ∷ 65 ∷ 1000001 ∷ 0 ∷ 0 ∷ 0 ∷ [])
+    ∷ tallied (counted 0 0 0 1000001) (place 1 7 1 1 1) (told 0 0) (5 ∷ 65 ∷ 0 ∷ 0 ∷ 0 ∷ 1000001 ∷ [])
+    ∷ []
+
 pub table : List Case
-unfolding document
-table = document
+unfolding document ranges edits rules relations others
+table = document ++ (ranges ++ (edits ++ (rules ++ (relations ++ others))))
 
 pub examples-hold : failing 1 table ≡ []
 unfolding table Cases.opened
