@@ -4,6 +4,7 @@ use mathlib.Core.Bool.{Bool, true, false, not, _&&_, _||_}
 use mathlib.Core.List.{List, [], _∷_}
 use lib.Dec.{ltb, eqb}
 use lib.ListN.{length}
+use Rattle.base.specs.Choice.{_if_else_}
 use Rattle.base.specs.Lists.{keep, below, same}
 use Rattle.railway.specs.Types.{Train, Trains, Pair, Relation, Connection, Disconnection, Dependency}
 use Rattle.railway.specs.Ranges.{train-ok, interval-ok}
@@ -11,6 +12,10 @@ use Rattle.railway.specs.Ranges.{train-ok, interval-ok}
 -- a place that is 0 holds no train
 abbrev pub present : Train → Bool
 present t = ltb 0 (t .0)
+
+-- 1 for a place that holds a train
+abbrev pub place-count : Train → ℕ
+place-count t = 1 if present t else 0
 
 -- the trains of a connection or disconnection
 unfoldable pub used : Trains → List Train
