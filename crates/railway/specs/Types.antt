@@ -26,3 +26,5 @@ pub use Rattle.railway.specs.declared.edit.Edit.the-variants.{ReportArri
 pub use Rattle.railway.specs.declared.network.StationRow.{StationRow}
 pub use Rattle.railway.specs.declared.network.LineRow.{LineRow}
 pub use Rattle.railway.specs.declared.network.Network.{Network}
+pub use Rattle.railway.specs.declared.network.StationFound.{StationFound}
+pub use Rattle.railway.specs.declared.network.LineFound.{LineFound}

@@ -1,4 +1,6 @@
 // A visit and its two links.
+ghost use mathlib.Core.Path.{_≡_};
+ghost use Rattle.railway.specs.Ranges.{run-ok};
 use crate::minute::Minute;
 use crate::sorts::Line;
 use crate::sorts::Station;
@@ -38,4 +40,11 @@ pub struct Visit {
     pub departed: bool,
     pub inward: InLink,
     pub outward: OutLink,
+}
+
+// "running times 1..240"
+pub fn run_valid(run: u8) -> bool
+    ensures { λ r. ⌜ r ≡ run-ok run ⌝ }
+{
+    base::is_within(1, 240, run as u16)
 }

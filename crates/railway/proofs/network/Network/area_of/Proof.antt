@@ -1,0 +1,28 @@
+-- `railway::network::Network::area_of` meets its contract: the row that was found says it. Assumes nothing.
+use borrow.Author.Needs.{needs}
+use mathlib.Core.Path.{sym, _∙_}
+use Rattle.railway.specs.Networks.{area-of, station-row}
+use Rattle.railway.proofs.RowLaws.{station-some, station-none}
+use Rattle.railway.proofs.network.Network.area_of.Statement.{statement}
+use Rattle.railway.proofs.network.Network.area_of.Tie as tie
+
+station-row-requires : tie.Need-station-row-requires
+station-row-requires c κs = search needs
+
+enum-known-found : tie.Need-enum-known-found
+enum-known-found c = search needs
+
+enum-told : tie.Need-enum-told
+enum-told c = search needs
+
+returns : tie.Need-returns
+unfolding area-of
+returns c = rw (station-some (station-row (c .before .before .before .before .args .self) (c .before .before .before .before .args .s)) _ (sym (c .before .before .before .station-row .ensures) ∙ c .before .found .given .1))
+
+returns-2 : tie.Need-returns-2
+unfolding area-of
+returns-2 c = rw (station-none (station-row (c .before .before .before .args .self) (c .before .before .before .args .s)) (sym (c .before .before .station-row .ensures) ∙ c .enum-told .given .1))
+
+pub area-of-spec : {M : Type 1} → statement M
+area-of-spec =
+    tie.close (tie.spec station-row-requires enum-known-found enum-told returns returns-2)
