@@ -1,3 +1,4 @@
 pub mod Positions
 pub mod Exchange
 pub mod Divided
+pub mod Ordered
