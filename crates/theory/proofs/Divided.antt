@@ -10,7 +10,7 @@ use lib.Dec.{T, eqb, ltb, eqb-refl, eqb→eq, T-not, not-T}
 use Rattle.base.specs.Choice.{if_then_else_}
 use Rattle.base.specs.Lists.{any}
 use Rattle.base.specs.Runs.{run, answers}
-use Rattle.base.proofs.Tests.{by-test, if-yes, if-no, and-l, and-r, both, any-weaker}
+use Rattle.base.proofs.Tests.{by-test, if-yes, if-no, and-l, and-r, both, any-weaker, any-one}
 use Rattle.railway.specs.Ranges.{same-station}
 use Rattle.railway.specs.Networks.{stations-of, listed}
 use Rattle.timetable.specs.Tables.{Table, empty}
@@ -31,6 +31,13 @@ group-named n γ e k r =
     any-weaker (same-station k) (λ s. eqb (γ k) (γ s) && names n e s)
     (λ s t. rw (← same-station→eq k s t) (both (eqb (γ k) (γ k)) (names n e k) (eqb-refl (γ k)) r))
     (stations-of n) (names-listed n e k r)
+
+-- and no other group is
+pub named-group : (n : Network) (γ : Grouping) (e : Edit) (g : ℕ) → T (names-group n γ e g) → (k : Station) × (g ≡ γ k) × T (names n e k)
+unfolding names-group
+named-group n γ e g t =
+    let (k, u) = any-one (λ s. eqb g (γ s) && names n e s) (stations-of n) t in
+    (k, eqb→eq g (γ k) (and-l (eqb g (γ k)) (names n e k) u), and-r (eqb g (γ k)) (names n e k) u)
 
 -- edits that name no common group name no common station
 pub groups-apart : (n : Network) (γ : Grouping) (e f : Edit) → ¬ Meet (names-group n γ) e f → (k : Station) → T (names n e k) → ¬ T (names n f k)

@@ -2,3 +2,4 @@ pub mod Positions
 pub mod Exchange
 pub mod Divided
 pub mod Ordered
+pub mod FirstOrder

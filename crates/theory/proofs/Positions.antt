@@ -87,6 +87,14 @@ at-both (x ∷ l) [] h i f g = absurd (omega arith)
 at-both (x ∷ l) (y ∷ k) h zero f g = g x y refl refl
 at-both (x ∷ l) (y ∷ k) h (suc i) f g = at-both l k (omega arith) i f g
 
+-- where an element stands is within the list
+pub at-within : {A : Type 0} (l : List A) (i : ℕ) (x : A) → at l i ≡ x ∷ [] → i < length l
+unfolding at
+at-within [] zero x q = let z : _≡_ {A = ℕ} 0 1 = cc in absurd (omega arith)
+at-within [] (suc i) x q = let z : _≡_ {A = ℕ} 0 1 = cc in absurd (omega arith)
+at-within (y ∷ l) zero x q = omega arith
+at-within (y ∷ l) (suc i) x q = omega (arith, at-within l i x q)
+
 -- what l has at the numbers of a list in which no 0 stands is what x ∷ l has there, one further
 pub along-rest : {A : Type 0} (x : A) (l : List A) (ps : List ℕ) → times 0 ps ≡ 0 → along (x ∷ l) ps ≡ along l (rest ps)
 unfolding count rest along at flatMap
@@ -106,3 +114,33 @@ along-zero x l ps = refl
 pub along-suc : {A : Type 0} (x : A) (l : List A) (p : ℕ) (ps : List ℕ) → along (x ∷ l) (suc p ∷ ps) ≡ at l p ++ along (x ∷ l) ps
 unfolding along at flatMap
 along-suc x l p ps = refl
+
+-- a 0 in front, and every other number more by one
+
+pub times-suc-zero : (i : ℕ) (ps : List ℕ) → times (suc i) (0 ∷ ps) ≡ times (suc i) ps
+unfolding count
+times-suc-zero i ps = rw eqb·suc-zero (omega arith)
+
+pub place-suc-zero : (i : ℕ) (ps : List ℕ) → place (suc i) (0 ∷ ps) ≡ suc (place (suc i) ps)
+unfolding place
+place-suc-zero i ps = rw eqb·suc-zero
+
+pub times-shift : (i : ℕ) (ps : List ℕ) → times (suc i) (map suc ps) ≡ times i ps
+unfolding count
+times-shift i [] = refl
+times-shift i (p ∷ ps) = rw (eqb·suc-suc, times-shift i ps)
+
+pub times-shift-zero : (ps : List ℕ) → times 0 (map suc ps) ≡ 0
+unfolding count
+times-shift-zero [] = refl
+times-shift-zero (p ∷ ps) = rw (eqb·zero-suc, times-shift-zero ps)
+
+pub place-shift : (i : ℕ) (ps : List ℕ) → place (suc i) (map suc ps) ≡ place i ps
+unfolding place
+place-shift i [] = refl
+place-shift i (p ∷ ps) = rw (eqb·suc-suc, place-shift i ps)
+
+pub along-shift : {A : Type 0} (x : A) (l : List A) (ps : List ℕ) → along (x ∷ l) (map suc ps) ≡ along l ps
+unfolding along at flatMap
+along-shift x l [] = refl
+along-shift x l (p ∷ ps) = ap (λ (k : List _). take 1 (drop p l) ++ k) (along-shift x l ps)
