@@ -1,26 +1,22 @@
 -- A timetable divided by groups of stations: an edit on the named groups' parts is the edit on the whole, and dividing and merging undo each other. A station that
 -- an edit names is listed, so it is in a group, which is named too: the gathered parts hold every table that the edit reads, and locality does the rest.
 -- Assumes nothing.
-use mathlib.Core.Path.{_≡_, refl, sym, ap, _∙_, fun-ext}
-use mathlib.Core.Bool.{Bool, true, false, not, _&&_}
-use mathlib.Core.List.{List, [], _∷_, map}
-use Prim.Native.Nat.{ℕ, _≤_}
-use native.Mathlib.Omega.{arith}
+use mathlib.Core.Path.{_≡_, refl, sym, _∙_, fun-ext}
+use mathlib.Core.Bool.{Bool, _&&_}
+use mathlib.Core.List.{List, [], _∷_}
+use Prim.Native.Nat.{ℕ}
 use lib.Dec.{T, eqb, ltb, eqb-refl, eqb→eq, T-not, not-T}
-use Rattle.base.specs.Choice.{if_then_else_}
-use Rattle.base.specs.Lists.{any}
 use Rattle.base.specs.Runs.{run, answers}
 use Rattle.base.proofs.Tests.{by-test, if-yes, if-no, and-l, and-r, both, any-weaker, any-one}
 use Rattle.railway.specs.Ranges.{same-station}
 use Rattle.railway.specs.Networks.{stations-of, listed}
-use Rattle.timetable.specs.Tables.{Table, empty}
+use Rattle.timetable.specs.Tables.{empty}
 use Rattle.timetable.specs.Machine.{Timetable, answer, after}
 use Rattle.timetable.specs.Groups.{Grouping, names, names-group, in-group, Divided, divide, merge, gather, divided-answer, divided-after}
-use Rattle.timetable.specs.Good.{table-good, Good, Whole, GoodDivision}
+use Rattle.timetable.specs.Good.{Whole, GoodDivision}
 use Rattle.timetable.proofs.Locality.{same-station→eq, same-answer, same-change, others-kept, names-listed}
 use Rattle.theory.specs.Types.{Station, Edit, Network}
 use Rattle.theory.specs.Reordering.{Meet}
-use Rattle.theory.specs.Statements.{Grouped}
 
 -- named groups
 

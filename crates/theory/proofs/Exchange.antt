@@ -4,17 +4,17 @@
 -- without it, and with every position less by one, the new order is one of the edits that are left (`rest-reordering`). Assumes nothing.
 use mathlib.Core.Path.{_≡_, refl, sym, ap, _∙_, fun-ext}
 use mathlib.Core.Bool.{Bool}
-use mathlib.Core.List.{List, [], _∷_, _++_, flatMap}
+use mathlib.Core.List.{List, [], _∷_, flatMap}
 use Prim.Native.Nat.{ℕ, zero, suc, _<_}
 use native.Mathlib.Omega.{arith}
 use lib.Dec.{T}
 use lib.ListN.{length}
-use Rattle.base.specs.Choice.{_if_else_}
 use Rattle.base.specs.Lists.{count}
 use Rattle.base.specs.Runs.{run, answers}
 use Rattle.base.proofs.Tests.{by-test}
 use Rattle.theory.specs.Reordering.{times, place, at, along, Meet, Reordering}
-use Rattle.theory.proofs.Positions.{rest, times-rest, times-zero-suc, none-nil, place-rest, place-head, place-zero-suc, place-cons, at-both, along-rest, along-cons, along-zero, along-suc}
+use Rattle.theory.proofs.Positions.{rest, times-rest, times-zero-suc, none-nil, place-rest, place-head, place-zero-suc, place-cons}
+use Rattle.theory.proofs.Positions.{at-both, along-rest, along-cons, along-zero, along-suc}
 
 -- the first edit of a reordering
 

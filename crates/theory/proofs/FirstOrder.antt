@@ -3,13 +3,13 @@
 use mathlib.Core.Path.{_≡_, refl, ap, _∙_}
 use mathlib.Core.Bool.{Bool, true, false, _&&_, _||_}
 use mathlib.Core.List.{List, [], _∷_, map, flatMap}
-use Prim.Native.Nat.{ℕ, zero, suc, _+_, _≤_, _<_}
+use Prim.Native.Nat.{ℕ, zero, suc, _≤_, _<_}
 use native.Mathlib.Omega.{arith}
 use lib.Dec.{T, eqb, lit<, lit≤, eqb·suc-suc, eqb·suc-zero}
 use lib.ListN.{length}
 use borrow.Author.Tests.{eqb-true}
 use Rattle.base.specs.Lists.{count}
-use Rattle.base.specs.Runs.{run, answers}
+use Rattle.base.specs.Runs.{answers}
 use Rattle.timetable.specs.Cases as Cases
 use Rattle.timetable.specs.Cases.{net, plan, append}
 use Rattle.timetable.specs.Cases.{place as placed}
@@ -60,7 +60,11 @@ module _ {Edit : Type 0} (names : Edit → ℕ → Bool) where
   -- "the first order is one too"
   pub first-order : (es : List Edit) → Reordering names es (positions (length es))
   unfolding positions count at
-  first-order [] = record { once = λ i h. absurd (omega arith); nothing-else = λ i h. refl; in-order = λ i j x y p q h m. absurd (omega (arith, at-within {A = Edit} [] j y q)) }
+  first-order [] = record {
+    once = λ i h. absurd (omega arith);
+    nothing-else = λ i h. refl;
+    in-order = λ i j x y p q h m. absurd (omega (arith, at-within {A = Edit} [] j y q));
+  }
   first-order (e ∷ es) = first-stays e es (positions (length es)) (first-order es)
 
   -- two edits that name no common group may change places
@@ -87,14 +91,27 @@ module _ {Edit : Type 0} (names : Edit → ℕ → Bool) where
 
 -- examples, on the network of document 01's listing: station 1 in area 1, station 2 in area 2
 
+-- visits at station 1 and at station 2, one at station 2 that is linked to the first, and one at a station that is not listed
+abbrev at-one : Edit
+at-one = placed 1 7 1 100 102
+
+abbrev at-two : Edit
+at-two = placed 2 8 1 115 115
+
+abbrev linked : Edit
+linked = append (plan 2 7 1 115 115) 1 1 12
+
+abbrev unknown : Edit
+unknown = placed 3 9 1 100 102
+
 abbrev Order : List Edit → List ℕ → Type 0
 Order es ps = Reordering (names-group net (areas net)) es ps
 
--- a visit at station 1 and one at station 2
-apart-changes : Order (placed 1 7 1 100 102 ∷ placed 2 8 1 115 115 ∷ []) (1 ∷ 0 ∷ [])
+-- edits of two areas may change places
+apart-changes : Order (at-one ∷ at-two ∷ []) (1 ∷ 0 ∷ [])
 unfolding Cases.opened
 apart-changes =
-    exchanged (names-group net (areas net)) (placed 1 7 1 100 102) (placed 2 8 1 115 115)
+    exchanged (names-group net (areas net)) at-one at-two
     (λ m. only (eqb (m .0) 1) (eqb (m .0) 2) (m .1) (m .2) (λ p q. omega (arith, eqb-true (m .0) 1 p, eqb-true (m .0) 2 q)))
   where
     -- b says that the group is area 1, c that it is area 2
@@ -104,38 +121,38 @@ apart-changes =
     only false true t u h = t
     only false false t u h = t
 
--- station 3 is not listed: the edit is refused with 7, names no area, and changes places with any
-refused-changes : (f : Edit) → Order (placed 3 9 1 100 102 ∷ f ∷ []) (1 ∷ 0 ∷ [])
+-- an edit that is refused with 7 names no area, and may change places with any
+refused-changes : (f : Edit) → Order (unknown ∷ f ∷ []) (1 ∷ 0 ∷ [])
 unfolding Cases.opened
 refused-changes f =
-    exchanged (names-group net (areas net)) (placed 3 9 1 100 102) f
-    (λ m. let (k, q, t) = named-group net (areas net) (placed 3 9 1 100 102) (m .0) (m .1) in names-none net (placed 3 9 1 100 102) nothing-placed tt k t)
+    exchanged (names-group net (areas net)) unknown f
+    (λ m. let (k, q, t) = named-group net (areas net) unknown (m .0) (m .1) in names-none net unknown nothing-placed tt k t)
 
--- a visit at station 1, then one at station 2 that is linked to it
-linked-stays : ¬ Order (placed 1 7 1 100 102 ∷ append (plan 2 7 1 115 115) 1 1 12 ∷ []) (1 ∷ 0 ∷ [])
+-- edits with a common area may not
+linked-stays : ¬ Order (at-one ∷ linked ∷ []) (1 ∷ 0 ∷ [])
 unfolding Cases.opened place at
-linked-stays R = omega (arith, R .in-order 0 1 (placed 1 7 1 100 102) (append (plan 2 7 1 115 115) 1 1 12) refl refl (lit< tt) (1, tt, tt))
+linked-stays R = omega (arith, R .in-order 0 1 at-one linked refl refl (lit< tt) (1, tt, tt))
 
--- exchanged, the second finds nothing to link to: the answers are not those of the first order
-linked-differs : ¬ (answers (after net) (answer net) (along (placed 1 7 1 100 102 ∷ append (plan 2 7 1 115 115) 1 1 12 ∷ []) (1 ∷ 0 ∷ [])) nothing-placed
-    ≡ along (answers (after net) (answer net) (placed 1 7 1 100 102 ∷ append (plan 2 7 1 115 115) 1 1 12 ∷ []) nothing-placed) (1 ∷ 0 ∷ []))
+-- and exchanged they answer otherwise: what is linked finds no visit to link to
+linked-differs : let told : List Edit → List Answer = λ es. answers (after net) (answer net) es nothing-placed in
+    ¬ (told (along (at-one ∷ linked ∷ []) (1 ∷ 0 ∷ [])) ≡ along (told (at-one ∷ linked ∷ [])) (1 ∷ 0 ∷ []))
 unfolding Cases.opened Reordering.opened flatMap
 linked-differs q = let z : _≡_ {A = ℕ} 9 0 = ap (λ (l : List Answer). elim l [ [] ↦ 0 | a ∷ rest ↦ a .refusal ]) q in omega arith
 
 -- equal edits are told apart
-equal-stays : ¬ Order (placed 1 7 1 100 102 ∷ placed 1 7 1 100 102 ∷ []) (1 ∷ 0 ∷ [])
+equal-stays : ¬ Order (at-one ∷ at-one ∷ []) (1 ∷ 0 ∷ [])
 unfolding Cases.opened place at
-equal-stays R = omega (arith, R .in-order 0 1 (placed 1 7 1 100 102) (placed 1 7 1 100 102) refl refl (lit< tt) (1, tt, tt))
+equal-stays R = omega (arith, R .in-order 0 1 at-one at-one refl refl (lit< tt) (1, tt, tt))
 
 -- a position twice, left out, too many
-twice-not : ¬ Order (placed 1 7 1 100 102 ∷ []) (0 ∷ 0 ∷ [])
+twice-not : ¬ Order (at-one ∷ []) (0 ∷ 0 ∷ [])
 unfolding count
 twice-not R = omega (arith, R .once 0 (lit< tt))
 
-left-out-not : ¬ Order (placed 1 7 1 100 102 ∷ []) []
+left-out-not : ¬ Order (at-one ∷ []) []
 unfolding count
 left-out-not R = omega (arith, R .once 0 (lit< tt))
 
-too-many-not : ¬ Order (placed 1 7 1 100 102 ∷ []) (0 ∷ 1 ∷ [])
+too-many-not : ¬ Order (at-one ∷ []) (0 ∷ 1 ∷ [])
 unfolding count
 too-many-not R = omega (arith, R .nothing-else 1 (lit≤ tt))

@@ -1,26 +1,26 @@
 -- The promises about the order and the division of edits: every edit is local (the laws of Locality), any order is the first (Exchange, as edits that name no
 -- common group name no common station), edits on a division are the edits on the whole, divisions round-trip (Divided), and a good network's areas are a grouping,
 -- since each of its rows has an area of 1..6. Assumes nothing.
-use mathlib.Core.Path.{_≡_, refl, sym, ap, _∙_}
+use mathlib.Core.Path.{_≡_, refl, sym}
 use mathlib.Core.Bool.{Bool, true, false, not, _&&_, _||_}
 use mathlib.Core.List.{List, [], _∷_, map}
-use mathlib.Core.Option.{Option, none, some}
-use Prim.Native.Nat.{ℕ, zero, suc, _≤_}
+use mathlib.Core.Option.{none, some}
+use Prim.Native.Nat.{ℕ, zero, suc}
 use native.Mathlib.Omega.{arith}
-use lib.Dec.{T, eqb, ltb, leb, eqb→eq, leb→le}
+use lib.Dec.{T, eqb, ltb, leb, leb→le}
 use borrow.Author.Tests.{lt-ltb}
 use Rattle.base.specs.Choice.{if_then_else_, _if_else_}
 use Rattle.base.specs.Lists.{any, every, count, first, within}
 use Rattle.base.proofs.Tests.{and-l, and-r, eqb-turned}
 use Rattle.railway.specs.Ranges.{same-station, area-ok, station-ok}
-use Rattle.railway.specs.Networks.{station-rows, stations-of, station-row-ok, stations-in-range, network-in-range, listed, station-row, area-of, ends-listed, line-rows, network-refusal}
+use Rattle.railway.specs.Networks.{station-rows, line-rows, stations-of, station-row-ok, stations-in-range, network-in-range, ends-listed, network-refusal}
+use Rattle.railway.specs.Networks.{listed, station-row, area-of}
 use Rattle.railway.specs.declared.network.StationRow.{StationRow}
-use Rattle.timetable.specs.Machine.{Timetable, answer, after}
-use Rattle.timetable.specs.Groups.{Grouping, areas, names, names-group}
+use Rattle.timetable.specs.Machine.{answer, after}
+use Rattle.timetable.specs.Groups.{names, names-group}
 use Rattle.timetable.proofs.Locality.{same-answer, same-change, others-kept, names-none}
-use Rattle.theory.specs.Types.{Station, Edit, Network, Answer}
-use Rattle.theory.specs.Reordering.{Reordering}
-use Rattle.theory.specs.Statements.{GoodNetwork, Grouped, six, EveryEditIsLocal, AnyOrderIsTheFirst, DividedIsWhole, DivisionsRoundTrip, AreasGroup}
+use Rattle.theory.specs.Types.{Station, Network}
+use Rattle.theory.specs.Statements.{GoodNetwork, six, EveryEditIsLocal, AnyOrderIsTheFirst, DividedIsWhole, DivisionsRoundTrip, AreasGroup}
 use Rattle.theory.proofs.Exchange.{LocalStep, same-answers, same-state}
 use Rattle.theory.proofs.Divided.{groups-apart, run-divided, answers-divided, merged-back, divided-back, divided-good, merged-whole}
 
@@ -97,7 +97,9 @@ one-of-six (suc (suc (suc zero))) t = refl
 one-of-six (suc (suc (suc (suc zero)))) t = refl
 one-of-six (suc (suc (suc (suc (suc zero))))) t = refl
 one-of-six (suc (suc (suc (suc (suc (suc zero)))))) t = refl
-one-of-six (suc (suc (suc (suc (suc (suc (suc x))))))) t = let x₇ = suc (suc (suc (suc (suc (suc (suc x)))))) in absurd (omega (arith, leb→le x₇ 6 (and-r (leb 1 x₇) (leb x₇ 6) t)))
+one-of-six (suc (suc (suc (suc (suc (suc (suc x))))))) t =
+    let y = suc (suc (suc (suc (suc (suc (suc x)))))) in
+    absurd (omega (arith, leb→le y 6 (and-r (leb 1 y) (leb y 6) t)))
 
 -- a network that 3 and 4 do not refuse is in range
 not-refused : (b c : Bool) → (3 if not b else 4 if c else 0) ≡ 0 → T b

@@ -2,7 +2,7 @@
 -- alone, so each fact is proved once for all meanings, by the tests that decide what an edit names: its values are in range (`edit-ok`), its network knows it
 -- (`known`), and the station is s or p. Assumes nothing.
 use Prim.Native.Nat.{ℕ, _+_}
-use mathlib.Core.Path.{_≡_, refl, sym, _∙_, ap, ap₂}
+use mathlib.Core.Path.{_≡_, refl, _∙_, ap, ap₂}
 use mathlib.Core.Bool.{Bool, true, false, not, _&&_, _||_}
 use mathlib.Core.List.{List, [], _∷_}
 use lib.Dec.{T, eqb, eqb-refl, eqb→eq}
