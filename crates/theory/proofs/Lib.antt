@@ -1,0 +1,5 @@
+pub mod Positions
+pub mod Exchange
+pub mod Divided
+pub mod Ordered
+pub mod FirstOrder
