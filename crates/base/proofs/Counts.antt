@@ -82,10 +82,18 @@ module _ {A : Type 0} (f : A → Bool) where
       go true u ih = absurd u
       go false u ih = ih u
 
+  pub every-head : (x : A) (xs : List A) → T (every f (x ∷ xs)) → T (f x)
+  unfolding every
+  every-head x xs t = and-l (f x) (every f xs) t
+
+  pub every-tail : (x : A) (xs : List A) → T (every f (x ∷ xs)) → T (every f xs)
+  unfolding every
+  every-tail x xs t = and-r (f x) (every f xs) t
+
   pub every-append : (xs ys : List A) → T (every f xs) → T (every f ys) → T (every f (xs ++ ys))
   unfolding every
   every-append [] ys t u = u
-  every-append (x ∷ xs) ys t u = both (f x) (every f (xs ++ ys)) (and-l (f x) (every f xs) t) (every-append xs ys (and-r (f x) (every f xs) t) u)
+  every-append (x ∷ xs) ys t u = both (f x) (every f (xs ++ ys)) (every-head x xs t) (every-append xs ys (every-tail x xs t) u)
 
   pub every-all : ((x : A) → T (f x)) → (xs : List A) → T (every f xs)
   unfolding every
@@ -143,6 +151,14 @@ module _ {A : Type 0} (r : A → A → Bool) where
   each-two-map g [] = refl
   each-two-map g (x ∷ xs) = rw (every-map (r (g x)) g xs, each-two-map g xs)
 
+  pub each-two-head : (x : A) (xs : List A) → T (each-two r (x ∷ xs)) → T (every (r x) xs)
+  unfolding each-two
+  each-two-head x xs t = and-l (every (r x) xs) (each-two r xs) t
+
+  pub each-two-tail : (x : A) (xs : List A) → T (each-two r (x ∷ xs)) → T (each-two r xs)
+  unfolding each-two
+  each-two-tail x xs t = and-r (every (r x) xs) (each-two r xs) t
+
   -- what passes p stands before what passes q
   pub each-two-append : (p q : A → Bool) → ((x y : A) → T (p x) → T (q y) → T (r x y))
       → (xs ys : List A) → T (each-two r xs) → T (each-two r ys) → T (every p xs) → T (every q ys) → T (each-two r (xs ++ ys))
@@ -150,20 +166,20 @@ module _ {A : Type 0} (r : A → A → Bool) where
   each-two-append p q h [] ys s t u v = t
   each-two-append p q h (x ∷ xs) ys s t u v =
       both (every (r x) (xs ++ ys)) (each-two r (xs ++ ys))
-      (every-append (r x) xs ys (and-l (every (r x) xs) (each-two r xs) s) (every-weaker q (r x) (λ y. h x y (and-l (p x) (every p xs) u)) ys v))
-      (each-two-append p q h xs ys (and-r (every (r x) xs) (each-two r xs) s) t (and-r (p x) (every p xs) u) v)
+      (every-append (r x) xs ys (each-two-head x xs s) (every-weaker q (r x) (λ y. h x y (every-head p x xs u)) ys v))
+      (each-two-append p q h xs ys (each-two-tail x xs s) t (every-tail p x xs u) v)
 
   -- of what passes q no element may stand before another: there is one at most
   pub each-two-once : (q : A → Bool) → ((x y : A) → T (q x) → T (q y) → ¬ T (r x y)) → (xs : List A) → T (each-two r xs) → count q xs ≤ 1
   unfolding each-two count
   each-two-once q h [] t = omega arith
-  each-two-once q h (x ∷ xs) t = go (q x) refl (each-two-once q h xs (and-r (every (r x) xs) (each-two r xs) t))
+  each-two-once q h (x ∷ xs) t = go (q x) refl (each-two-once q h xs (each-two-tail x xs t))
     where
       none : T (q x) → T (every (r x) xs) → count q xs ≡ 0
       none u v = count-none q xs (every-weaker (r x) (λ y. not (q y)) (λ y s. not-T (q y) (λ w. h x y u w s)) xs v)
 
       go : (b : Bool) → q x ≡ b → count q xs ≤ 1 → (1 if b else 0) + count q xs ≤ 1
-      go true e ih = omega (arith, none (rw e tt) (and-l (every (r x) xs) (each-two r xs) t))
+      go true e ih = omega (arith, none (rw e tt) (each-two-head x xs t))
       go false e ih = omega arith
 
 -- a finer order, of elements that all pass p
@@ -172,12 +188,10 @@ pub each-two-finer : {A : Type 0} (r s : A → A → Bool) (p : A → Bool) → 
 unfolding each-two every
 each-two-finer r s p h [] t u = tt
 each-two-finer r s p h (x ∷ xs) t u =
-    let here : T (p x) = and-l (p x) (every p xs) t in
-    let rest : T (every p xs) = and-r (p x) (every p xs) t in
     both (every (s x) xs) (each-two s xs)
-    (every-weaker (λ y. p y && r x y) (s x) (λ y v. h x y here (and-l (p y) (r x y) v) (and-r (p y) (r x y) v)) xs
-    (every-both p (r x) xs rest (and-l (every (r x) xs) (each-two r xs) u)))
-    (each-two-finer r s p h xs rest (and-r (every (r x) xs) (each-two r xs) u))
+    (every-weaker (λ y. p y && r x y) (s x) (λ y v. h x y (every-head p x xs t) (and-l (p y) (r x y) v) (and-r (p y) (r x y) v)) xs
+    (every-both p (r x) xs (every-tail p x xs t) (each-two-head r x xs u)))
+    (each-two-finer r s p h xs (every-tail p x xs t) (each-two-tail r x xs u))
 
 pub count-same : {A : Type 0} (f g : A → Bool) → ((x : A) → f x ≡ g x) → (xs : List A) → count f xs ≡ count g xs
 count-same f g e xs = rw (fun-ext e)

@@ -1,14 +1,15 @@
 -- What holds of every finding that a rule could give at a station, whatever its trains, holds of every finding listed there. So in a whole timetable both
 -- stations of every finding are listed: the station is one of the network's, and a good link leads to a listed one. Assumes nothing.
-use Prim.Native.Nat.{ℕ, _+_}
+use Prim.Native.Nat.{ℕ, _+_, _≤_}
 use mathlib.Core.Path.{_≡_, refl}
 use mathlib.Core.Bool.{Bool, true, false, not, _&&_}
 use mathlib.Core.List.{List, [], _∷_, _++_, map, flatMap}
+use native.Mathlib.Omega.{arith}
 use lib.Dec.{T, leb, eqb-refl}
 use lib.ListN.{length}
 use Rattle.base.specs.Lists.{every, rising}
 use Rattle.base.proofs.Tests.{and-l, and-r, both}
-use Rattle.base.proofs.Counts.{every-append, every-all, every-flatMap, every-weaker, every-of}
+use Rattle.base.proofs.Counts.{every-head, every-tail, every-append, every-all, every-flatMap, every-weaker, every-of}
 use Rattle.railway.specs.declared.visit.Inward.{Inward}
 use Rattle.railway.specs.declared.visit.Outward.{Outward}
 use Rattle.railway.specs.declared.visit.Visit.{Visit}
@@ -58,28 +59,31 @@ module _ (q : Spanning → Bool) where
   unfolding by-one
   every-by-one rule f s h es = every-ones f s s rule (λ t. t .train .0) (λ t. 0) (λ t. h (t .train .0) 0) es
 
-  pub every-by-two : (rule : ℕ) (f : Visit → Visit → Bool) (s : Station) → ((a c : ℕ) → T (q (spot s s rule a c)))
-      → (es : List Entry) → T (every q (by-two rule f s es))
+  -- p holds of the visits
+  pub every-by-two : (p : Entry → Bool) (rule : ℕ) (f : Visit → Visit → Bool) (s : Station) → ((t : Entry) → T (p t) → (c : ℕ) → T (q (spot s s rule (t .train .0) c)))
+      → (es : List Entry) → T (every p es) → T (every q (by-two rule f s es))
   unfolding by-two
-  every-by-two rule f s h [] = every-none
-  every-by-two rule f s h (t ∷ us) =
+  every-by-two p rule f s h [] v = every-none
+  every-by-two p rule f s h (t ∷ us) v =
       every-append q _ (by-two rule f s us)
-      (every-ones (λ u. f (t .visit) (u .visit)) s s rule (λ u. t .train .0) (λ u. u .train .0) (λ u. h (t .train .0) (u .train .0)) us)
-      (every-by-two rule f s h us)
+      (every-ones (λ u. f (t .visit) (u .visit)) s s rule (λ u. t .train .0) (λ u. u .train .0) (λ u. h t (every-head p t us v) (u .train .0)) us)
+      (every-by-two p rule f s h us (every-tail p t us v))
 
-  pub every-unmet : (tab : Table) (s : Station) → ((a c : ℕ) → T (q (spot s s 4 a c))) → (k : ℕ) (rs : List Relation) → T (every q (unmet tab s k rs))
+  -- k is the rank of the first
+  pub every-unmet : (tab : Table) (s : Station) (k : ℕ) → ((a : ℕ) → k ≤ a → T (q (spot s s 4 a 0))) → (rs : List Relation) → T (every q (unmet tab s k rs))
   unfolding unmet
-  every-unmet tab s h k [] = every-none
-  every-unmet tab s h k (r ∷ rs) =
-      every-append q _ (unmet tab s (k + 1) rs) (every-one (not (met tab r)) s s 4 k 0 (h k 0)) (every-unmet tab s h (k + 1) rs)
+  every-unmet tab s k h [] = every-none
+  every-unmet tab s k h (r ∷ rs) =
+      every-append q _ (unmet tab s (k + 1) rs) (every-one (not (met tab r)) s s 4 k 0 (h k (omega arith)))
+      (every-unmet tab s (k + 1) (λ a g. h a (omega arith)) rs)
 
   pub every-own : (n : Network) (s : Station) → ((rule a c : ℕ) → T (q (spot s s rule a c))) → (tab : Table) → T (every q (own n s tab))
   unfolding own
   every-own n s h tab =
       every-append q _ _ (every-by-one 1 _ s (h 1) (tab .visits))
-      (every-append q _ _ (every-by-two 2 _ s (h 2) (tab .visits))
-      (every-append q _ _ (every-by-two 3 _ s (h 3) (tab .visits))
-      (every-append q _ _ (every-unmet tab s (h 4) 1 (tab .relations))
+      (every-append q _ _ (every-by-two (λ t. true) 2 _ s (λ t u. h 2 (t .train .0)) (tab .visits) (every-all (λ t. true) (λ t. tt) (tab .visits)))
+      (every-append q _ _ (every-by-two (λ t. true) 3 _ s (λ t u. h 3 (t .train .0)) (tab .visits) (every-all (λ t. true) (λ t. tt) (tab .visits)))
+      (every-append q _ _ (every-unmet tab s 1 (λ a g. h 4 a 0) (tab .relations))
       (every-append q _ _ (every-by-one 5 _ s (h 5) (tab .visits))
       (every-by-one 6 _ s (h 6) (tab .visits))))))
 
