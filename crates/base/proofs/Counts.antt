@@ -10,6 +10,11 @@ use Rattle.base.specs.Choice.{if_then_else_, _if_else_}
 use Rattle.base.specs.Lists.{any, every, keep, count, each-two, sum, pairs}
 use Rattle.base.proofs.Tests.{and-l, and-r, both, or-l, or-r}
 
+pub every-true : {A : Type 0} (xs : List A) → T (every (λ x. true) xs)
+unfolding every
+every-true [] = tt
+every-true (x ∷ xs) = every-true xs
+
 module _ {A : Type 0} (f : A → Bool) where
   pub count-append : (xs ys : List A) → count f (xs ++ ys) ≡ count f xs + count f ys
   unfolding count
@@ -112,6 +117,9 @@ module _ {A : Type 0} (f : A → Bool) where
   every-flatMap g p h [] t = tt
   every-flatMap g p h (x ∷ xs) t =
       every-append (g x) (flatMap g xs) (h x (and-l (p x) (every p xs) t)) (every-flatMap g p h xs (and-r (p x) (every p xs) t))
+
+  pub every-each : {B : Type 0} (g : B → List A) → ((b : B) → T (every f (g b))) → (xs : List B) → T (every f (flatMap g xs))
+  every-each g h xs = every-flatMap g (λ b. true) (λ b t. h b) xs (every-true xs)
 
   -- what holds of each x that has one like it in the list holds of all of the list
   pub every-of : (r : A → A → Bool) → ((x : A) → T (r x x)) → (xs : List A) → ((x : A) → T (any (r x) xs) → T (f x)) → T (every f xs)

@@ -9,7 +9,7 @@ use lib.Dec.{T, leb, eqb-refl}
 use lib.ListN.{length}
 use Rattle.base.specs.Lists.{every, rising}
 use Rattle.base.proofs.Tests.{and-l, and-r, both}
-use Rattle.base.proofs.Counts.{every-head, every-tail, every-append, every-all, every-flatMap, every-weaker, every-of}
+use Rattle.base.proofs.Counts.{every-head, every-tail, every-append, every-all, every-true, every-each, every-flatMap, every-weaker, every-of}
 use Rattle.railway.specs.declared.visit.Inward.{Inward}
 use Rattle.railway.specs.declared.visit.Outward.{Outward}
 use Rattle.railway.specs.declared.visit.Visit.{Visit}
@@ -53,7 +53,7 @@ module _ (q : Spanning → Bool) where
   pub every-ones : {B : Type 0} (f : B → Bool) (s p : Station) (rule : ℕ) (a c : B → ℕ) → ((b : B) → T (q (spot s p rule (a b) (c b))))
       → (bs : List B) → T (every q (flatMap (λ b. one (f b) p (finding s rule (a b) (c b))) bs))
   every-ones f s p rule a c h bs =
-      every-flatMap q _ (λ b. true) (λ b t. every-one (f b) s p rule (a b) (c b) (h b)) bs (every-all (λ b. true) (λ b. tt) bs)
+      every-each q _ (λ b. every-one (f b) s p rule (a b) (c b) (h b)) bs
 
   pub every-by-one : (rule : ℕ) (f : Entry → Bool) (s : Station) → ((a c : ℕ) → T (q (spot s s rule a c))) → (es : List Entry) → T (every q (by-one rule f s es))
   unfolding by-one
@@ -81,8 +81,8 @@ module _ (q : Spanning → Bool) where
   unfolding own
   every-own n s h tab =
       every-append q _ _ (every-by-one 1 _ s (h 1) (tab .visits))
-      (every-append q _ _ (every-by-two (λ t. true) 2 _ s (λ t u. h 2 (t .train .0)) (tab .visits) (every-all (λ t. true) (λ t. tt) (tab .visits)))
-      (every-append q _ _ (every-by-two (λ t. true) 3 _ s (λ t u. h 3 (t .train .0)) (tab .visits) (every-all (λ t. true) (λ t. tt) (tab .visits)))
+      (every-append q _ _ (every-by-two (λ t. true) 2 _ s (λ t u. h 2 (t .train .0)) (tab .visits) (every-true (tab .visits)))
+      (every-append q _ _ (every-by-two (λ t. true) 3 _ s (λ t u. h 3 (t .train .0)) (tab .visits) (every-true (tab .visits)))
       (every-append q _ _ (every-unmet tab s 1 (λ a g. h 4 a 0) (tab .relations))
       (every-append q _ _ (every-by-one 5 _ s (h 5) (tab .visits))
       (every-by-one 6 _ s (h 6) (tab .visits))))))
@@ -138,7 +138,7 @@ unfolding leads
 anywhere es =
     every-all (leads (λ k. true))
     (λ e. both (leads-in (λ k. true) e) (leads-out (λ k. true) e)
-    (every-all (λ i. true) (λ i. tt) (ins (e .visit))) (every-all (λ o. true) (λ o. tt) (outs (e .visit)))) es
+    (every-true (ins (e .visit))) (every-true (outs (e .visit)))) es
 
 in-listed : (n : Network) (s : Station) (i : Inward) → T (in-good n s i) → T (listed n (i .station))
 unfolding in-good

@@ -6,11 +6,31 @@ use mathlib.Core.Path.{_≡_, refl, sym, _∙_}
 use mathlib.Core.Bool.{Bool, true, false, not, _&&_, _||_}
 use mathlib.Core.List.{List, [], _∷_, _++_, map, flatMap, append-nil}
 use native.Mathlib.Omega.{arith}
-use lib.Dec.{T, ltb, leb, eqb, eqb-refl, eqb→eq, ltb→lt, leb→le, lt→ltb, le→leb}
-use Rattle.base.specs.Choice.{if_then_else_, _if_else_}
-use Rattle.base.specs.Lists.{every, each-two, rising, below}
+use lib.Dec.{T, ltb, leb, eqb, eqb-refl, eqb→eq, ltb→lt, leb→le, lt→ltb, le→leb, lit≤}
+use lib.ListN.{length}
+use Rattle.base.specs.Choice.{_if_else_}
+use Rattle.base.specs.Lists.{within, every, each-two, rising, below}
 use Rattle.base.proofs.Tests.{and-l, and-r, both, or-l, or-r, by-value, true-T}
-use Rattle.base.proofs.Counts.{each-two-head, each-two-tail, every-head, every-tail, every-append, every-all, every-flatMap, every-weaker, every-both, each-two-map, each-two-append, each-two-finer}
+use Rattle.base.proofs.Counts.{each-two-head, each-two-tail, every-head, every-tail, every-append, every-true, every-each, every-flatMap, every-weaker, every-both, each-two-map, each-two-append, each-two-finer}
+use Rattle.railway.specs.declared.visit.Inward.{Inward}
+use Rattle.railway.specs.declared.visit.Outward.{Outward}
+use Rattle.railway.specs.declared.visit.InLink.{InLink}
+use Rattle.railway.specs.declared.visit.OutLink.{OutLink}
+use Rattle.railway.specs.declared.visit.Visit.{Visit}
+use Rattle.railway.specs.declared.relation.Relation.{Relation}
+use Rattle.railway.specs.declared.network.StationRow.{StationRow}
+use Rattle.railway.specs.Networks.{station-rows, stations-of, station-row-ok, stations-in-range, lines-in-range, network-in-range, listed, network-refusal}
+use Rattle.timetable.specs.Visits.{ins, outs}
+use Rattle.timetable.specs.Tables.{Entry, Table, empty}
+use Rattle.timetable.specs.Machine.{Timetable}
+use Rattle.timetable.specs.Good.{entry-good, visits-good, relations-good, table-good, Whole}
+use Rattle.timetable.specs.Rules.{met}
+use Rattle.timetable.specs.Findings.{Spanning, finding, one, by-one, by-two, unmet, own, by-out, by-in, rule-7, rule-8, rule-9, rule-10}
+use Rattle.timetable.specs.Findings.{across, spanning, findings}
+use Rattle.theory.specs.Types.{Station, Network, Finding}
+use Rattle.theory.specs.Statements.{GoodNetwork, numbers}
+use Rattle.theory.proofs.Placed.{spot, anywhere, every-one, every-ones, every-by-one, every-by-two, every-unmet, every-own}
+use Rattle.theory.proofs.Placed.{every-rule-7, every-rule-8, every-rule-9, every-rule-10, every-by-out, every-by-in, every-across}
 
 -- by the number first, then by the order r
 unfoldable pub then-by : {A : Type 0} → (A → ℕ) → (A → A → Bool) → A → A → Bool
@@ -85,3 +105,218 @@ module _ {A : Type 0} (κ : A → ℕ) (r : A → A → Bool) where
           both (leb c (κ x)) (ltb (κ x) d)
           (le→leb c (κ x) (omega (arith, leb→le a (κ x) (and-l (leb a (κ x)) (ltb (κ x) b) t))))
           (lt→ltb (κ x) d (omega (arith, ltb→lt (κ x) b (and-r (leb a (κ x)) (ltb (κ x) b) t))))
+
+-- the four numbers of a finding, from the last to the first
+
+abbrev second : Spanning → ℕ
+second x = x .found .second
+
+abbrev first : Spanning → ℕ
+first x = x .found .first
+
+abbrev rule : Spanning → ℕ
+rule x = x .found .rule
+
+abbrev station : Spanning → ℕ
+station x = x .found .station .0
+
+abbrev by-second : Spanning → Spanning → Bool
+by-second = then-by second (λ x y. false)
+
+abbrev by-first : Spanning → Spanning → Bool
+by-first = then-by first by-second
+
+abbrev by-rule : Spanning → Spanning → Bool
+by-rule = then-by rule by-first
+
+abbrev by-station : Spanning → Spanning → Bool
+by-station = then-by station by-rule
+
+-- visits in the order of their trains
+abbrev Trains-rise : List Entry → Type 0
+Trains-rise es = T (each-two (λ t u. ltb (t .train .0) (u .train .0)) es)
+
+one-rises : (r : Spanning → Spanning → Bool) (b : Bool) (p : Station) (f : Finding) → T (each-two r (one b p f))
+unfolding one each-two every
+one-rises r true p f = tt
+one-rises r false p f = tt
+
+-- one finding or none for each visit u, with u as second
+seconds-rise : (f : Entry → Bool) (s p : Station) (k a : ℕ) (us : List Entry) → Trains-rise us
+    → T (each-two by-second (flatMap (λ u. one (f u) p (finding s k a (u .train .0))) us))
+seconds-rise f s p k a =
+    flat second (λ x y. false) (λ u. u .train .0) (λ u. one (f u) p (finding s k a (u .train .0)))
+    (λ u. every-one (λ x. eqb (second x) (u .train .0)) (f u) s p k a (u .train .0) (eqb-refl (u .train .0)))
+    (λ u. one-rises (λ x y. false) (f u) p (finding s k a (u .train .0)))
+
+by-one-rises : (k : ℕ) (f : Entry → Bool) (s : Station) (es : List Entry) → Trains-rise es → T (each-two by-first (by-one k f s es))
+unfolding by-one
+by-one-rises k f s =
+    flat first by-second (λ t. t .train .0) (λ t. one (f t) s (finding s k (t .train .0) 0))
+    (λ t. every-one (λ x. eqb (first x) (t .train .0)) (f t) s s k (t .train .0) 0 (eqb-refl (t .train .0)))
+    (λ t. one-rises by-second (f t) s (finding s k (t .train .0) 0))
+
+by-two-rises : (k : ℕ) (f : Visit → Visit → Bool) (s : Station) (es : List Entry) → Trains-rise es → T (each-two by-first (by-two k f s es))
+unfolding by-two
+by-two-rises k f s [] h = none first by-second
+by-two-rises k f s (t ∷ us) h =
+    let rest : Trains-rise us = each-two-tail (λ u w. ltb (u .train .0) (w .train .0)) t us h in
+    let same : T (every (λ x. eqb (first x) (t .train .0)) (flatMap (λ u. one (f (t .visit) (u .visit)) s (finding s k (t .train .0) (u .train .0))) us))
+    = every-ones (λ x. eqb (first x) (t .train .0)) (λ u. f (t .visit) (u .visit)) s s k (λ u. t .train .0) (λ u. u .train .0) (λ u. eqb-refl (t .train .0)) us in
+    join first by-second (suc (t .train .0)) _ (by-two k f s us)
+    (all-below first by-second (t .train .0) _ same)
+    (every-by-two (λ x. leb (suc (t .train .0)) (first x)) (λ u. ltb (t .train .0) (u .train .0)) k f s (λ u v c. v) us
+    (each-two-head (λ u w. ltb (u .train .0) (w .train .0)) t us h))
+    (level first by-second (t .train .0) _ same (seconds-rise (λ u. f (t .visit) (u .visit)) s s k (t .train .0) us rest))
+    (by-two-rises k f s us rest)
+
+unmet-rises : (tab : Table) (s : Station) (k : ℕ) (rs : List Relation) → T (each-two by-first (unmet tab s k rs))
+unfolding unmet
+unmet-rises tab s k [] = none first by-second
+unmet-rises tab s k (r ∷ rs) =
+    join first by-second (suc k) (one (not (met tab r)) s (finding s 4 k 0)) (unmet tab s (k + 1) rs)
+    (every-one (λ x. ltb (first x) (suc k)) (not (met tab r)) s s 4 k 0 (lt→ltb k (suc k) (omega arith)))
+    (every-unmet (λ x. leb (suc k) (first x)) tab s (k + 1) (λ a h. le→leb (suc k) a (omega arith)) rs)
+    (one-rises by-first (not (met tab r)) s (finding s 4 k 0))
+    (unmet-rises tab s (k + 1) rs)
+
+-- a visit has one link or none, so what its links give rises where what each gives does
+
+outs-rise : (r : Spanning → Spanning → Bool) (f : Outward → List Spanning) → ((o : Outward) → T (each-two r (f o))) → (v : Visit) → T (each-two r (flatMap f (outs v)))
+unfolding outs flatMap each-two
+outs-rise r f h v = go (v .outward)
+  where
+    go : (l : OutLink) → T (each-two r (flatMap f (elim l [ OutLink.Nothing ↦ [] | OutLink.To o ↦ o ∷ [] ])))
+    go OutLink.Nothing = tt
+    go (OutLink.To o) = rw (append-nil (f o)) (h o)
+
+ins-rise : (r : Spanning → Spanning → Bool) (f : Inward → List Spanning) → ((i : Inward) → T (each-two r (f i))) → (v : Visit) → T (each-two r (flatMap f (ins v)))
+unfolding ins flatMap each-two
+ins-rise r f h v = go (v .inward)
+  where
+    go : (l : InLink) → T (each-two r (flatMap f (elim l [ InLink.Nothing ↦ [] | InLink.From i ↦ i ∷ [] ])))
+    go InLink.Nothing = tt
+    go (InLink.From i) = rw (append-nil (f i)) (h i)
+
+module _ (m : Timetable) where
+  by-out-rises : (f : Table → Entry → Outward → List Spanning) → ((tab : Table) (t : Entry) (o : Outward) → T (every (λ x. eqb (first x) (t .train .0)) (f tab t o)))
+      → ((t : Entry) (o : Outward) → T (each-two by-second (f (m (o .station)) t o))) → (es : List Entry) → Trains-rise es → T (each-two by-first (by-out f m es))
+  unfolding by-out
+  by-out-rises f same rises =
+      flat first by-second (λ t. t .train .0) (λ t. flatMap (λ o. f (m (o .station)) t o) (outs (t .visit)))
+      (λ t. every-each (λ x. eqb (first x) (t .train .0)) (λ o. f (m (o .station)) t o) (λ o. same (m (o .station)) t o) (outs (t .visit)))
+      (λ t. outs-rise by-second (λ o. f (m (o .station)) t o) (rises t) (t .visit))
+
+  by-in-rises : (f : Table → Entry → Inward → List Spanning) → ((tab : Table) (t : Entry) (i : Inward) → T (every (λ x. eqb (first x) (t .train .0)) (f tab t i)))
+      → ((t : Entry) (i : Inward) → T (each-two by-second (f (m (i .station)) t i))) → (es : List Entry) → Trains-rise es → T (each-two by-first (by-in f m es))
+  unfolding by-in
+  by-in-rises f same rises =
+      flat first by-second (λ t. t .train .0) (λ t. flatMap (λ i. f (m (i .station)) t i) (ins (t .visit)))
+      (λ t. every-each (λ x. eqb (first x) (t .train .0)) (λ i. f (m (i .station)) t i) (λ i. same (m (i .station)) t i) (ins (t .visit)))
+      (λ t. ins-rise by-second (λ i. f (m (i .station)) t i) (rises t) (t .visit))
+
+-- at one station: each rule's list rises, and all of it has the rule's number
+
+step : (k hi : ℕ) → suc k ≤ hi → {xs ys : List Spanning} → Ranged rule by-first k (suc k) xs → Ranged rule by-first (suc k) hi ys → Ranged rule by-first k hi (xs ++ ys)
+step k hi g p q = ranged-append rule by-first k (suc k) hi (omega arith) g _ _ p q
+
+module _ (n : Network) (s : Station) (here : Table) (h : Trains-rise (here .visits)) where
+  singles : (k : ℕ) (f : Entry → Bool) → Ranged rule by-first k (suc k) (by-one k f s (here .visits))
+  singles k f =
+      ranged-one rule by-first k (by-one k f s (here .visits))
+      (every-by-one (λ x. eqb (rule x) k) k f s (λ a c. eqb-refl k) (here .visits)) (by-one-rises k f s (here .visits) h)
+
+  doubles : (k : ℕ) (f : Visit → Visit → Bool) → Ranged rule by-first k (suc k) (by-two k f s (here .visits))
+  doubles k f =
+      ranged-one rule by-first k (by-two k f s (here .visits))
+      (every-by-two (λ x. eqb (rule x) k) (λ t. true) k f s (λ t u c. eqb-refl k) (here .visits) (every-true (here .visits)))
+      (by-two-rises k f s (here .visits) h)
+
+  ranks : Ranged rule by-first 4 5 (unmet here s 1 (here .relations))
+  ranks =
+      ranged-one rule by-first 4 (unmet here s 1 (here .relations))
+      (every-unmet (λ x. eqb (rule x) 4) here s 1 (λ a g. tt) (here .relations)) (unmet-rises here s 1 (here .relations))
+
+  own-ranged : Ranged rule by-first 1 7 (own n s here)
+  unfolding own
+  own-ranged =
+      step 1 7 (lit≤ tt) (singles 1 _) (step 2 7 (lit≤ tt) (doubles 2 _) (step 3 7 (lit≤ tt) (doubles 3 _)
+      (step 4 7 (lit≤ tt) ranks (step 5 7 (lit≤ tt) (singles 5 _) (singles 6 _)))))
+
+  module _ (m : Timetable) where
+    outward : (k : ℕ) (f : Table → Entry → Outward → List Spanning)
+        → ((q : Spanning → Bool) (tab : Table) (t : Entry) (o : Outward) → ((c : ℕ) → T (q (spot s (o .station) k (t .train .0) c))) → T (every q (f tab t o)))
+        → ((t : Entry) (o : Outward) → T (each-two by-second (f (m (o .station)) t o))) → Ranged rule by-first k (suc k) (by-out f m (here .visits))
+    outward k f all rises =
+        ranged-one rule by-first k (by-out f m (here .visits))
+        (every-by-out (λ x. eqb (rule x) k) (λ p. true) f (λ tab t o v. all (λ x. eqb (rule x) k) tab t o (λ c. eqb-refl k)) m (here .visits) (anywhere (here .visits)))
+        (by-out-rises m f (λ tab t o. all (λ x. eqb (first x) (t .train .0)) tab t o (λ c. eqb-refl (t .train .0))) rises (here .visits) h)
+
+    inward : (k : ℕ) (f : Table → Entry → Inward → List Spanning)
+        → ((q : Spanning → Bool) (tab : Table) (t : Entry) (i : Inward) → ((c : ℕ) → T (q (spot s (i .station) k (t .train .0) c))) → T (every q (f tab t i)))
+        → ((t : Entry) (i : Inward) → T (each-two by-second (f (m (i .station)) t i))) → Ranged rule by-first k (suc k) (by-in f m (here .visits))
+    inward k f all rises =
+        ranged-one rule by-first k (by-in f m (here .visits))
+        (every-by-in (λ x. eqb (rule x) k) (λ p. true) f (λ tab t i v. all (λ x. eqb (rule x) k) tab t i (λ c. eqb-refl k)) m (here .visits) (anywhere (here .visits)))
+        (by-in-rises m f (λ tab t i. all (λ x. eqb (first x) (t .train .0)) tab t i (λ c. eqb-refl (t .train .0))) rises (here .visits) h)
+
+    across-ranged : ((k : Station) → Trains-rise (m k .visits)) → Ranged rule by-first 7 11 (across n m s here)
+    unfolding across rule-7 rule-8 rule-9 rule-10
+    across-ranged far =
+        step 7 11 (lit≤ tt) (outward 7 (rule-7 s) (λ q. every-rule-7 q s) (λ t o. one-rises by-second _ (o .station) _))
+        (step 8 11 (lit≤ tt) (inward 8 (rule-8 s) (λ q. every-rule-8 q s) (λ t i. one-rises by-second _ (i .station) _))
+        (step 9 11 (lit≤ tt) (outward 9 (rule-9 s) (λ q. every-rule-9 q s) (λ t o. one-rises by-second _ (o .station) _))
+        (outward 10 (rule-10 n s here) (λ q. every-rule-10 q n s here) (λ t o. seconds-rise _ s (o .station) 10 (t .train .0) (m (o .station) .visits) (far (o .station))))))
+
+-- in a whole timetable the trains of every station rise
+
+good-rise : (n : Network) (k : Station) (tab : Table) → T (table-good n k tab) → Trains-rise (tab .visits)
+unfolding table-good visits-good rising
+good-rise n k tab t =
+    let trains : List ℕ = map (λ e. e .train .0) (tab .visits) in
+    let good : T (visits-good n k (tab .visits)) = and-l (visits-good n k (tab .visits)) (relations-good (tab .relations)) t in
+    rw each-two-map at (and-r (leb (length (tab .visits)) 24) (each-two ltb trains) (and-l (leb (length (tab .visits)) 24 && each-two ltb trains) (every (entry-good n k) (tab .visits)) good))
+
+empty-rise : Trains-rise (empty .visits)
+unfolding empty each-two
+empty-rise = tt
+
+trains-rise : (n : Network) (m : Timetable) → Whole n m → (k : Station) → Trains-rise (m k .visits)
+trains-rise n m w k =
+    by-value (listed n k) (λ e. good-rise n k (m k) (w .good k (rw e tt))) (λ e. rw (w .bare k (rw e tt)) empty-rise)
+
+-- in a good network the stations rise
+
+in-range : (n : Network) → GoodNetwork n → network-in-range n ≡ true
+unfolding network-refusal
+in-range n good = by-value (network-in-range n) (λ e. e) (λ e. absurd (omega (arith, rw e at good)))
+
+stations-rise : (n : Network) → GoodNetwork n → T (each-two (λ a b. ltb (a .0) (b .0)) (stations-of n))
+unfolding stations-of network-in-range stations-in-range rising
+stations-rise n good =
+    let rows : List StationRow = station-rows n in
+    let range : T (network-in-range n) = true-T (network-in-range n) (in-range n good) in
+    let stations : T (stations-in-range n) = and-l (stations-in-range n) (within 1 30 (n .headway) && lines-in-range n) range in
+    let order : T (each-two ltb (map (λ r. r .station .0) rows)) =
+    and-r (every station-row-ok rows) (each-two ltb (map (λ r. r .station .0) rows))
+    (and-r (within 1 16 (n .stationcount)) (every station-row-ok rows && each-two ltb (map (λ r. r .station .0) rows)) stations) in
+    rw (each-two-map (λ a b. ltb (a .0) (b .0)) (λ r. r .station) (station-rows n)) (rw (each-two-map ltb (λ r. r .station .0) (station-rows n)) at order)
+
+spanning-rises : (n : Network) → GoodNetwork n → (m : Timetable) → Whole n m → T (each-two by-station (spanning n m))
+unfolding spanning
+spanning-rises n good m w =
+    flat station by-rule (λ s. s .0) (λ s. own n s (m s) ++ across n m s (m s))
+    (λ s.
+    every-append (λ x. eqb (station x) (s .0)) (own n s (m s)) (across n m s (m s))
+    (every-own (λ x. eqb (station x) (s .0)) n s (λ k a c. eqb-refl (s .0)) (m s))
+    (every-across (λ x. eqb (station x) (s .0)) (λ p. true) n m s (λ p u k a c. eqb-refl (s .0)) (m s) (anywhere (m s .visits))))
+    (λ s.
+    ranged-append rule by-first 1 7 11 (lit≤ tt) (lit≤ tt) (own n s (m s)) (across n m s (m s))
+    (own-ranged n s (m s) (trains-rise n m w s)) (across-ranged n s (m s) (trains-rise n m w s) m (trains-rise n m w)) .rises)
+    (stations-of n) (stations-rise n good)
+
+-- "listed rising", strictly
+pub findings-rise : (n : Network) → GoodNetwork n → (m : Timetable) → Whole n m → T (each-two (λ f g. below (numbers f) (numbers g)) (findings n m))
+unfolding findings then-by below
+findings-rise n good m w =
+    rw (each-two-map (λ f g. below (numbers f) (numbers g)) (λ x. x .found) (spanning n m)) (spanning-rises n good m w)
