@@ -5,10 +5,10 @@ use mathlib.Core.Path.{_≡_, refl, sym, _∙_, ap, ap₂, fun-ext}
 use mathlib.Core.Bool.{Bool, true, false, not, _&&_, _||_}
 use mathlib.Core.List.{List, [], _∷_, _++_, map, flatMap}
 use native.Mathlib.Omega.{arith}
-use lib.Dec.{T, not-T}
+use lib.Dec.{T, not-T, eqb, ltb, eqb→eq, ltb→lt}
 use Rattle.base.specs.Choice.{if_then_else_, _if_else_}
-use Rattle.base.specs.Lists.{any, every, keep, count, each-two, sum, pairs}
-use Rattle.base.proofs.Tests.{and-l, and-r, both, or-l, or-r}
+use Rattle.base.specs.Lists.{any, every, keep, count, each-two, sum, pairs, below, same}
+use Rattle.base.proofs.Tests.{and-l, and-r, both, or-l, or-r, or-cases}
 
 pub every-true : {A : Type 0} (xs : List A) → T (every (λ x. true) xs)
 unfolding every
@@ -293,3 +293,20 @@ module _ {A : Type 0} (x y : A → Bool) where
       go true false u v ih = omega (arith, against-first gs, met-never gs (omega arith))
       go false true u v ih = omega (arith, against-second gs, met-never-far gs (omega arith))
       go false false u v ih = omega (arith, against-neither gs, ih (omega arith) (omega arith))
+
+-- lists of numbers
+
+pub same-equal : (xs ys : List ℕ) → T (same xs ys) → xs ≡ ys
+unfolding same
+same-equal [] [] t = refl
+same-equal [] (y ∷ ys) t = absurd t
+same-equal (x ∷ xs) [] t = absurd t
+same-equal (x ∷ xs) (y ∷ ys) t = rw (eqb→eq x y (and-l (eqb x y) (same xs ys) t), same-equal xs ys (and-r (eqb x y) (same xs ys) t))
+
+pub below-itself : (xs : List ℕ) → ¬ T (below xs xs)
+unfolding below
+below-itself [] t = t
+below-itself (x ∷ xs) t =
+    or-cases (ltb x x) (eqb x x && below xs xs) t
+    (λ u. absurd (omega (arith, ltb→lt x x u)))
+    (λ u. below-itself xs (and-r (eqb x x) (below xs xs) u))

@@ -1,3 +1,4 @@
 pub mod Placed
 pub mod Rising
 pub mod Reach
+pub mod Shared
