@@ -1,7 +1,7 @@
 -- Tests and counts over lists go through `++`, `map`, `flatMap` and `keep`: each law is an induction on the list, by the cases of one test.
 -- Assumes nothing.
 use Prim.Native.Nat.{ℕ, _+_, _≤_}
-use mathlib.Core.Path.{_≡_, refl, sym, _∙_, ap, ap₂, fun-ext}
+use mathlib.Core.Path.{_≡_, refl, sym, _∙_, ap₂, fun-ext}
 use mathlib.Core.Bool.{Bool, true, false, not, _&&_, _||_}
 use mathlib.Core.List.{List, [], _∷_, _++_, map, flatMap}
 use native.Mathlib.Omega.{arith}
@@ -141,17 +141,6 @@ every-both f g (x ∷ xs) t u =
     both (f x && g x) (every (λ y. f y && g y) xs)
     (both (f x) (g x) (and-l (f x) (every f xs) t) (and-l (g x) (every g xs) u))
     (every-both f g xs (and-r (f x) (every f xs) t) (and-r (g x) (every g xs) u))
-
-module _ {A : Type 0} (f : A → ℕ) where
-  pub sum-append : (xs ys : List A) → sum f (xs ++ ys) ≡ sum f xs + sum f ys
-  unfolding sum
-  sum-append [] ys = omega arith
-  sum-append (x ∷ xs) ys = omega (arith, sum-append xs ys)
-
-  pub sum-map : {B : Type 0} (g : B → A) (xs : List B) → sum f (map g xs) ≡ sum (λ b. f (g b)) xs
-  unfolding sum
-  sum-map g [] = refl
-  sum-map g (x ∷ xs) = rw (sum-map g xs)
 
 module _ {A : Type 0} (r : A → A → Bool) where
   pub each-two-map : {B : Type 0} (g : B → A) (xs : List B) → each-two r (map g xs) ≡ each-two (λ b c. r (g b) (g c)) xs

@@ -1,9 +1,8 @@
 -- What holds of every finding that a rule could give at a station, whatever its trains, holds of every finding listed there. So in a whole timetable both
 -- stations of every finding are listed: the station is one of the network's, and a good link leads to a listed one. Assumes nothing.
 use Prim.Native.Nat.{ℕ, _+_, _≤_}
-use mathlib.Core.Path.{_≡_, refl}
 use mathlib.Core.Bool.{Bool, true, false, not, _&&_}
-use mathlib.Core.List.{List, [], _∷_, _++_, map, flatMap}
+use mathlib.Core.List.{List, [], _∷_, map, flatMap}
 use native.Mathlib.Omega.{arith}
 use lib.Dec.{T, leb, eqb-refl}
 use lib.ListN.{length}
@@ -23,7 +22,7 @@ use Rattle.timetable.specs.Good.{in-good, out-good, links-good, values-good, vi
 use Rattle.timetable.specs.Rules.{met}
 use Rattle.timetable.specs.Findings.{Spanning, finding, one, by-one, by-two, unmet, own, by-out, by-in, rule-7, rule-8, rule-9, rule-10, across, spanning}
 use Rattle.timetable.proofs.Partition.{spans}
-use Rattle.theory.specs.Types.{Station, Network, Finding}
+use Rattle.theory.specs.Types.{Station, Network}
 
 -- a finding at s with the far station p
 abbrev pub spot : Station → Station → ℕ → ℕ → ℕ → Spanning

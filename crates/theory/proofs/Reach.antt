@@ -3,7 +3,7 @@
 use Prim.Native.Nat.{ℕ}
 use mathlib.Core.Path.{_≡_, refl, sym, _∙_, ap}
 use mathlib.Core.Bool.{Bool, true, false, not, _&&_, _||_}
-use mathlib.Core.List.{List, [], _∷_, _++_, map}
+use mathlib.Core.List.{List, [], _++_, map}
 use lib.Dec.{T, eqb, ltb, eqb-refl, eqb→eq, not-T}
 use Rattle.base.specs.Choice.{if_then_else_}
 use Rattle.base.specs.Lists.{every, keep}
@@ -17,9 +17,9 @@ use Rattle.timetable.specs.Tables.{Entry, Table, empty}
 use Rattle.timetable.specs.Machine.{Timetable}
 use Rattle.timetable.specs.Groups.{Grouping, in-group, divide, merge, gather}
 use Rattle.timetable.specs.Findings.{Spanning, own, by-out, by-in, rule-7, rule-8, rule-9, rule-10, across, spanning, picked, inside, group-findings, between, pair-findings}
-use Rattle.theory.specs.Types.{Station, Network, Finding}
+use Rattle.theory.specs.Types.{Station, Network}
 use Rattle.theory.specs.Statements.{own-list, pair-list}
-use Rattle.theory.proofs.Placed.{spot, anywhere, every-own, every-rule-7, every-rule-8, every-rule-9, every-rule-10, every-across}
+use Rattle.theory.proofs.Placed.{anywhere, every-own, every-rule-7, every-rule-8, every-rule-9, every-rule-10, every-across}
 
 -- g s p says whether findings at s with the far station p are kept; h says which stations are read: both ends of what is kept, and there the two timetables agree
 module _ (g : Station → Station → Bool) (h : Station → Bool) (near : (s p : Station) → T (g s p) → T (h s)) (away : (s p : Station) → T (g s p) → T (h p))

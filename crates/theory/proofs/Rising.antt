@@ -1,17 +1,16 @@
 -- The findings of a whole timetable rise strictly by their four numbers. A list put together of pieces rises if the pieces are in the order of a number that all
 -- elements of a piece have, and each piece rises by the rest: so for stations, rules, first and second in turn, since stations, trains and ranks rise.
 -- Assumes nothing.
-use Prim.Native.Nat.{ℕ, suc, _+_, _≤_, _<_}
-use mathlib.Core.Path.{_≡_, refl, sym, _∙_}
+use Prim.Native.Nat.{ℕ, suc, _+_, _≤_}
+use mathlib.Core.Path.{_≡_}
 use mathlib.Core.Bool.{Bool, true, false, not, _&&_, _||_}
 use mathlib.Core.List.{List, [], _∷_, _++_, map, flatMap, append-nil}
 use native.Mathlib.Omega.{arith}
 use lib.Dec.{T, ltb, leb, eqb, eqb-refl, eqb→eq, ltb→lt, leb→le, lt→ltb, le→leb, lit≤}
 use lib.ListN.{length}
-use Rattle.base.specs.Choice.{_if_else_}
 use Rattle.base.specs.Lists.{within, every, each-two, rising, below}
 use Rattle.base.proofs.Tests.{and-l, and-r, both, or-l, or-r, by-value, true-T}
-use Rattle.base.proofs.Counts.{each-two-head, each-two-tail, every-head, every-tail, every-append, every-true, every-each, every-flatMap, every-weaker, every-both, each-two-map, each-two-append, each-two-finer}
+use Rattle.base.proofs.Counts.{each-two-head, each-two-tail, every-append, every-true, every-each, every-flatMap, every-weaker, every-both, each-two-map, each-two-append, each-two-finer}
 use Rattle.railway.specs.declared.visit.Inward.{Inward}
 use Rattle.railway.specs.declared.visit.Outward.{Outward}
 use Rattle.railway.specs.declared.visit.InLink.{InLink}

@@ -1,13 +1,13 @@
 -- The findings of a whole timetable are shared out among the groups and their pairs, each list formed from the parts alone: the parts give the lists of the whole
 -- timetable (Reach), these together have each finding as often as the whole list (Partition, Placed), and there it stands once, since the list rises strictly
 -- (Rising). Assumes nothing.
-use Prim.Native.Nat.{ℕ, _+_, _≤_, _<_}
-use mathlib.Core.Path.{_≡_, refl, _∙_, fun-ext}
+use Prim.Native.Nat.{ℕ, _<_}
+use mathlib.Core.Path.{_≡_, fun-ext}
 use mathlib.Core.Bool.{Bool}
-use mathlib.Core.List.{List, flatMap}
+use mathlib.Core.List.{List}
 use native.Mathlib.Omega.{arith}
 use lib.Dec.{T, ltb→lt}
-use Rattle.base.specs.Lists.{any, count, pairs, below, same}
+use Rattle.base.specs.Lists.{count, below, same}
 use Rattle.base.proofs.Counts.{count-append, count-flatMap, any-count, count-any, each-two-once, same-equal, below-itself}
 use Rattle.railway.specs.Networks.{listed}
 use Rattle.timetable.specs.Machine.{Timetable}
@@ -16,7 +16,7 @@ use Rattle.timetable.specs.Good.{Whole}
 use Rattle.timetable.specs.Findings.{spanning, findings, group-findings, pair-findings}
 use Rattle.timetable.proofs.Partition.{partition}
 use Rattle.theory.specs.Types.{Station, Network, Finding}
-use Rattle.theory.specs.Statements.{GoodNetwork, Grouped, numbers, times-listed, own-list, pair-list, all-lists, Findings, FindingsAreShared}
+use Rattle.theory.specs.Statements.{Grouped, numbers, times-listed, all-lists, FindingsAreShared}
 use Rattle.theory.proofs.Placed.{placed}
 use Rattle.theory.proofs.Reach.{own-part, pair-part}
 use Rattle.theory.proofs.Rising.{findings-rise}
