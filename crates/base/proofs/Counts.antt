@@ -1,4 +1,4 @@
--- Tests and counts over lists go through `++`, `map`, `flatMap` and `keep`: each law is an induction on the list, by the cases of one test.
+-- How tests and counts over lists go through `++`, `map`, `flatMap` and pairs: each law is an induction on the list, by the cases of a test of its head.
 -- Assumes nothing.
 use Prim.Native.Nat.{ℕ, _+_, _≤_}
 use mathlib.Core.Path.{_≡_, refl, sym, _∙_, ap₂, fun-ext}
@@ -83,7 +83,8 @@ module _ {A : Type 0} (f : A → Bool) where
   keep-none [] t = refl
   keep-none (x ∷ xs) t = go (f x) t (keep-none xs)
     where
-      go : (b : Bool) → T (not b && every (λ y. not (f y)) xs) → (T (every (λ y. not (f y)) xs) → keep f xs ≡ []) → (if b then x ∷ keep f xs else keep f xs) ≡ []
+      go : (b : Bool) → T (not b && every (λ y. not (f y)) xs) → (T (every (λ y. not (f y)) xs) → keep f xs ≡ [])
+          → (if b then x ∷ keep f xs else keep f xs) ≡ []
       go true u ih = absurd u
       go false u ih = ih u
 
@@ -110,7 +111,7 @@ module _ {A : Type 0} (f : A → Bool) where
   every-map g [] = refl
   every-map g (x ∷ xs) = rw (every-map g xs)
 
-  -- a list of lists, each formed of something that passes p
+  -- lists in a row, each formed of something that passes p
   pub every-flatMap : {B : Type 0} (g : B → List A) (p : B → Bool) → ((b : B) → T (p b) → T (every f (g b)))
       → (xs : List B) → T (every p xs) → T (every f (flatMap g xs))
   unfolding every flatMap
@@ -132,15 +133,14 @@ module _ {A : Type 0} (f : A → Bool) where
 pub every-weaker : {A : Type 0} (f g : A → Bool) → ((x : A) → T (f x) → T (g x)) → (xs : List A) → T (every f xs) → T (every g xs)
 unfolding every
 every-weaker f g h [] t = tt
-every-weaker f g h (x ∷ xs) t = both (g x) (every g xs) (h x (and-l (f x) (every f xs) t)) (every-weaker f g h xs (and-r (f x) (every f xs) t))
+every-weaker f g h (x ∷ xs) t = both (g x) (every g xs) (h x (every-head f x xs t)) (every-weaker f g h xs (every-tail f x xs t))
 
 pub every-both : {A : Type 0} (f g : A → Bool) (xs : List A) → T (every f xs) → T (every g xs) → T (every (λ x. f x && g x) xs)
 unfolding every
 every-both f g [] t u = tt
 every-both f g (x ∷ xs) t u =
     both (f x && g x) (every (λ y. f y && g y) xs)
-    (both (f x) (g x) (and-l (f x) (every f xs) t) (and-l (g x) (every g xs) u))
-    (every-both f g xs (and-r (f x) (every f xs) t) (and-r (g x) (every g xs) u))
+    (both (f x) (g x) (every-head f x xs t) (every-head g x xs u)) (every-both f g xs (every-tail f x xs t) (every-tail g x xs u))
 
 module _ {A : Type 0} (r : A → A → Bool) where
   pub each-two-map : {B : Type 0} (g : B → A) (xs : List B) → each-two r (map g xs) ≡ each-two (λ b c. r (g b) (g c)) xs
@@ -166,7 +166,7 @@ module _ {A : Type 0} (r : A → A → Bool) where
       (every-append (r x) xs ys (each-two-head x xs s) (every-weaker q (r x) (λ y. h x y (every-head p x xs u)) ys v))
       (each-two-append p q h xs ys (each-two-tail x xs s) t (every-tail p x xs u) v)
 
-  -- of what passes q no element may stand before another: there is one at most
+  -- of two elements that pass q neither may stand before the other: there is one at most
   pub each-two-once : (q : A → Bool) → ((x y : A) → T (q x) → T (q y) → ¬ T (r x y)) → (xs : List A) → T (each-two r xs) → count q xs ≤ 1
   unfolding each-two count
   each-two-once q h [] t = omega arith
@@ -179,16 +179,16 @@ module _ {A : Type 0} (r : A → A → Bool) where
       go true e ih = omega (arith, none (rw e tt) (each-two-head x xs t))
       go false e ih = omega arith
 
--- a finer order, of elements that all pass p
-pub each-two-finer : {A : Type 0} (r s : A → A → Bool) (p : A → Bool) → ((x y : A) → T (p x) → T (p y) → T (r x y) → T (s x y))
+-- another order, which follows from the first where both elements pass p
+pub each-two-weaker : {A : Type 0} (r s : A → A → Bool) (p : A → Bool) → ((x y : A) → T (p x) → T (p y) → T (r x y) → T (s x y))
     → (xs : List A) → T (every p xs) → T (each-two r xs) → T (each-two s xs)
 unfolding each-two every
-each-two-finer r s p h [] t u = tt
-each-two-finer r s p h (x ∷ xs) t u =
+each-two-weaker r s p h [] t u = tt
+each-two-weaker r s p h (x ∷ xs) t u =
     both (every (s x) xs) (each-two s xs)
     (every-weaker (λ y. p y && r x y) (s x) (λ y v. h x y (every-head p x xs t) (and-l (p y) (r x y) v) (and-r (p y) (r x y) v)) xs
     (every-both p (r x) xs (every-tail p x xs t) (each-two-head r x xs u)))
-    (each-two-finer r s p h xs (every-tail p x xs t) (each-two-tail r x xs u))
+    (each-two-weaker r s p h xs (every-tail p x xs t) (each-two-tail r x xs u))
 
 pub count-same : {A : Type 0} (f g : A → Bool) → ((x : A) → f x ≡ g x) → (xs : List A) → count f xs ≡ count g xs
 count-same f g e xs = rw (fun-ext e)
@@ -241,6 +241,7 @@ module _ {A : Type 0} (x y : A → Bool) where
       go false true u v ih = absurd (omega arith)
       go false false u v ih = omega (arith, ih (omega arith) (omega arith))
 
+  -- how often the two tests meet
   met : List A → ℕ
   met gs = count together gs + count apart (pairs gs)
 

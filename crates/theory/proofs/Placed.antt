@@ -1,4 +1,4 @@
--- What holds of every finding that a rule could give at a station, whatever its trains, holds of every finding listed there. So in a whole timetable both
+-- A test that every finding of a rule at a station would pass, whatever its trains, is passed by every finding listed there. So in a whole timetable both
 -- stations of every finding are listed: the station is one of the network's, and a good link leads to a listed one. Assumes nothing.
 use Prim.Native.Nat.{ℕ, _+_, _≤_}
 use mathlib.Core.Bool.{Bool, true, false, not, _&&_}
@@ -54,12 +54,14 @@ module _ (q : Spanning → Bool) where
   every-ones f s p rule a c h bs =
       every-each q _ (λ b. every-one (f b) s p rule (a b) (c b) (h b)) bs
 
-  pub every-by-one : (rule : ℕ) (f : Entry → Bool) (s : Station) → ((a c : ℕ) → T (q (spot s s rule a c))) → (es : List Entry) → T (every q (by-one rule f s es))
+  pub every-by-one : (rule : ℕ) (f : Entry → Bool) (s : Station) → ((a c : ℕ) → T (q (spot s s rule a c)))
+      → (es : List Entry) → T (every q (by-one rule f s es))
   unfolding by-one
   every-by-one rule f s h es = every-ones f s s rule (λ t. t .train .0) (λ t. 0) (λ t. h (t .train .0) 0) es
 
   -- p holds of the visits
-  pub every-by-two : (p : Entry → Bool) (rule : ℕ) (f : Visit → Visit → Bool) (s : Station) → ((t : Entry) → T (p t) → (c : ℕ) → T (q (spot s s rule (t .train .0) c)))
+  pub every-by-two : (p : Entry → Bool) (rule : ℕ) (f : Visit → Visit → Bool) (s : Station)
+      → ((t : Entry) → T (p t) → (c : ℕ) → T (q (spot s s rule (t .train .0) c)))
       → (es : List Entry) → T (every p es) → T (every q (by-two rule f s es))
   unfolding by-two
   every-by-two p rule f s h [] v = every-none
@@ -155,7 +157,8 @@ out-listed n s o t =
 entry-leads : (n : Network) (s : Station) (e : Entry) → T (entry-good n s e) → T (leads (listed n) e)
 unfolding leads entry-good visit-good links-good
 entry-leads n s e t =
-    let links : T (links-good n s (e .visit)) = and-r (values-good n s (e .visit)) (links-good n s (e .visit)) (and-r (train-ok (e .train)) (visit-good n s (e .visit)) t) in
+    let visit : T (visit-good n s (e .visit)) = and-r (train-ok (e .train)) (visit-good n s (e .visit)) t in
+    let links : T (links-good n s (e .visit)) = and-r (values-good n s (e .visit)) (links-good n s (e .visit)) visit in
     let comes : T (every (in-good n s) (ins (e .visit))) = and-l (every (in-good n s) (ins (e .visit))) (every (out-good n s) (outs (e .visit))) links in
     let goes : T (every (out-good n s) (outs (e .visit))) = and-r (every (in-good n s) (ins (e .visit))) (every (out-good n s) (outs (e .visit))) links in
     both (leads-in (listed n) e) (leads-out (listed n) e)
@@ -165,8 +168,9 @@ entry-leads n s e t =
 table-leads : (n : Network) (s : Station) (tab : Table) → T (table-good n s tab) → T (every (leads (listed n)) (tab .visits))
 unfolding table-good visits-good
 table-leads n s tab t =
-    every-weaker (entry-good n s) (leads (listed n)) (entry-leads n s) (tab .visits)
-    (and-r (leb (length (tab .visits)) 24 && rising (map (λ e. e .train .0) (tab .visits))) (every (entry-good n s) (tab .visits)) (and-l (visits-good n s (tab .visits)) (relations-good (tab .relations)) t))
+    let visits : T (visits-good n s (tab .visits)) = and-l (visits-good n s (tab .visits)) (relations-good (tab .relations)) t in
+    let fits : Bool = leb (length (tab .visits)) 24 && rising (map (λ e. e .train .0) (tab .visits)) in
+    every-weaker (entry-good n s) (leads (listed n)) (entry-leads n s) (tab .visits) (and-r fits (every (entry-good n s) (tab .visits)) visits)
 
 -- every station of the network is listed
 all-listed : (n : Network) → T (every (listed n) (stations-of n))

@@ -16,12 +16,13 @@ use Rattle.timetable.specs.Visits.{ins, outs}
 use Rattle.timetable.specs.Tables.{Entry, Table, empty}
 use Rattle.timetable.specs.Machine.{Timetable}
 use Rattle.timetable.specs.Groups.{Grouping, in-group, divide, merge, gather}
-use Rattle.timetable.specs.Findings.{Spanning, own, by-out, by-in, rule-7, rule-8, rule-9, rule-10, across, spanning, picked, inside, group-findings, between, pair-findings}
+use Rattle.timetable.specs.Findings.{Spanning, own, by-out, by-in, rule-7, rule-8, rule-9, rule-10, across, spanning, picked}
+use Rattle.timetable.specs.Findings.{inside, group-findings, between, pair-findings}
 use Rattle.theory.specs.Types.{Station, Network}
 use Rattle.theory.specs.Statements.{own-list, pair-list}
 use Rattle.theory.proofs.Placed.{anywhere, every-own, every-rule-7, every-rule-8, every-rule-9, every-rule-10, every-across}
 
--- g s p says whether findings at s with the far station p are kept; h says which stations are read: both ends of what is kept, and there the two timetables agree
+-- g s p says whether findings at s with the far station p are kept; h says which stations are read: both ends of what is kept. There the timetables agree
 module _ (g : Station → Station → Bool) (h : Station → Bool) (near : (s p : Station) → T (g s p) → T (h s)) (away : (s p : Station) → T (g s p) → T (h p))
     (m m′ : Timetable) (agree : (k : Station) → T (h k) → m k ≡ m′ k) where
   abbrev kept : Spanning → Bool
@@ -31,7 +32,8 @@ module _ (g : Station → Station → Bool) (h : Station → Bool) (near : (s p 
   left-out x = not (kept x)
 
   -- a list of the table at p, whose findings are at s with the far station p
-  same-far : (s p : Station) (f : Table → List Spanning) → (T (not (g s p)) → (tab : Table) → T (every left-out (f tab))) → keep kept (f (m p)) ≡ keep kept (f (m′ p))
+  same-far : (s p : Station) (f : Table → List Spanning) → (T (not (g s p)) → (tab : Table) → T (every left-out (f tab)))
+      → keep kept (f (m p)) ≡ keep kept (f (m′ p))
   same-far s p f none =
       by-value (g s p)
       (λ e. rw (agree p (away s p (rw e tt))))
@@ -83,7 +85,8 @@ module _ (g : Station → Station → Bool) (h : Station → Bool) (near : (s p 
   same-kept n = keep-flatMap kept _ _ (same-at n) (stations-of n)
 
 -- a group's findings are those of any timetable that agrees on the group
-group-local : (n : Network) (γ : Grouping) (g : ℕ) (m m′ : Timetable) → ((k : Station) → T (in-group γ g k) → m k ≡ m′ k) → group-findings n γ m g ≡ group-findings n γ m′ g
+group-local : (n : Network) (γ : Grouping) (g : ℕ) (m m′ : Timetable) → ((k : Station) → T (in-group γ g k) → m k ≡ m′ k)
+    → group-findings n γ m g ≡ group-findings n γ m′ g
 unfolding group-findings picked inside
 group-local n γ g m m′ agree =
     ap (map (λ (x : Spanning). x .found))
@@ -128,7 +131,9 @@ gathered : (γ : Grouping) (p : ℕ → Bool) (m : Timetable) (g : ℕ) (k : Sta
 unfolding gather merge in-group
 gathered γ p m g k t u =
     let e : g ≡ γ k = eqb→eq g (γ k) (and-r (ltb 0 g) (eqb g (γ k)) u) in
-    rw (← e) (if-yes (p g) (if ltb 0 g then divide γ m g k else empty) empty t ∙ if-yes (ltb 0 g) (divide γ m g k) empty (and-l (ltb 0 g) (eqb g (γ k)) u) ∙ part γ m g k u)
+    rw (← e)
+    (if-yes (p g) (if ltb 0 g then divide γ m g k else empty) empty t
+    ∙ if-yes (ltb 0 g) (divide γ m g k) empty (and-l (ltb 0 g) (eqb g (γ k)) u) ∙ part γ m g k u)
 
 pub pair-part : (n : Network) (γ : Grouping) (m : Timetable) (gh : ℕ × ℕ) → pair-list n γ (divide γ m) gh ≡ pair-findings n γ m (gh .0) (gh .1)
 unfolding pair-list

@@ -1,6 +1,6 @@
--- The findings of a whole timetable rise strictly by their four numbers. A list put together of pieces rises if the pieces are in the order of a number that all
--- elements of a piece have, and each piece rises by the rest: so for stations, rules, first and second in turn, since stations, trains and ranks rise.
--- Assumes nothing.
+-- The findings of a whole timetable rise strictly by their four numbers. A list put together of pieces rises if the pieces are in the order of a number that
+-- all elements of a piece have, and each piece rises by the numbers behind it: so for station, rule, first and second in turn, since stations, trains and
+-- ranks rise. Assumes nothing.
 use Prim.Native.Nat.{ℕ, suc, _+_, _≤_}
 use mathlib.Core.Path.{_≡_}
 use mathlib.Core.Bool.{Bool, true, false, not, _&&_, _||_}
@@ -10,7 +10,8 @@ use lib.Dec.{T, ltb, leb, eqb, eqb-refl, eqb→eq, ltb→lt, leb→le, lt→ltb,
 use lib.ListN.{length}
 use Rattle.base.specs.Lists.{within, every, each-two, rising, below}
 use Rattle.base.proofs.Tests.{and-l, and-r, both, or-l, or-r, by-value, true-T}
-use Rattle.base.proofs.Counts.{each-two-head, each-two-tail, every-append, every-true, every-each, every-flatMap, every-weaker, every-both, each-two-map, each-two-append, each-two-finer}
+use Rattle.base.proofs.Counts.{every-append, every-true, every-each, every-flatMap, every-weaker, every-both}
+use Rattle.base.proofs.Counts.{each-two-head, each-two-tail, each-two-map, each-two-append, each-two-weaker}
 use Rattle.railway.specs.declared.visit.Inward.{Inward}
 use Rattle.railway.specs.declared.visit.Outward.{Outward}
 use Rattle.railway.specs.declared.visit.InLink.{InLink}
@@ -29,7 +30,11 @@ use Rattle.timetable.specs.Findings.{across, spanning, findings}
 use Rattle.theory.specs.Types.{Station, Network, Finding}
 use Rattle.theory.specs.Statements.{GoodNetwork, numbers}
 use Rattle.theory.proofs.Placed.{spot, anywhere, every-one, every-ones, every-by-one, every-by-two, every-unmet, every-own}
-use Rattle.theory.proofs.Placed.{every-rule-7, every-rule-8, every-rule-9, every-rule-10, every-by-out, every-by-in, every-across}
+use Rattle.theory.proofs.Placed.{every-rule-7, every-rule-8, every-rule-9, every-rule-10, every-across}
+
+-- the number of x is j
+abbrev has : {A : Type 0} → (A → ℕ) → ℕ → A → Bool
+has κ j x = eqb (κ x) j
 
 -- by the number first, then by the order r
 unfoldable pub then-by : {A : Type 0} → (A → ℕ) → (A → A → Bool) → A → A → Bool
@@ -41,10 +46,10 @@ module _ {A : Type 0} (κ : A → ℕ) (r : A → A → Bool) where
   none = tt
 
   -- elements that all have the number j
-  level : (j : ℕ) (xs : List A) → T (every (λ x. eqb (κ x) j) xs) → T (each-two r xs) → T (each-two (then-by κ r) xs)
+  level : (j : ℕ) (xs : List A) → T (every (has κ j) xs) → T (each-two r xs) → T (each-two (then-by κ r) xs)
   unfolding then-by
   level j xs =
-      each-two-finer r (then-by κ r) (λ x. eqb (κ x) j)
+      each-two-weaker r (then-by κ r) (has κ j)
       (λ x y t u v. or-r (ltb (κ x) (κ y)) (eqb (κ x) (κ y) && r x y)
       (both (eqb (κ x) (κ y)) (r x y) (rw (eqb→eq (κ x) j t, eqb→eq (κ y) j u) (eqb-refl j)) v)) xs
 
@@ -56,21 +61,21 @@ module _ {A : Type 0} (κ : A → ℕ) (r : A → A → Bool) where
       each-two-append (then-by κ r) (λ x. ltb (κ x) j) (λ y. leb j (κ y))
       (λ x y a b. or-l (ltb (κ x) (κ y)) (eqb (κ x) (κ y) && r x y) (lt→ltb (κ x) (κ y) (omega (arith, ltb→lt (κ x) j a, leb→le j (κ y) b)))) xs ys v w t u
 
-  all-below : (j : ℕ) (xs : List A) → T (every (λ x. eqb (κ x) j) xs) → T (every (λ x. ltb (κ x) (suc j)) xs)
-  all-below j = every-weaker (λ x. eqb (κ x) j) (λ x. ltb (κ x) (suc j)) (λ x t. lt→ltb (κ x) (suc j) (omega (arith, eqb→eq (κ x) j t)))
+  all-below : (j : ℕ) (xs : List A) → T (every (has κ j) xs) → T (every (λ x. ltb (κ x) (suc j)) xs)
+  all-below j = every-weaker (has κ j) (λ x. ltb (κ x) (suc j)) (λ x t. lt→ltb (κ x) (suc j) (omega (arith, eqb→eq (κ x) j t)))
 
-  all-from : (i j : ℕ) → i ≤ j → (xs : List A) → T (every (λ x. eqb (κ x) j) xs) → T (every (λ x. leb i (κ x)) xs)
-  all-from i j h = every-weaker (λ x. eqb (κ x) j) (λ x. leb i (κ x)) (λ x t. le→leb i (κ x) (omega (arith, eqb→eq (κ x) j t)))
+  all-from : (i j : ℕ) → i ≤ j → (xs : List A) → T (every (has κ j) xs) → T (every (λ x. leb i (κ x)) xs)
+  all-from i j h = every-weaker (has κ j) (λ x. leb i (κ x)) (λ x t. le→leb i (κ x) (omega (arith, eqb→eq (κ x) j t)))
 
   -- pieces in the order of their numbers
-  flat : {B : Type 0} (key : B → ℕ) (f : B → List A) → ((b : B) → T (every (λ x. eqb (κ x) (key b)) (f b))) → ((b : B) → T (each-two r (f b)))
+  flat : {B : Type 0} (key : B → ℕ) (f : B → List A) → ((b : B) → T (every (has κ (key b)) (f b))) → ((b : B) → T (each-two r (f b)))
       → (bs : List B) → T (each-two (λ b c. ltb (key b) (key c)) bs) → T (each-two (then-by κ r) (flatMap f bs))
   unfolding flatMap
   flat key f same rises [] t = none
   flat key f same rises (b ∷ bs) t =
       join (suc (key b)) (f b) (flatMap f bs) (all-below (key b) (f b) (same b))
-      (every-flatMap (λ x. leb (suc (key b)) (κ x)) f (λ c. ltb (key b) (key c)) (λ c u. all-from (suc (key b)) (key c) (ltb→lt (key b) (key c) u) (f c) (same c))
-      bs (each-two-head (λ c d. ltb (key c) (key d)) b bs t))
+      (every-flatMap (λ x. leb (suc (key b)) (κ x)) f (λ c. ltb (key b) (key c))
+      (λ c u. all-from (suc (key b)) (key c) (ltb→lt (key b) (key c) u) (f c) (same c)) bs (each-two-head (λ c d. ltb (key c) (key d)) b bs t))
       (level (key b) (f b) (same b) (rises b))
       (flat key f same rises bs (each-two-tail (λ c d. ltb (key c) (key d)) b bs t))
 
@@ -80,7 +85,7 @@ record Ranged {A : Type 0} (κ : A → ℕ) (r : A → A → Bool) (lo hi : ℕ)
   ranged : T (every (λ x. leb lo (κ x) && ltb (κ x) hi) xs)
 
 module _ {A : Type 0} (κ : A → ℕ) (r : A → A → Bool) where
-  ranged-one : (j : ℕ) (xs : List A) → T (every (λ x. eqb (κ x) j) xs) → T (each-two r xs) → Ranged κ r j (suc j) xs
+  ranged-one : (j : ℕ) (xs : List A) → T (every (has κ j) xs) → T (each-two r xs) → Ranged κ r j (suc j) xs
   ranged-one j xs t u = record {
     rises = level κ r j xs t u;
     ranged = every-both (λ x. leb j (κ x)) (λ x. ltb (κ x) (suc j)) xs (all-from κ r j j (omega arith) xs t) (all-below κ r j xs t);
@@ -145,14 +150,14 @@ seconds-rise : (f : Entry → Bool) (s p : Station) (k a : ℕ) (us : List Entry
     → T (each-two by-second (flatMap (λ u. one (f u) p (finding s k a (u .train .0))) us))
 seconds-rise f s p k a =
     flat second (λ x y. false) (λ u. u .train .0) (λ u. one (f u) p (finding s k a (u .train .0)))
-    (λ u. every-one (λ x. eqb (second x) (u .train .0)) (f u) s p k a (u .train .0) (eqb-refl (u .train .0)))
+    (λ u. every-one (has second (u .train .0)) (f u) s p k a (u .train .0) (eqb-refl (u .train .0)))
     (λ u. one-rises (λ x y. false) (f u) p (finding s k a (u .train .0)))
 
 by-one-rises : (k : ℕ) (f : Entry → Bool) (s : Station) (es : List Entry) → Trains-rise es → T (each-two by-first (by-one k f s es))
 unfolding by-one
 by-one-rises k f s =
     flat first by-second (λ t. t .train .0) (λ t. one (f t) s (finding s k (t .train .0) 0))
-    (λ t. every-one (λ x. eqb (first x) (t .train .0)) (f t) s s k (t .train .0) 0 (eqb-refl (t .train .0)))
+    (λ t. every-one (has first (t .train .0)) (f t) s s k (t .train .0) 0 (eqb-refl (t .train .0)))
     (λ t. one-rises by-second (f t) s (finding s k (t .train .0) 0))
 
 by-two-rises : (k : ℕ) (f : Visit → Visit → Bool) (s : Station) (es : List Entry) → Trains-rise es → T (each-two by-first (by-two k f s es))
@@ -160,8 +165,8 @@ unfolding by-two
 by-two-rises k f s [] h = none first by-second
 by-two-rises k f s (t ∷ us) h =
     let rest : Trains-rise us = each-two-tail (λ u w. ltb (u .train .0) (w .train .0)) t us h in
-    let same : T (every (λ x. eqb (first x) (t .train .0)) (flatMap (λ u. one (f (t .visit) (u .visit)) s (finding s k (t .train .0) (u .train .0))) us))
-    = every-ones (λ x. eqb (first x) (t .train .0)) (λ u. f (t .visit) (u .visit)) s s k (λ u. t .train .0) (λ u. u .train .0) (λ u. eqb-refl (t .train .0)) us in
+    let same : T (every (has first (t .train .0)) (flatMap (λ u. one (f (t .visit) (u .visit)) s (finding s k (t .train .0) (u .train .0))) us)) =
+    every-ones (has first (t .train .0)) (λ u. f (t .visit) (u .visit)) s s k (λ u. t .train .0) (λ u. u .train .0) (λ u. eqb-refl (t .train .0)) us in
     join first by-second (suc (t .train .0)) _ (by-two k f s us)
     (all-below first by-second (t .train .0) _ same)
     (every-by-two (λ x. leb (suc (t .train .0)) (first x)) (λ u. ltb (t .train .0) (u .train .0)) k f s (λ u v c. v) us
@@ -179,62 +184,53 @@ unmet-rises tab s k (r ∷ rs) =
     (one-rises by-first (not (met tab r)) s (finding s 4 k 0))
     (unmet-rises tab s (k + 1) rs)
 
--- a visit has one link or none, so what its links give rises where what each gives does
+-- a visit has one link or none of each kind
 
-outs-rise : (r : Spanning → Spanning → Bool) (f : Outward → List Spanning) → ((o : Outward) → T (each-two r (f o))) → (v : Visit) → T (each-two r (flatMap f (outs v)))
-unfolding outs flatMap each-two
-outs-rise r f h v = go (v .outward)
+outs-few : (v : Visit) → length (outs v) ≤ 1
+unfolding outs
+outs-few v = go (v .outward)
   where
-    go : (l : OutLink) → T (each-two r (flatMap f (elim l [ OutLink.Nothing ↦ [] | OutLink.To o ↦ o ∷ [] ])))
-    go OutLink.Nothing = tt
-    go (OutLink.To o) = rw (append-nil (f o)) (h o)
+    go : (l : OutLink) → length {A = Outward} (elim l [ OutLink.Nothing ↦ [] | OutLink.To o ↦ o ∷ [] ]) ≤ 1
+    go OutLink.Nothing = lit≤ tt
+    go (OutLink.To o) = lit≤ tt
 
-ins-rise : (r : Spanning → Spanning → Bool) (f : Inward → List Spanning) → ((i : Inward) → T (each-two r (f i))) → (v : Visit) → T (each-two r (flatMap f (ins v)))
-unfolding ins flatMap each-two
-ins-rise r f h v = go (v .inward)
+ins-few : (v : Visit) → length (ins v) ≤ 1
+unfolding ins
+ins-few v = go (v .inward)
   where
-    go : (l : InLink) → T (each-two r (flatMap f (elim l [ InLink.Nothing ↦ [] | InLink.From i ↦ i ∷ [] ])))
-    go InLink.Nothing = tt
-    go (InLink.From i) = rw (append-nil (f i)) (h i)
+    go : (l : InLink) → length {A = Inward} (elim l [ InLink.Nothing ↦ [] | InLink.From i ↦ i ∷ [] ]) ≤ 1
+    go InLink.Nothing = lit≤ tt
+    go (InLink.From i) = lit≤ tt
 
-module _ (m : Timetable) where
-  by-out-rises : (f : Table → Entry → Outward → List Spanning) → ((tab : Table) (t : Entry) (o : Outward) → T (every (λ x. eqb (first x) (t .train .0)) (f tab t o)))
-      → ((t : Entry) (o : Outward) → T (each-two by-second (f (m (o .station)) t o))) → (es : List Entry) → Trains-rise es → T (each-two by-first (by-out f m es))
-  unfolding by-out
-  by-out-rises f same rises =
-      flat first by-second (λ t. t .train .0) (λ t. flatMap (λ o. f (m (o .station)) t o) (outs (t .visit)))
-      (λ t. every-each (λ x. eqb (first x) (t .train .0)) (λ o. f (m (o .station)) t o) (λ o. same (m (o .station)) t o) (outs (t .visit)))
-      (λ t. outs-rise by-second (λ o. f (m (o .station)) t o) (rises t) (t .visit))
-
-  by-in-rises : (f : Table → Entry → Inward → List Spanning) → ((tab : Table) (t : Entry) (i : Inward) → T (every (λ x. eqb (first x) (t .train .0)) (f tab t i)))
-      → ((t : Entry) (i : Inward) → T (each-two by-second (f (m (i .station)) t i))) → (es : List Entry) → Trains-rise es → T (each-two by-first (by-in f m es))
-  unfolding by-in
-  by-in-rises f same rises =
-      flat first by-second (λ t. t .train .0) (λ t. flatMap (λ i. f (m (i .station)) t i) (ins (t .visit)))
-      (λ t. every-each (λ x. eqb (first x) (t .train .0)) (λ i. f (m (i .station)) t i) (λ i. same (m (i .station)) t i) (ins (t .visit)))
-      (λ t. ins-rise by-second (λ i. f (m (i .station)) t i) (rises t) (t .visit))
+few-rise : (r : Spanning → Spanning → Bool) {L : Type 0} (f : L → List Spanning) → ((l : L) → T (each-two r (f l)))
+    → (ls : List L) → length ls ≤ 1 → T (each-two r (flatMap f ls))
+unfolding flatMap each-two
+few-rise r f h [] few = tt
+few-rise r f h (l ∷ []) few = rw (append-nil (f l)) (h l)
+few-rise r f h (l ∷ k ∷ ls) few = absurd (omega arith)
 
 -- at one station: each rule's list rises, and all of it has the rule's number
 
-step : (k hi : ℕ) → suc k ≤ hi → {xs ys : List Spanning} → Ranged rule by-first k (suc k) xs → Ranged rule by-first (suc k) hi ys → Ranged rule by-first k hi (xs ++ ys)
+step : (k hi : ℕ) → suc k ≤ hi → {xs ys : List Spanning}
+    → Ranged rule by-first k (suc k) xs → Ranged rule by-first (suc k) hi ys → Ranged rule by-first k hi (xs ++ ys)
 step k hi g p q = ranged-append rule by-first k (suc k) hi (omega arith) g _ _ p q
 
 module _ (n : Network) (s : Station) (here : Table) (h : Trains-rise (here .visits)) where
   singles : (k : ℕ) (f : Entry → Bool) → Ranged rule by-first k (suc k) (by-one k f s (here .visits))
   singles k f =
       ranged-one rule by-first k (by-one k f s (here .visits))
-      (every-by-one (λ x. eqb (rule x) k) k f s (λ a c. eqb-refl k) (here .visits)) (by-one-rises k f s (here .visits) h)
+      (every-by-one (has rule k) k f s (λ a c. eqb-refl k) (here .visits)) (by-one-rises k f s (here .visits) h)
 
   doubles : (k : ℕ) (f : Visit → Visit → Bool) → Ranged rule by-first k (suc k) (by-two k f s (here .visits))
   doubles k f =
       ranged-one rule by-first k (by-two k f s (here .visits))
-      (every-by-two (λ x. eqb (rule x) k) (λ t. true) k f s (λ t u c. eqb-refl k) (here .visits) (every-true (here .visits)))
+      (every-by-two (has rule k) (λ t. true) k f s (λ t u c. eqb-refl k) (here .visits) (every-true (here .visits)))
       (by-two-rises k f s (here .visits) h)
 
   ranks : Ranged rule by-first 4 5 (unmet here s 1 (here .relations))
   ranks =
       ranged-one rule by-first 4 (unmet here s 1 (here .relations))
-      (every-unmet (λ x. eqb (rule x) 4) here s 1 (λ a g. tt) (here .relations)) (unmet-rises here s 1 (here .relations))
+      (every-unmet (has rule 4) here s 1 (λ a g. tt) (here .relations)) (unmet-rises here s 1 (here .relations))
 
   own-ranged : Ranged rule by-first 1 7 (own n s here)
   unfolding own
@@ -242,30 +238,32 @@ module _ (n : Network) (s : Station) (here : Table) (h : Trains-rise (here .visi
       step 1 7 (lit≤ tt) (singles 1 _) (step 2 7 (lit≤ tt) (doubles 2 _) (step 3 7 (lit≤ tt) (doubles 3 _)
       (step 4 7 (lit≤ tt) ranks (step 5 7 (lit≤ tt) (singles 5 _) (singles 6 _)))))
 
-  module _ (m : Timetable) where
-    outward : (k : ℕ) (f : Table → Entry → Outward → List Spanning)
-        → ((q : Spanning → Bool) (tab : Table) (t : Entry) (o : Outward) → ((c : ℕ) → T (q (spot s (o .station) k (t .train .0) c))) → T (every q (f tab t o)))
-        → ((t : Entry) (o : Outward) → T (each-two by-second (f (m (o .station)) t o))) → Ranged rule by-first k (suc k) (by-out f m (here .visits))
-    outward k f all rises =
-        ranged-one rule by-first k (by-out f m (here .visits))
-        (every-by-out (λ x. eqb (rule x) k) (λ p. true) f (λ tab t o v. all (λ x. eqb (rule x) k) tab t o (λ c. eqb-refl k)) m (here .visits) (anywhere (here .visits)))
-        (by-out-rises m f (λ tab t o. all (λ x. eqb (first x) (t .train .0)) tab t o (λ c. eqb-refl (t .train .0))) rises (here .visits) h)
+  -- a rule over the links of the visits, of which each has one or none
+  linked : {L : Type 0} (links : Visit → List L) → ((v : Visit) → length (links v) ≤ 1) → (far : L → Station) (k : ℕ) (f : Entry → L → List Spanning)
+      → ((q : Spanning → Bool) (t : Entry) (l : L) → ((c : ℕ) → T (q (spot s (far l) k (t .train .0) c))) → T (every q (f t l)))
+      → ((t : Entry) (l : L) → T (each-two by-second (f t l)))
+      → Ranged rule by-first k (suc k) (flatMap (λ t. flatMap (f t) (links (t .visit))) (here .visits))
+  linked links few far k f all rises =
+      ranged-one rule by-first k (flatMap (λ t. flatMap (f t) (links (t .visit))) (here .visits))
+      (every-each (has rule k) _ (λ t. every-each (has rule k) (f t) (λ l. all (has rule k) t l (λ c. eqb-refl k)) (links (t .visit))) (here .visits))
+      (flat first by-second (λ t. t .train .0) (λ t. flatMap (f t) (links (t .visit)))
+      (λ t. every-each (has first (t .train .0)) (f t) (λ l. all (has first (t .train .0)) t l (λ c. eqb-refl (t .train .0))) (links (t .visit)))
+      (λ t. few-rise by-second (f t) (rises t) (links (t .visit)) (few (t .visit))) (here .visits) h)
 
-    inward : (k : ℕ) (f : Table → Entry → Inward → List Spanning)
-        → ((q : Spanning → Bool) (tab : Table) (t : Entry) (i : Inward) → ((c : ℕ) → T (q (spot s (i .station) k (t .train .0) c))) → T (every q (f tab t i)))
-        → ((t : Entry) (i : Inward) → T (each-two by-second (f (m (i .station)) t i))) → Ranged rule by-first k (suc k) (by-in f m (here .visits))
-    inward k f all rises =
-        ranged-one rule by-first k (by-in f m (here .visits))
-        (every-by-in (λ x. eqb (rule x) k) (λ p. true) f (λ tab t i v. all (λ x. eqb (rule x) k) tab t i (λ c. eqb-refl k)) m (here .visits) (anywhere (here .visits)))
-        (by-in-rises m f (λ tab t i. all (λ x. eqb (first x) (t .train .0)) tab t i (λ c. eqb-refl (t .train .0))) rises (here .visits) h)
-
-    across-ranged : ((k : Station) → Trains-rise (m k .visits)) → Ranged rule by-first 7 11 (across n m s here)
-    unfolding across rule-7 rule-8 rule-9 rule-10
-    across-ranged far =
-        step 7 11 (lit≤ tt) (outward 7 (rule-7 s) (λ q. every-rule-7 q s) (λ t o. one-rises by-second _ (o .station) _))
-        (step 8 11 (lit≤ tt) (inward 8 (rule-8 s) (λ q. every-rule-8 q s) (λ t i. one-rises by-second _ (i .station) _))
-        (step 9 11 (lit≤ tt) (outward 9 (rule-9 s) (λ q. every-rule-9 q s) (λ t o. one-rises by-second _ (o .station) _))
-        (outward 10 (rule-10 n s here) (λ q. every-rule-10 q n s here) (λ t o. seconds-rise _ s (o .station) 10 (t .train .0) (m (o .station) .visits) (far (o .station))))))
+  across-ranged : (m : Timetable) → ((k : Station) → Trains-rise (m k .visits)) → Ranged rule by-first 7 11 (across n m s here)
+  unfolding across by-out by-in rule-7 rule-8 rule-9 rule-10
+  across-ranged m rise =
+      step 7 11 (lit≤ tt)
+      (linked outs outs-few (λ o. o .station) 7 (λ t o. rule-7 s (m (o .station)) t o) (λ q t o. every-rule-7 q s (m (o .station)) t o)
+      (λ t o. one-rises by-second _ (o .station) _))
+      (step 8 11 (lit≤ tt)
+      (linked ins ins-few (λ i. i .station) 8 (λ t i. rule-8 s (m (i .station)) t i) (λ q t i. every-rule-8 q s (m (i .station)) t i)
+      (λ t i. one-rises by-second _ (i .station) _))
+      (step 9 11 (lit≤ tt)
+      (linked outs outs-few (λ o. o .station) 9 (λ t o. rule-9 s (m (o .station)) t o) (λ q t o. every-rule-9 q s (m (o .station)) t o)
+      (λ t o. one-rises by-second _ (o .station) _))
+      (linked outs outs-few (λ o. o .station) 10 (λ t o. rule-10 n s here (m (o .station)) t o) (λ q t o. every-rule-10 q n s here (m (o .station)) t o)
+      (λ t o. seconds-rise _ s (o .station) 10 (t .train .0) (m (o .station) .visits) (rise (o .station))))))
 
 -- in a whole timetable the trains of every station rise
 
@@ -274,7 +272,8 @@ unfolding table-good visits-good rising
 good-rise n k tab t =
     let trains : List ℕ = map (λ e. e .train .0) (tab .visits) in
     let good : T (visits-good n k (tab .visits)) = and-l (visits-good n k (tab .visits)) (relations-good (tab .relations)) t in
-    rw each-two-map at (and-r (leb (length (tab .visits)) 24) (each-two ltb trains) (and-l (leb (length (tab .visits)) 24 && each-two ltb trains) (every (entry-good n k) (tab .visits)) good))
+    let fits : Bool = leb (length (tab .visits)) 24 in
+    rw each-two-map at (and-r fits (each-two ltb trains) (and-l (fits && each-two ltb trains) (every (entry-good n k) (tab .visits)) good))
 
 empty-rise : Trains-rise (empty .visits)
 unfolding empty each-two
@@ -286,7 +285,7 @@ trains-rise n m w k =
 
 -- in a good network the stations rise
 
-in-range : (n : Network) → GoodNetwork n → network-in-range n ≡ true
+pub in-range : (n : Network) → GoodNetwork n → network-in-range n ≡ true
 unfolding network-refusal
 in-range n good = by-value (network-in-range n) (λ e. e) (λ e. absurd (omega (arith, rw e at good)))
 
@@ -306,9 +305,9 @@ unfolding spanning
 spanning-rises n good m w =
     flat station by-rule (λ s. s .0) (λ s. own n s (m s) ++ across n m s (m s))
     (λ s.
-    every-append (λ x. eqb (station x) (s .0)) (own n s (m s)) (across n m s (m s))
-    (every-own (λ x. eqb (station x) (s .0)) n s (λ k a c. eqb-refl (s .0)) (m s))
-    (every-across (λ x. eqb (station x) (s .0)) (λ p. true) n m s (λ p u k a c. eqb-refl (s .0)) (m s) (anywhere (m s .visits))))
+    every-append (has station (s .0)) (own n s (m s)) (across n m s (m s))
+    (every-own (has station (s .0)) n s (λ k a c. eqb-refl (s .0)) (m s))
+    (every-across (has station (s .0)) (λ p. true) n m s (λ p u k a c. eqb-refl (s .0)) (m s) (anywhere (m s .visits))))
     (λ s.
     ranged-append rule by-first 1 7 11 (lit≤ tt) (lit≤ tt) (own n s (m s)) (across n m s (m s))
     (own-ranged n s (m s) (trains-rise n m w s)) (across-ranged n s (m s) (trains-rise n m w s) m (trains-rise n m w)) .rises)

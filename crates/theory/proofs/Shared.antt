@@ -1,6 +1,6 @@
--- The findings of a whole timetable are shared out among the groups and their pairs, each list formed from the parts alone: the parts give the lists of the whole
--- timetable (Reach), these together have each finding as often as the whole list (Partition, Placed), and there it stands once, since the list rises strictly
--- (Rising). Assumes nothing.
+-- The findings of a whole timetable are shared out among the groups and their pairs, each list formed from the parts alone: the parts give the lists of the
+-- whole timetable (Reach), these together have each finding as often as the whole list (Partition, Placed), and there it stands once, since the list rises
+-- strictly (Rising). Assumes nothing.
 use Prim.Native.Nat.{ℕ, _<_}
 use mathlib.Core.Path.{_≡_, fun-ext}
 use mathlib.Core.Bool.{Bool}

@@ -25,7 +25,8 @@ module _ (q : Finding → Bool) where
   counted-cons x xs p = go (p x)
     where
       go : (c : Bool)
-          → count q (map (λ y. y .found) (if c then x ∷ keep p xs else keep p xs)) ≡ (1 if c && q (x .found) else 0) + count q (map (λ y. y .found) (keep p xs))
+          → count q (map (λ y. y .found) (if c then x ∷ keep p xs else keep p xs))
+          ≡ (1 if c && q (x .found) else 0) + count q (map (λ y. y .found) (keep p xs))
       go true = refl
       go false = omega arith
 
@@ -89,7 +90,8 @@ module _ (γ : Grouping) (gs : List ℕ) (placed : Station → Bool)
   unfolding every count counted
   partition q [] t = omega (arith, nothing q (inside γ) gs, nothing q (λ gh. between γ (gh .0) (gh .1)) (pairs gs))
   partition q (x ∷ xs) t =
-      go _ _ _ _ _ _ _ (q (x .found)) (in-parts x (and-l (spans placed x) (every (spans placed) xs) t)) (partition q xs (and-r (spans placed x) (every (spans placed) xs) t))
+      go _ _ _ _ _ _ _ (q (x .found))
+      (in-parts x (and-l (spans placed x) (every (spans placed) xs) t)) (partition q xs (and-r (spans placed x) (every (spans placed) xs) t))
       (one-more q (inside γ) x xs gs) (one-more q (λ gh. between γ (gh .0) (gh .1)) x xs (pairs gs))
     where
       go : (i b u v u′ v′ k : ℕ) (c : Bool) → i + b ≡ 1 → u + v ≡ k → u′ ≡ (if c then i else 0) + u → v′ ≡ (if c then b else 0) + v
