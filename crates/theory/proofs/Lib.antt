@@ -3,3 +3,7 @@ pub mod Exchange
 pub mod Divided
 pub mod Ordered
 pub mod FirstOrder
+pub mod Placed
+pub mod Rising
+pub mod Reach
+pub mod Shared
