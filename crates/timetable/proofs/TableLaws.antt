@@ -15,7 +15,7 @@ use Rattle.base.specs.Lists.{any, every, keep, first, is, each-two, below, same
 use Rattle.base.proofs.Tests.{by-value, by-test, T-true, true-T, T-false, and-l, and-r, both, or-l, or-r, or-cases}
 use Rattle.base.proofs.Sorted.{every-head, every-tail, every-cons, every-weaker, every-keep, every-mapped, keep-length, two-head, two-tail, two-cons, two-step, two-keep}
 use Rattle.base.proofs.Sorted.{smaller, smaller-across, rising-map, below-trans, below-total}
-use Rattle.railway.specs.Ranges.{same-train, train-ok}
+use Rattle.railway.specs.Ranges.{same-train, train-ok, interval-ok}
 use Rattle.railway.specs.Relations.{present, used, further-ok, trains-ok, pair-ok, relation-ok, key, precedes, same-relation}
 use Rattle.timetable.specs.Types.{Station, Train, Trains, Visit, Relation, Connection, Disconnection, Dependency, Network}
 use Rattle.timetable.specs.Tables.{Entry, Table, visit-of, has-visit, enter, change-entry, insert, packed, fewer, lose, insert-if, lose-all}
@@ -177,3 +177,217 @@ unfolding lose-all every
 lose-all-every f g t h [] u = tt
 lose-all-every f g t h (r ∷ rs) u =
     insert-if-every g (lose t r) (lose-all t rs) (h r (every-head f r rs u)) (lose-all-every f g t h rs (every-tail f r rs u))
+
+-- the trains of a relation
+
+abbrev pub digits : Train → ℕ
+digits t = t .0
+
+-- a list of 2 to 4 trains, rising, in their range
+pub record GroupOf (ts : List Train) : Type 0 where
+  pub least : 2 ≤ length ts
+  pub most : length ts ≤ 4
+  pub order : T (each-two (smaller digits) ts)
+  pub each : T (every train-ok ts)
+
+-- a train's range as numbers, both ways
+pub train-low : (t : Train) → T (train-ok t) → 1 ≤ t .0
+train-low t h = leb→le 1 (t .0) (and-l (leb 1 (t .0)) (leb (t .0) 9999) h)
+
+pub train-high : (t : Train) → T (train-ok t) → t .0 ≤ 9999
+train-high t h = leb→le (t .0) 9999 (and-r (leb 1 (t .0)) (leb (t .0) 9999) h)
+
+pub train-fits : (t : Train) → 1 ≤ t .0 → t .0 ≤ 9999 → T (train-ok t)
+train-fits t l h = both (leb 1 (t .0)) (leb (t .0) 9999) (le→leb 1 (t .0) l) (le→leb (t .0) 9999 h)
+
+-- a further place is empty, or holds a train above the one before it
+abbrev pub Further : Train → Train → Type 0
+Further t u = (u .0 ≡ 0) ⊎ ((1 ≤ t .0) × (t .0 < u .0) × (u .0 ≤ 9999))
+
+pub further : (t u : Train) → T (further-ok t u) → Further t u
+unfolding further-ok
+further t u h =
+    or-cases (eqb (u .0) 0) ((present t && ltb (t .0) (u .0)) && train-ok u) h
+    (λ e. inl (eqb→eq (u .0) 0 e))
+    (λ r. inr (
+      ltb→lt 0 (t .0) (and-l (present t) (ltb (t .0) (u .0)) (and-l (present t && ltb (t .0) (u .0)) (train-ok u) r)),
+      ltb→lt (t .0) (u .0) (and-r (present t) (ltb (t .0) (u .0)) (and-l (present t && ltb (t .0) (u .0)) (train-ok u) r)),
+      train-high u (and-r (present t && ltb (t .0) (u .0)) (train-ok u) r),
+    ))
+
+pub further-fits : (t u : Train) → Further t u → T (further-ok t u)
+unfolding further-ok
+further-fits t u (inl e) = or-l (eqb (u .0) 0) ((present t && ltb (t .0) (u .0)) && train-ok u) (true-T (eqb (u .0) 0) (eq-eqb (u .0) 0 e))
+further-fits t u (inr f) =
+    or-r (eqb (u .0) 0) ((present t && ltb (t .0) (u .0)) && train-ok u)
+    (both (present t && ltb (t .0) (u .0)) (train-ok u) (both (present t) (ltb (t .0) (u .0)) (lt→ltb 0 (t .0) (f .0)) (lt→ltb (t .0) (u .0) (f .1))) (train-fits u (omega arith) (f .2)))
+
+-- the four places as numbers
+pub record Places (ts : Trains) : Type 0 where
+  pub first-low : 1 ≤ ts .a .0
+  pub second-above : ts .a .0 < ts .b .0
+  pub second-high : ts .b .0 ≤ 9999
+  pub third : Further (ts .b) (ts .c)
+  pub fourth : Further (ts .c) (ts .d)
+
+pub places : (ts : Trains) → T (trains-ok ts) → Places ts
+unfolding trains-ok
+places ts h =
+    let front : T (train-ok (ts .a) && (ltb (ts .a .0) (ts .b .0) && train-ok (ts .b))) =
+        and-l (train-ok (ts .a) && (ltb (ts .a .0) (ts .b .0) && train-ok (ts .b))) (further-ok (ts .b) (ts .c) && further-ok (ts .c) (ts .d)) h in
+    let back : T (further-ok (ts .b) (ts .c) && further-ok (ts .c) (ts .d)) =
+        and-r (train-ok (ts .a) && (ltb (ts .a .0) (ts .b .0) && train-ok (ts .b))) (further-ok (ts .b) (ts .c) && further-ok (ts .c) (ts .d)) h in
+    let second : T (ltb (ts .a .0) (ts .b .0) && train-ok (ts .b)) = and-r (train-ok (ts .a)) (ltb (ts .a .0) (ts .b .0) && train-ok (ts .b)) front in
+    record {
+      first-low = train-low (ts .a) (and-l (train-ok (ts .a)) (ltb (ts .a .0) (ts .b .0) && train-ok (ts .b)) front);
+      second-above = ltb→lt (ts .a .0) (ts .b .0) (and-l (ltb (ts .a .0) (ts .b .0)) (train-ok (ts .b)) second);
+      second-high = train-high (ts .b) (and-r (ltb (ts .a .0) (ts .b .0)) (train-ok (ts .b)) second);
+      third = further (ts .b) (ts .c) (and-l (further-ok (ts .b) (ts .c)) (further-ok (ts .c) (ts .d)) back);
+      fourth = further (ts .c) (ts .d) (and-r (further-ok (ts .b) (ts .c)) (further-ok (ts .c) (ts .d)) back);
+    }
+
+pub places-fit : (ts : Trains) → Places ts → T (trains-ok ts)
+unfolding trains-ok
+places-fit ts p =
+    both (train-ok (ts .a) && (ltb (ts .a .0) (ts .b .0) && train-ok (ts .b))) (further-ok (ts .b) (ts .c) && further-ok (ts .c) (ts .d))
+    (both (train-ok (ts .a)) (ltb (ts .a .0) (ts .b .0) && train-ok (ts .b)) (train-fits (ts .a) (p .first-low) (omega arith))
+      (both (ltb (ts .a .0) (ts .b .0)) (train-ok (ts .b)) (lt→ltb (ts .a .0) (ts .b .0) (p .second-above)) (train-fits (ts .b) (omega arith) (p .second-high))))
+    (both (further-ok (ts .b) (ts .c)) (further-ok (ts .c) (ts .d)) (further-fits (ts .b) (ts .c) (p .third)) (further-fits (ts .c) (ts .d) (p .fourth)))
+
+-- the list of the places in use, by how many they are
+pub used-two : (ts : Trains) → Places ts → ts .c .0 ≡ 0 → ts .d .0 ≡ 0 → used ts ≡ ts .a ∷ ts .b ∷ []
+unfolding used keep
+used-two ts p e f = rw (lt-ltb 0 (ts .a .0) (omega arith), lt-ltb 0 (ts .b .0) (omega arith), e, f)
+
+pub used-three : (ts : Trains) → Places ts → 1 ≤ ts .c .0 → ts .d .0 ≡ 0 → used ts ≡ ts .a ∷ ts .b ∷ ts .c ∷ []
+unfolding used keep
+used-three ts p e f = rw (lt-ltb 0 (ts .a .0) (omega arith), lt-ltb 0 (ts .b .0) (omega arith), lt-ltb 0 (ts .c .0) (omega arith), f)
+
+pub used-four : (ts : Trains) → Places ts → 1 ≤ ts .c .0 → 1 ≤ ts .d .0 → used ts ≡ ts .a ∷ ts .b ∷ ts .c ∷ ts .d ∷ []
+unfolding used keep
+used-four ts p e f = rw (lt-ltb 0 (ts .a .0) (omega arith), lt-ltb 0 (ts .b .0) (omega arith), lt-ltb 0 (ts .c .0) (omega arith), lt-ltb 0 (ts .d .0) (omega arith))
+
+-- a train below the first of a list in order may stand before it, and only such a train
+chain : (t u : Train) (us : List Train) → t .0 < u .0 → T (each-two (smaller digits) (u ∷ us)) → T (each-two (smaller digits) (t ∷ u ∷ us))
+chain t u us h o = two-step (smaller digits) (smaller-across digits) t u us (lt→ltb (t .0) (u .0) h) o
+
+neighbours : (t u : Train) (us : List Train) → T (each-two (smaller digits) (t ∷ u ∷ us)) → t .0 < u .0
+neighbours t u us o = ltb→lt (t .0) (u .0) (every-head (smaller digits t) u us (two-head (smaller digits) t (u ∷ us) o))
+
+-- the trains of a good relation are a group
+pub used-group : (ts : Trains) → T (trains-ok ts) → GroupOf (used ts)
+unfolding each-two every
+used-group ts h = go (p .third) (p .fourth)
+  where
+    p : Places ts
+    p = places ts h
+
+    first-fits : T (train-ok (ts .a))
+    first-fits = train-fits (ts .a) (omega (arith, p .first-low)) (omega (arith, p .second-above, p .second-high))
+
+    second-fits : T (train-ok (ts .b))
+    second-fits = train-fits (ts .b) (omega (arith, p .second-above)) (omega (arith, p .second-high))
+
+    go : Further (ts .b) (ts .c) → Further (ts .c) (ts .d) → GroupOf (used ts)
+    go (inl e) (inl f) = rw (used-two ts p e f) (record {
+      least = omega arith;
+      most = omega arith;
+      order = chain (ts .a) (ts .b) [] (p .second-above) tt;
+      each = both (train-ok (ts .a)) (train-ok (ts .b) && true) first-fits (both (train-ok (ts .b)) true second-fits tt);
+    })
+    go (inl e) (inr f) = absurd (omega arith)
+    go (inr e) (inl f) = rw (used-three ts p (omega arith) f) (record {
+      least = omega arith;
+      most = omega arith;
+      order = chain (ts .a) (ts .b) (ts .c ∷ []) (p .second-above) (chain (ts .b) (ts .c) [] (e .1) tt);
+      each = both (train-ok (ts .a)) (train-ok (ts .b) && (train-ok (ts .c) && true)) first-fits
+          (both (train-ok (ts .b)) (train-ok (ts .c) && true) second-fits (both (train-ok (ts .c)) true (train-fits (ts .c) (omega arith) (e .2)) tt));
+    })
+    go (inr e) (inr f) = rw (used-four ts p (omega arith) (omega arith)) (record {
+      least = omega arith;
+      most = omega arith;
+      order = chain (ts .a) (ts .b) (ts .c ∷ ts .d ∷ []) (p .second-above) (chain (ts .b) (ts .c) (ts .d ∷ []) (e .1) (chain (ts .c) (ts .d) [] (f .1) tt));
+      each = both (train-ok (ts .a)) (train-ok (ts .b) && (train-ok (ts .c) && (train-ok (ts .d) && true))) first-fits
+          (both (train-ok (ts .b)) (train-ok (ts .c) && (train-ok (ts .d) && true)) second-fits
+            (both (train-ok (ts .c)) (train-ok (ts .d) && true) (train-fits (ts .c) (omega arith) (e .2)) (both (train-ok (ts .d)) true (train-fits (ts .d) (omega arith) (f .2)) tt)));
+    })
+
+-- and the four places of a group are good
+pub packed-ok : (ts : List Train) → GroupOf ts → T (trains-ok (packed ts))
+unfolding packed
+packed-ok [] g = absurd (omega arith)
+packed-ok (a ∷ []) g = absurd (omega arith)
+packed-ok (a ∷ b ∷ []) g = places-fit (packed (a ∷ b ∷ [])) (record {
+  first-low = train-low a (every-head train-ok a (b ∷ []) (g .each));
+  second-above = neighbours a b [] (g .order);
+  second-high = train-high b (every-head train-ok b [] (every-tail train-ok a (b ∷ []) (g .each)));
+  third = inl refl;
+  fourth = inl refl;
+})
+packed-ok (a ∷ b ∷ c ∷ []) g =
+    let from-second : T (every train-ok (b ∷ c ∷ [])) = every-tail train-ok a (b ∷ c ∷ []) (g .each) in
+    let from-third : T (every train-ok (c ∷ [])) = every-tail train-ok b (c ∷ []) from-second in
+    let order-second : T (each-two (smaller digits) (b ∷ c ∷ [])) = two-tail (smaller digits) a (b ∷ c ∷ []) (g .order) in
+    places-fit (packed (a ∷ b ∷ c ∷ [])) (record {
+      first-low = train-low a (every-head train-ok a (b ∷ c ∷ []) (g .each));
+      second-above = neighbours a b (c ∷ []) (g .order);
+      second-high = train-high b (every-head train-ok b (c ∷ []) from-second);
+      third = inr (train-low b (every-head train-ok b (c ∷ []) from-second), neighbours b c [] order-second, train-high c (every-head train-ok c [] from-third));
+      fourth = inl refl;
+    })
+packed-ok (a ∷ b ∷ c ∷ d ∷ []) g =
+    let from-second : T (every train-ok (b ∷ c ∷ d ∷ [])) = every-tail train-ok a (b ∷ c ∷ d ∷ []) (g .each) in
+    let from-third : T (every train-ok (c ∷ d ∷ [])) = every-tail train-ok b (c ∷ d ∷ []) from-second in
+    let from-fourth : T (every train-ok (d ∷ [])) = every-tail train-ok c (d ∷ []) from-third in
+    let order-second : T (each-two (smaller digits) (b ∷ c ∷ d ∷ [])) = two-tail (smaller digits) a (b ∷ c ∷ d ∷ []) (g .order) in
+    let order-third : T (each-two (smaller digits) (c ∷ d ∷ [])) = two-tail (smaller digits) b (c ∷ d ∷ []) order-second in
+    places-fit (packed (a ∷ b ∷ c ∷ d ∷ [])) (record {
+      first-low = train-low a (every-head train-ok a (b ∷ c ∷ d ∷ []) (g .each));
+      second-above = neighbours a b (c ∷ d ∷ []) (g .order);
+      second-high = train-high b (every-head train-ok b (c ∷ d ∷ []) from-second);
+      third = inr (train-low b (every-head train-ok b (c ∷ d ∷ []) from-second), neighbours b c (d ∷ []) order-second, train-high c (every-head train-ok c (d ∷ []) from-third));
+      fourth = inr (train-low c (every-head train-ok c (d ∷ []) from-third), neighbours c d [] order-third, train-high d (every-head train-ok d [] from-fourth));
+    })
+packed-ok (a ∷ b ∷ c ∷ d ∷ e ∷ ts) g = absurd (omega arith)
+
+-- what is left of a relation that loses a train is good
+
+pub group-keep : (p : Train → Bool) (ts : List Train) → GroupOf ts → 2 ≤ length (keep p ts) → GroupOf (keep p ts)
+group-keep p ts g h = record {
+  least = h;
+  most = omega (arith, keep-length p ts);
+  order = two-keep (smaller digits) p ts (g .order);
+  each = every-keep train-ok p ts (g .each);
+}
+
+-- a relation of a group, made from the trains that stay
+pub fewer-ok : (make : Trains → Relation) → ((ts : Trains) → T (trains-ok ts) → T (relation-ok (make ts))) → (p : Train → Bool) (ts : List Train) → GroupOf ts
+    → T (if-any relation-ok (fewer make (keep p ts)))
+unfolding fewer
+fewer-ok make ok p ts g = go (ltb (length (keep p ts)) 2) refl
+  where
+    go : (b : Bool) → ltb (length (keep p ts)) 2 ≡ b → T (if-any relation-ok (if b then none else some (make (packed (keep p ts)))))
+    go true e = tt
+    go false e = ok (packed (keep p ts)) (packed-ok (keep p ts) (group-keep p ts g (ltb-false (length (keep p ts)) 2 e)))
+
+pub lose-ok : (t : Train) (r : Relation) → T (relation-ok r) → T (if-any relation-ok (lose t r))
+unfolding lose relation-ok
+lose-ok t (Connection i ts) h = go (any (same-train t) (used ts))
+  where
+    go : (b : Bool) → T (if-any relation-ok (if b then fewer (Connection i) (keep (λ u. not (same-train t u)) (used ts)) else some (Connection i ts)))
+    go true =
+        fewer-ok (Connection i) (λ us k. both (interval-ok i) (trains-ok us) (and-l (interval-ok i) (trains-ok ts) h) k) (λ u. not (same-train t u)) (used ts)
+        (used-group ts (and-r (interval-ok i) (trains-ok ts) h))
+    go false = h
+lose-ok t (Disconnection i ts) h = go (any (same-train t) (used ts))
+  where
+    go : (b : Bool) → T (if-any relation-ok (if b then fewer (Disconnection i) (keep (λ u. not (same-train t u)) (used ts)) else some (Disconnection i ts)))
+    go true =
+        fewer-ok (Disconnection i) (λ us k. both (interval-ok i) (trains-ok us) (and-l (interval-ok i) (trains-ok ts) h) k) (λ u. not (same-train t u)) (used ts)
+        (used-group ts (and-r (interval-ok i) (trains-ok ts) h))
+    go false = h
+lose-ok t (Dependency i p) h = go (same-train t (p .arriver) || same-train t (p .departer))
+  where
+    go : (b : Bool) → T (if-any relation-ok (if b then none else some (Dependency i p)))
+    go true = tt
+    go false = h
