@@ -18,6 +18,7 @@ use Rattle.base.proofs.Sorted.{smaller, smaller-across, rising-map, below-trans
 use Rattle.railway.specs.Ranges.{same-train, train-ok, interval-ok}
 use Rattle.railway.specs.Relations.{present, used, further-ok, trains-ok, pair-ok, relation-ok, key, precedes, same-relation}
 use Rattle.timetable.specs.Types.{Station, Train, Trains, Visit, Relation, Connection, Disconnection, Dependency, Network}
+use Rattle.timetable.specs.Good.{visit-good, entry-good, visits-good, relations-good, table-good}
 use Rattle.timetable.specs.Tables.{Entry, Table, visit-of, has-visit, enter, change-entry, insert, packed, fewer, lose, insert-if, lose-all}
 
 -- visits
@@ -93,6 +94,9 @@ change-train t f e = go (same-train (e .train) t)
 pub change-trains : (t : Train) (f : Visit → Visit) (es : List Entry) → map number (map (change-entry t f) es) ≡ map number es
 change-trains t f [] = refl
 change-trains t f (e ∷ es) = ap₂ (λ (u : Train) (l : List ℕ). u .0 ∷ l) (change-train t f e) (change-trains t f es)
+
+pub change-order : (t : Train) (f : Visit → Visit) (es : List Entry) → each-two (smaller number) (map (change-entry t f) es) ≡ each-two (smaller number) es
+change-order t f es = sym (rising-map number (map (change-entry t f) es)) ∙ ap rising (change-trains t f es) ∙ rising-map number es
 
 -- relations
 
@@ -391,3 +395,121 @@ lose-ok t (Dependency i p) h = go (same-train t (p .arriver) || same-train t (p 
     go : (b : Bool) → T (if-any relation-ok (if b then none else some (Dependency i p)))
     go true = tt
     go false = h
+
+-- good lists of visits
+
+pub record GoodVisits (n : Network) (s : Station) (es : List Entry) : Type 0 where
+  pub few : length es ≤ 24
+  pub order : T (each-two (smaller number) es)
+  pub each : T (every (entry-good n s) es)
+
+pub visits-facts : (n : Network) (s : Station) (es : List Entry) → T (visits-good n s es) → GoodVisits n s es
+unfolding visits-good
+visits-facts n s es h =
+    let front : T (leb (length es) 24 && rising (map number es)) = and-l (leb (length es) 24 && rising (map number es)) (every (entry-good n s) es) h in
+    record {
+      few = leb→le (length es) 24 (and-l (leb (length es) 24) (rising (map number es)) front);
+      order = rw (rising-map number es) at (and-r (leb (length es) 24) (rising (map number es)) front);
+      each = and-r (leb (length es) 24 && rising (map number es)) (every (entry-good n s) es) h;
+    }
+
+pub visits-fit : (n : Network) (s : Station) (es : List Entry) → GoodVisits n s es → T (visits-good n s es)
+unfolding visits-good
+visits-fit n s es g =
+    both (leb (length es) 24 && rising (map number es)) (every (entry-good n s) es)
+    (both (leb (length es) 24) (rising (map number es)) (le→leb (length es) 24 (g .few)) (rw (rising-map number es) (g .order)))
+    (g .each)
+
+pub enter-good : (n : Network) (s : Station) (e : Entry) (es : List Entry) → T (entry-good n s e) → T (lacking (e .train) es) → length es < 24
+    → GoodVisits n s es → GoodVisits n s (enter e es)
+enter-good n s e es t l f g = record {
+  few = omega (arith, enter-length e es);
+  order = enter-order e es l (g .order);
+  each = enter-every (entry-good n s) e es t (g .each);
+}
+
+-- a visit changed to a good one
+pub change-good : (n : Network) (s : Station) (t : Train) (f : Visit → Visit) → ((v : Visit) → T (visit-good n s v) → T (visit-good n s (f v)))
+    → (es : List Entry) → GoodVisits n s es → GoodVisits n s (map (change-entry t f) es)
+unfolding change-entry entry-good
+change-good n s t f h es g = record {
+  few = rw (length-map es (change-entry t f)) (g .few);
+  order = rw (change-order t f es) (g .order);
+  each = every-mapped (entry-good n s) (entry-good n s) (change-entry t f) (λ e k. go e k (same-train (e .train) t)) es (g .each);
+}
+  where
+    go : (e : Entry) → T (entry-good n s e) → (b : Bool) → T (entry-good n s (if b then record { train = e .train; visit = f (e .visit) } else e))
+    go e k true =
+        both (train-ok (e .train)) (visit-good n s (f (e .visit))) (and-l (train-ok (e .train)) (visit-good n s (e .visit)) k)
+        (h (e .visit) (and-r (train-ok (e .train)) (visit-good n s (e .visit)) k))
+    go e k false = k
+
+pub keep-good : (n : Network) (s : Station) (p : Entry → Bool) (es : List Entry) → GoodVisits n s es → GoodVisits n s (keep p es)
+keep-good n s p es g = record {
+  few = omega (arith, keep-length p es);
+  order = two-keep (smaller number) p es (g .order);
+  each = every-keep (entry-good n s) p es (g .each);
+}
+
+-- good lists of relations
+
+pub record GoodRelations (rs : List Relation) : Type 0 where
+  pub few : length rs ≤ 6
+  pub order : T (each-two precedes rs)
+  pub each : T (every relation-ok rs)
+
+pub relations-facts : (rs : List Relation) → T (relations-good rs) → GoodRelations rs
+unfolding relations-good
+relations-facts rs h =
+    let front : T (leb (length rs) 6 && each-two precedes rs) = and-l (leb (length rs) 6 && each-two precedes rs) (every relation-ok rs) h in
+    record {
+      few = leb→le (length rs) 6 (and-l (leb (length rs) 6) (each-two precedes rs) front);
+      order = and-r (leb (length rs) 6) (each-two precedes rs) front;
+      each = and-r (leb (length rs) 6 && each-two precedes rs) (every relation-ok rs) h;
+    }
+
+pub relations-fit : (rs : List Relation) → GoodRelations rs → T (relations-good rs)
+unfolding relations-good
+relations-fit rs g =
+    both (leb (length rs) 6 && each-two precedes rs) (every relation-ok rs)
+    (both (leb (length rs) 6) (each-two precedes rs) (le→leb (length rs) 6 (g .few)) (g .order))
+    (g .each)
+
+pub insert-good : (r : Relation) (rs : List Relation) → T (relation-ok r) → length rs < 6 → GoodRelations rs → GoodRelations (insert r rs)
+insert-good r rs t f g = record {
+  few = omega (arith, insert-length r rs);
+  order = insert-order r rs (g .order);
+  each = insert-every relation-ok r rs t (g .each);
+}
+
+pub keep-relations-good : (p : Relation → Bool) (rs : List Relation) → GoodRelations rs → GoodRelations (keep p rs)
+keep-relations-good p rs g = record {
+  few = omega (arith, keep-length p rs);
+  order = two-keep precedes p rs (g .order);
+  each = every-keep relation-ok p rs (g .each);
+}
+
+pub lose-all-good : (t : Train) (rs : List Relation) → GoodRelations rs → GoodRelations (lose-all t rs)
+lose-all-good t rs g = record {
+  few = omega (arith, lose-all-length t rs);
+  order = lose-all-order t rs;
+  each = lose-all-every relation-ok relation-ok t (lose-ok t) rs (g .each);
+}
+
+-- good tables
+
+pub record GoodTable (n : Network) (s : Station) (tab : Table) : Type 0 where
+  pub visits : GoodVisits n s (tab .visits)
+  pub relations : GoodRelations (tab .relations)
+
+pub table-facts : (n : Network) (s : Station) (tab : Table) → T (table-good n s tab) → GoodTable n s tab
+unfolding table-good
+table-facts n s tab h = record {
+  visits = visits-facts n s (tab .visits) (and-l (visits-good n s (tab .visits)) (relations-good (tab .relations)) h);
+  relations = relations-facts (tab .relations) (and-r (visits-good n s (tab .visits)) (relations-good (tab .relations)) h);
+}
+
+pub table-fits : (n : Network) (s : Station) (tab : Table) → GoodTable n s tab → T (table-good n s tab)
+unfolding table-good
+table-fits n s tab g =
+    both (visits-good n s (tab .visits)) (relations-good (tab .relations)) (visits-fit n s (tab .visits) (g .visits)) (relations-fit (tab .relations) (g .relations))
