@@ -9,17 +9,20 @@ use mathlib.Core.Option.{Option, none, some, Option·map}
 use native.Mathlib.Omega.{arith}
 use lib.Dec.{T, ltb, leb, eqb, ltb→lt, lt→ltb, leb→le, le→leb, eqb→eq, eqb-refl, T-not}
 use lib.ListN.{length, getD, length-map}
-use borrow.Author.Tests.{ltb-true, ltb-false, eqb-true, eqb-false, lt-ltb, le-ltb, eq-eqb}
+use borrow.Author.Tests.{ltb-false, leb-false, lt-ltb, eq-eqb}
 use Rattle.base.specs.Choice.{if_then_else_}
 use Rattle.base.specs.Lists.{any, every, keep, first, is, each-two, below, same, rising}
 use Rattle.base.proofs.Tests.{by-value, by-test, T-true, true-T, T-false, and-l, and-r, both, or-l, or-r, or-cases}
 use Rattle.base.proofs.Sorted.{every-head, every-tail, every-cons, every-weaker, every-keep, every-mapped, keep-length, two-head, two-tail, two-cons, two-step, two-keep}
 use Rattle.base.proofs.Sorted.{smaller, smaller-across, rising-map, below-trans, below-total}
-use Rattle.railway.specs.Ranges.{same-train, train-ok, interval-ok}
+use Rattle.railway.specs.Ranges.{same-train, train-ok, track-ok, minute-ok, interval-ok}
 use Rattle.railway.specs.Relations.{present, used, further-ok, trains-ok, pair-ok, relation-ok, key, precedes, same-relation}
-use Rattle.timetable.specs.Types.{Station, Train, Trains, Visit, Relation, Connection, Disconnection, Dependency, Network}
-use Rattle.timetable.specs.Good.{visit-good, entry-good, visits-good, relations-good, table-good}
-use Rattle.timetable.specs.Tables.{Entry, Table, visit-of, has-visit, enter, change-entry, insert, packed, fewer, lose, insert-if, lose-all}
+use Rattle.railway.specs.Networks.{track-known}
+use Rattle.timetable.specs.Types.{Station, Train, Track, Line, Minute, Inward, Outward, InLink, OutLink, Visit, Trains, Relation, Connection, Disconnection, Dependency, Plan, Network}
+use Rattle.timetable.specs.Visits.{ins, outs, with-in, with-out, planned, amended, arrived-at, departed-at, from, onward}
+use Rattle.timetable.specs.Tables.{Entry, Table, visit-of, has-visit, enter, add-visit, change-entry, change-visit, has-relation, insert, add-relation, drop-relation}
+use Rattle.timetable.specs.Tables.{packed, fewer, lose, insert-if, lose-all, without, full-visits, full-relations}
+use Rattle.timetable.specs.Good.{in-good, out-good, links-good, values-good, visit-good, entry-good, visits-good, relations-good, table-good}
 
 -- visits
 
@@ -396,6 +399,87 @@ lose-ok t (Dependency i p) h = go (same-train t (p .arriver) || same-train t (p 
     go true = tt
     go false = h
 
+-- good visits
+
+pub record GoodVisit (n : Network) (s : Station) (v : Visit) : Type 0 where
+  pub track : T (track-ok (v .track) && track-known n s (v .track))
+  pub arrival : T (minute-ok (v .arrival))
+  pub departure : T (minute-ok (v .departure))
+  pub inward : T (every (in-good n s) (ins v))
+  pub outward : T (every (out-good n s) (outs v))
+
+pub visit-facts : (n : Network) (s : Station) (v : Visit) → T (visit-good n s v) → GoodVisit n s v
+unfolding visit-good values-good links-good
+visit-facts n s v h =
+    let values : T ((track-ok (v .track) && track-known n s (v .track)) && (minute-ok (v .arrival) && minute-ok (v .departure))) = and-l (values-good n s v) (links-good n s v) h in
+    let links : T (every (in-good n s) (ins v) && every (out-good n s) (outs v)) = and-r (values-good n s v) (links-good n s v) h in
+    let times : T (minute-ok (v .arrival) && minute-ok (v .departure)) =
+        and-r (track-ok (v .track) && track-known n s (v .track)) (minute-ok (v .arrival) && minute-ok (v .departure)) values in
+    record {
+      track = and-l (track-ok (v .track) && track-known n s (v .track)) (minute-ok (v .arrival) && minute-ok (v .departure)) values;
+      arrival = and-l (minute-ok (v .arrival)) (minute-ok (v .departure)) times;
+      departure = and-r (minute-ok (v .arrival)) (minute-ok (v .departure)) times;
+      inward = and-l (every (in-good n s) (ins v)) (every (out-good n s) (outs v)) links;
+      outward = and-r (every (in-good n s) (ins v)) (every (out-good n s) (outs v)) links;
+    }
+
+pub visit-fits : (n : Network) (s : Station) (v : Visit) → GoodVisit n s v → T (visit-good n s v)
+unfolding visit-good values-good links-good
+visit-fits n s v g =
+    both (values-good n s v) (links-good n s v)
+    (both (track-ok (v .track) && track-known n s (v .track)) (minute-ok (v .arrival) && minute-ok (v .departure)) (g .track)
+      (both (minute-ok (v .arrival)) (minute-ok (v .departure)) (g .arrival) (g .departure)))
+    (both (every (in-good n s) (ins v)) (every (out-good n s) (outs v)) (g .inward) (g .outward))
+
+pub planned-good : (n : Network) (s : Station) (p : Plan) → T (track-ok (p .track) && track-known n s (p .track)) → T (minute-ok (p .arrival)) → T (minute-ok (p .departure))
+    → GoodVisit n s (planned p)
+unfolding planned ins outs every
+planned-good n s p t a d = record { track = t; arrival = a; departure = d; inward = tt; outward = tt }
+
+pub amended-good : (n : Network) (s : Station) (p : Plan) (v : Visit) → T (track-ok (p .track) && track-known n s (p .track)) → T (minute-ok (p .arrival)) → T (minute-ok (p .departure))
+    → GoodVisit n s v → GoodVisit n s (amended p v)
+unfolding amended ins outs
+amended-good n s p v t a d g = record { track = t; arrival = a; departure = d; inward = g .inward; outward = g .outward }
+
+pub arrived-good : (n : Network) (s : Station) (m : Minute) (v : Visit) → T (minute-ok m) → GoodVisit n s v → GoodVisit n s (arrived-at m v)
+unfolding arrived-at ins outs
+arrived-good n s m v h g = record { track = g .track; arrival = h; departure = g .departure; inward = g .inward; outward = g .outward }
+
+pub departed-good : (n : Network) (s : Station) (m : Minute) (v : Visit) → T (minute-ok m) → GoodVisit n s v → GoodVisit n s (departed-at m v)
+unfolding departed-at ins outs
+departed-good n s m v h g = record { track = g .track; arrival = g .arrival; departure = h; inward = g .inward; outward = g .outward }
+
+-- with a good link, or with none
+
+pub from-good : (n : Network) (s o : Station) (l : Line) (v : Visit) → T (in-good n s (record { station = o; line = l })) → GoodVisit n s v → GoodVisit n s (with-in (from o l) v)
+unfolding with-in from ins outs every
+from-good n s o l v h g = record {
+  track = g .track;
+  arrival = g .arrival;
+  departure = g .departure;
+  inward = both (in-good n s (record { station = o; line = l })) true h tt;
+  outward = g .outward;
+}
+
+pub onward-good : (n : Network) (s o : Station) (l : Line) (r : ℕ) (v : Visit) → T (out-good n s (record { station = o; line = l; run = r })) → GoodVisit n s v
+    → GoodVisit n s (with-out (onward o l r) v)
+unfolding with-out onward ins outs every
+onward-good n s o l r v h g = record {
+  track = g .track;
+  arrival = g .arrival;
+  departure = g .departure;
+  inward = g .inward;
+  outward = both (out-good n s (record { station = o; line = l; run = r })) true h tt;
+}
+
+pub unlinked-in-good : (n : Network) (s : Station) (v : Visit) → GoodVisit n s v → GoodVisit n s (with-in InLink.Nothing v)
+unfolding with-in ins outs every
+unlinked-in-good n s v g = record { track = g .track; arrival = g .arrival; departure = g .departure; inward = tt; outward = g .outward }
+
+pub unlinked-out-good : (n : Network) (s : Station) (v : Visit) → GoodVisit n s v → GoodVisit n s (with-out OutLink.Nothing v)
+unfolding with-out ins outs every
+unlinked-out-good n s v g = record { track = g .track; arrival = g .arrival; departure = g .departure; inward = g .inward; outward = tt }
+
 -- good lists of visits
 
 pub record GoodVisits (n : Network) (s : Station) (es : List Entry) : Type 0 where
@@ -429,7 +513,7 @@ enter-good n s e es t l f g = record {
 }
 
 -- a visit changed to a good one
-pub change-good : (n : Network) (s : Station) (t : Train) (f : Visit → Visit) → ((v : Visit) → T (visit-good n s v) → T (visit-good n s (f v)))
+pub change-good : (n : Network) (s : Station) (t : Train) (f : Visit → Visit) → ((v : Visit) → GoodVisit n s v → GoodVisit n s (f v))
     → (es : List Entry) → GoodVisits n s es → GoodVisits n s (map (change-entry t f) es)
 unfolding change-entry entry-good
 change-good n s t f h es g = record {
@@ -441,7 +525,7 @@ change-good n s t f h es g = record {
     go : (e : Entry) → T (entry-good n s e) → (b : Bool) → T (entry-good n s (if b then record { train = e .train; visit = f (e .visit) } else e))
     go e k true =
         both (train-ok (e .train)) (visit-good n s (f (e .visit))) (and-l (train-ok (e .train)) (visit-good n s (e .visit)) k)
-        (h (e .visit) (and-r (train-ok (e .train)) (visit-good n s (e .visit)) k))
+        (visit-fits n s (f (e .visit)) (h (e .visit) (visit-facts n s (e .visit) (and-r (train-ok (e .train)) (visit-good n s (e .visit)) k))))
     go e k false = k
 
 pub keep-good : (n : Network) (s : Station) (p : Entry → Bool) (es : List Entry) → GoodVisits n s es → GoodVisits n s (keep p es)
@@ -513,3 +597,43 @@ pub table-fits : (n : Network) (s : Station) (tab : Table) → GoodTable n s tab
 unfolding table-good
 table-fits n s tab g =
     both (visits-good n s (tab .visits)) (relations-good (tab .relations)) (visits-fit n s (tab .visits) (g .visits)) (relations-fit (tab .relations) (g .relations))
+
+-- a train that has no visit gets one, where there is room
+pub add-visit-good : (n : Network) (s : Station) (t : Train) (v : Visit) (tab : Table) → T (train-ok t) → GoodVisit n s v
+    → has-visit t tab ≡ false → full-visits tab ≡ false → GoodTable n s tab → GoodTable n s (add-visit t v tab)
+unfolding add-visit full-visits entry-good
+add-visit-good n s t v tab h k a f g = record {
+  visits = enter-good n s (record { train = t; visit = v }) (tab .visits) (both (train-ok t) (visit-good n s v) h (visit-fits n s v k)) (absent t tab a)
+      (leb-false 24 (length (tab .visits)) f) (g .visits);
+  relations = g .relations;
+}
+
+pub change-visit-good : (n : Network) (s : Station) (t : Train) (f : Visit → Visit) → ((v : Visit) → GoodVisit n s v → GoodVisit n s (f v))
+    → (tab : Table) → GoodTable n s tab → GoodTable n s (change-visit t f tab)
+unfolding change-visit
+change-visit-good n s t f h tab g = record {
+  visits = change-good n s t f h (tab .visits) (g .visits);
+  relations = g .relations;
+}
+
+pub add-relation-good : (n : Network) (s : Station) (r : Relation) (tab : Table) → T (relation-ok r) → full-relations tab ≡ false
+    → GoodTable n s tab → GoodTable n s (add-relation r tab)
+unfolding add-relation full-relations
+add-relation-good n s r tab h f g = record {
+  visits = g .visits;
+  relations = insert-good r (tab .relations) h (leb-false 6 (length (tab .relations)) f) (g .relations);
+}
+
+pub drop-relation-good : (n : Network) (s : Station) (r : Relation) (tab : Table) → GoodTable n s tab → GoodTable n s (drop-relation r tab)
+unfolding drop-relation
+drop-relation-good n s r tab g = record {
+  visits = g .visits;
+  relations = keep-relations-good (λ q. not (same-relation r q)) (tab .relations) (g .relations);
+}
+
+pub without-good : (n : Network) (s : Station) (t : Train) (tab : Table) → GoodTable n s tab → GoodTable n s (without t tab)
+unfolding without
+without-good n s t tab g = record {
+  visits = keep-good n s (λ e. not (same-train (e .train) t)) (tab .visits) (g .visits);
+  relations = lose-all-good t (tab .relations) (g .relations);
+}
