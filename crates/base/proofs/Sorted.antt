@@ -1,17 +1,17 @@
--- Laws of tests over lists, of lists in order, and of the order of lists of numbers: what keeping, mapping and weakening leave, and that `below` is a strict order.
+-- Laws of tests over lists, of lists in order, of sums over them, and of the order of lists of numbers: what keeping, mapping and weakening leave,
+-- and that `below` is a strict order.
 -- Each is by induction on the list. Assumes nothing.
-use Prim.Native.Nat.{ℕ, zero, suc, _≤_, _<_}
+use Prim.Native.Nat.{ℕ, suc, _+_, _≤_, _<_}
 use mathlib.Core.Path.{_≡_, refl, sym, ap, ap₂}
 use mathlib.Core.Bool.{Bool, true, false, not, _&&_, _||_}
 use mathlib.Core.List.{List, [], _∷_, map}
-use mathlib.Core.Option.{Option, none, some}
 use native.Mathlib.Omega.{arith}
-use lib.Dec.{T, ltb, leb, eqb, ltb→lt, lt→ltb, eqb→eq, eqb-refl}
+use lib.Dec.{T, ltb, eqb, ltb→lt, lt→ltb, eqb→eq, eqb-refl}
 use lib.ListN.{length}
-use borrow.Author.Tests.{ltb-true, ltb-false, eqb-true, eqb-false, lt-ltb, eq-eqb}
-use Rattle.base.specs.Choice.{if_then_else_}
-use Rattle.base.specs.Lists.{any, every, keep, first, is, each-two, below, same, rising}
-use Rattle.base.proofs.Tests.{by-value, by-test, T-true, true-T, T-false, and-l, and-r, both, or-l, or-r, or-cases}
+use borrow.Author.Tests.{ltb-true, ltb-false, eqb-true, eqb-false, eq-eqb, ne-eqb}
+use Rattle.base.specs.Choice.{if_then_else_, _if_else_}
+use Rattle.base.specs.Lists.{any, every, keep, count, each-two, sum, below, same, rising}
+use Rattle.base.proofs.Tests.{by-value, T-true, true-T, and-l, and-r, both, or-l, or-r, or-cases}
 
 module _ {A : Type 0} where
   -- each passes
@@ -125,6 +125,50 @@ module _ {A : Type 0} (g : A → ℕ) where
 pub rising-map : {A : Type 0} (g : A → ℕ) (xs : List A) → rising (map g xs) ≡ each-two (smaller g) xs
 unfolding rising
 rising-map g xs = two-map ltb g xs
+
+-- sums
+
+module _ {A : Type 0} where
+  -- each element of a list is among its elements
+  pub every-any : (f : A → A → Bool) → ((x : A) → T (f x x)) → (xs : List A) → T (every (λ x. any (f x) xs) xs)
+  unfolding every any
+  every-any f r [] = tt
+  every-any f r (x ∷ xs) =
+      every-cons (λ y. f y x || any (f y) xs) x xs (or-l (f x x) (any (f x) xs) (r x))
+      (every-weaker (λ y. any (f y) xs) (λ y. f y x || any (f y) xs) (λ y t. or-r (f y x) (any (f y) xs) t) xs (every-any f r xs))
+
+  -- what balances at each element that passes balances in sum
+  pub sum-balance : (p : A → Bool) (f g u v : A → ℕ) → ((x : A) → T (p x) → f x + u x ≡ g x + v x) → (xs : List A) → T (every p xs)
+      → sum f xs + sum u xs ≡ sum g xs + sum v xs
+  unfolding sum
+  sum-balance p f g u v h [] t = refl
+  sum-balance p f g u v h (x ∷ xs) t = omega (arith, h x (every-head p x xs t), sum-balance p f g u v h xs (every-tail p x xs t))
+
+  pub sum-zero : (f : A → ℕ) (p : A → Bool) → ((x : A) → T (p x) → f x ≡ 0) → (xs : List A) → T (every p xs) → sum f xs ≡ 0
+  unfolding sum
+  sum-zero f p h [] t = refl
+  sum-zero f p h (x ∷ xs) t = omega (arith, h x (every-head p x xs t), sum-zero f p h xs (every-tail p x xs t))
+
+  pub count-sum : (p : A → Bool) (xs : List A) → count p xs ≡ sum (λ x. 1 if p x else 0) xs
+  unfolding count sum
+  count-sum p [] = refl
+  count-sum p (x ∷ xs) = ap (λ k. (1 if p x else 0) + k) (count-sum p xs)
+
+  -- a number for the one element that has the number k, in a list rising by that number
+  pub sum-once : (g : A → ℕ) (k r : ℕ) (xs : List A) → T (each-two (smaller g) xs) → T (any (λ x. eqb k (g x)) xs) → sum (λ x. r if eqb (g x) k else 0) xs ≡ r
+  unfolding sum any
+  sum-once g k r [] o t = absurd t
+  sum-once g k r (x ∷ xs) o t = by-value (eqb (g x) k)
+      (λ e.
+        let rest : sum (λ y. r if eqb (g y) k else 0) xs ≡ 0 =
+            sum-zero (λ y. r if eqb (g y) k else 0) (smaller g x)
+            (λ y l. rw (ne-eqb (g y) k (λ q. omega (arith, eqb-true (g x) k e, ltb→lt (g x) (g y) l)))) xs (two-head (smaller g) x xs o) in
+        rw e (omega arith))
+      (λ e.
+        let rest : sum (λ y. r if eqb (g y) k else 0) xs ≡ r =
+            sum-once g k r xs (two-tail (smaller g) x xs o)
+            (or-cases (eqb k (g x)) (any (λ y. eqb k (g y)) xs) t (λ q. absurd (eqb-false (g x) k e (sym (eqb→eq k (g x) q)))) (λ q. q)) in
+        rw e (omega arith))
 
 -- lists of numbers
 
