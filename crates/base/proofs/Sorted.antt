@@ -160,15 +160,15 @@ module _ {A : Type 0} where
   sum-once g k r [] o t = absurd t
   sum-once g k r (x ∷ xs) o t = by-value (eqb (g x) k)
       (λ e.
-        let rest : sum (λ y. r if eqb (g y) k else 0) xs ≡ 0 =
-            sum-zero (λ y. r if eqb (g y) k else 0) (smaller g x)
-            (λ y l. rw (ne-eqb (g y) k (λ q. omega (arith, eqb-true (g x) k e, ltb→lt (g x) (g y) l)))) xs (two-head (smaller g) x xs o) in
-        rw e (omega arith))
+      let rest : sum (λ y. r if eqb (g y) k else 0) xs ≡ 0 =
+      sum-zero (λ y. r if eqb (g y) k else 0) (smaller g x)
+      (λ y l. rw (ne-eqb (g y) k (λ q. omega (arith, eqb-true (g x) k e, ltb→lt (g x) (g y) l)))) xs (two-head (smaller g) x xs o) in
+      rw e (omega arith))
       (λ e.
-        let rest : sum (λ y. r if eqb (g y) k else 0) xs ≡ r =
-            sum-once g k r xs (two-tail (smaller g) x xs o)
-            (or-cases (eqb k (g x)) (any (λ y. eqb k (g y)) xs) t (λ q. absurd (eqb-false (g x) k e (sym (eqb→eq k (g x) q)))) (λ q. q)) in
-        rw e (omega arith))
+      let rest : sum (λ y. r if eqb (g y) k else 0) xs ≡ r =
+      sum-once g k r xs (two-tail (smaller g) x xs o)
+      (or-cases (eqb k (g x)) (any (λ y. eqb k (g y)) xs) t (λ q. absurd (eqb-false (g x) k e (sym (eqb→eq k (g x) q)))) (λ q. q)) in
+      rw e (omega arith))
 
 -- lists of numbers
 
@@ -228,6 +228,6 @@ below-total (x ∷ xs) [] n d = tt
 below-total (x ∷ xs) (y ∷ ys) n d = by-value (ltb x y)
     (λ e. absurd (n (below-smaller x y xs ys (ltb-true x y e))))
     (λ e. by-value (eqb x y)
-      (λ q. below-equal y x ys xs (omega (arith, eqb-true x y q))
-        (below-total xs ys (λ t. n (below-equal x y xs ys (eqb-true x y q) t)) (λ t. d (both (eqb x y) (same xs ys) (true-T (eqb x y) q) t))))
-      (λ q. below-smaller y x ys xs (omega (arith, ltb-false x y e, eqb-false x y q))))
+    (λ q. below-equal y x ys xs (omega (arith, eqb-true x y q))
+    (below-total xs ys (λ t. n (below-equal x y xs ys (eqb-true x y q) t)) (λ t. d (both (eqb x y) (same xs ys) (true-T (eqb x y) q) t))))
+    (λ q. below-smaller y x ys xs (omega (arith, ltb-false x y e, eqb-false x y q))))

@@ -1,36 +1,35 @@
 -- An edit keeps a whole timetable whole: each edit's two new tables are good where the edit is in range, known and not refused, the other tables stay, and only
 -- listed stations get a new table. A refused edit changes nothing. Assumes nothing.
 use Prim.Native.Nat.{ℕ, suc}
-use mathlib.Core.Path.{_≡_, refl, sym, _∙_, ap}
-use mathlib.Core.Bool.{Bool, true, false, not, _&&_, _||_}
+use mathlib.Core.Path.{_≡_, refl, ap}
+use mathlib.Core.Bool.{Bool, true, false, not, _&&_}
 use mathlib.Core.List.{List, [], _∷_}
 use native.Mathlib.Omega.{arith}
 use lib.Dec.{T, eqb, eqb→eq, T-not}
-use borrow.Author.Tests.{eqb-true, eqb-false, ne-eqb, not-false}
+use borrow.Author.Tests.{eqb-true, ne-eqb, not-false}
 use Rattle.base.specs.Choice.{if_then_else_, _if_else_}
 use Rattle.base.specs.Lists.{is}
 use Rattle.base.specs.Runs.{run}
-use Rattle.base.proofs.Tests.{T-true, true-T, and-l, and-r, both}
+use Rattle.base.proofs.Tests.{true-T, and-l, and-r, both}
 use Rattle.railway.specs.declared.sorts.Line.{Line}
 use Rattle.railway.specs.declared.edit.Plan.{Plan}
 use Rattle.railway.specs.declared.edit.Extension.{Extension}
-use Rattle.railway.specs.declared.edit.Deletion.{Deletion}
 use Rattle.railway.specs.declared.edit.Report.{Report}
 use Rattle.railway.specs.declared.edit.StationRelation.{StationRelation}
 use Rattle.railway.specs.declared.edit.Edit.the-variants.{Place, Prepend, Append, DeleteFirst, DeleteLast, Amend}
 use Rattle.railway.specs.declared.edit.Edit.the-variants.{ReportArrival, ReportDeparture, AddRelation, RemoveRelation, DeleteTrain}
 use Rattle.railway.specs.Ranges.{station-ok, train-ok, track-ok, line-ok, minute-ok, run-ok, same-station}
 use Rattle.railway.specs.Relations.{relation-ok}
-use Rattle.railway.specs.Edits.{plan-ok, extension-ok, deletion-ok, report-ok, station-relation-ok, edit-ok}
+use Rattle.railway.specs.Edits.{plan-ok, extension-ok, report-ok, station-relation-ok, edit-ok}
 use Rattle.railway.specs.Networks.{listed, track-known, runs}
 use Rattle.timetable.specs.Visits.{lacks-in, lacks-out, with-in, with-out, planned, amended, arrived-at, departed-at, from, onward}
 use Rattle.timetable.specs.Tables.{Table, empty, visit-of, has-visit, has-relation, without, full-visits, full-relations}
 use Rattle.timetable.specs.Machine.{Timetable, put, Action, Meaning, local, throughout, as-it-was, meaning, known, refused-as, refusal, changed, after}
-use Rattle.timetable.specs.Good.{in-good, out-good, table-good, Good, Whole}
+use Rattle.timetable.specs.Good.{in-good, out-good, table-good, Whole}
 use Rattle.timetable.proofs.TableLaws.{GoodTable, GoodVisit, table-facts, table-fits, add-visit-good, change-visit-good, add-relation-good, drop-relation-good, without-good}
 use Rattle.timetable.proofs.TableLaws.{planned-good, amended-good, arrived-good, departed-good, from-good, onward-good, unlinked-in-good, unlinked-out-good}
 use Rattle.theory.specs.Types.{Station, Edit, Network}
-use Rattle.theory.specs.Statements.{Kept, WholeIsKept}
+use Rattle.theory.specs.Statements.{WholeIsKept}
 
 pub same-station-equal : (k s : Station) → T (same-station k s) → k ≡ s
 same-station-equal k s t = ap (λ (x : ℕ). record { 0 = x }) (eqb→eq (k .0) (s .0) t)
@@ -57,9 +56,9 @@ plan-facts : (p : Plan) → T (plan-ok p) → GoodPlan p
 unfolding plan-ok
 plan-facts p h =
     let who : T (station-ok (p .station) && train-ok (p .train)) =
-        and-l (station-ok (p .station) && train-ok (p .train)) (track-ok (p .track) && (minute-ok (p .arrival) && minute-ok (p .departure))) h in
+    and-l (station-ok (p .station) && train-ok (p .train)) (track-ok (p .track) && (minute-ok (p .arrival) && minute-ok (p .departure))) h in
     let what : T (track-ok (p .track) && (minute-ok (p .arrival) && minute-ok (p .departure))) =
-        and-r (station-ok (p .station) && train-ok (p .train)) (track-ok (p .track) && (minute-ok (p .arrival) && minute-ok (p .departure))) h in
+    and-r (station-ok (p .station) && train-ok (p .train)) (track-ok (p .track) && (minute-ok (p .arrival) && minute-ok (p .departure))) h in
     let times : T (minute-ok (p .arrival) && minute-ok (p .departure)) = and-r (track-ok (p .track)) (minute-ok (p .arrival) && minute-ok (p .departure)) what in
     record {
       station = and-l (station-ok (p .station)) (train-ok (p .train)) who;
@@ -148,8 +147,8 @@ keeps n (Prepend x) h = λ home away fits.
       here = λ here there r.
           add-visit-good n (x .plan .station) (x .plan .train) (with-out (onward (x .other) (x .line) (x .run)) (planned (x .plan))) here (g .plan .train)
           (onward-good n (x .plan .station) (x .other) (x .line) (x .run) (planned (x .plan))
-            (out-fits n (x .plan .station) (x .other) (x .line) (x .run) (g .other) (g .line) (g .run) away way)
-            (plan-good n (x .plan) (g .plan) track))
+          (out-fits n (x .plan .station) (x .other) (x .line) (x .run) (g .other) (g .line) (g .run) away way)
+          (plan-good n (x .plan) (g .plan) track))
           (passed 7 (has-visit (x .plan .train) here) _ r)
           (room (has-visit (x .plan .train) here) (not (has-visit (x .plan .train) there)) (not (is lacks-in (visit-of (x .plan .train) there))) (full-visits here) r);
       there = change-visit-good n (x .other) (x .plan .train) (with-in (from (x .plan .station) (x .line)))
@@ -163,13 +162,13 @@ keeps n (Append x) h = λ home away fits.
       here = λ here there r.
           add-visit-good n (x .plan .station) (x .plan .train) (with-in (from (x .other) (x .line)) (planned (x .plan))) here (g .plan .train)
           (from-good n (x .plan .station) (x .other) (x .line) (planned (x .plan))
-            (in-fits n (x .plan .station) (x .other) (x .line) (g .other) (g .line) away way)
-            (plan-good n (x .plan) (g .plan) track))
+          (in-fits n (x .plan .station) (x .other) (x .line) (g .other) (g .line) away way)
+          (plan-good n (x .plan) (g .plan) track))
           (passed 7 (has-visit (x .plan .train) here) _ r)
           (room (has-visit (x .plan .train) here) (not (has-visit (x .plan .train) there)) (not (is lacks-out (visit-of (x .plan .train) there))) (full-visits here) r);
       there = change-visit-good n (x .other) (x .plan .train) (with-out (onward (x .plan .station) (x .line) (x .run)))
           (λ v. onward-good n (x .other) (x .plan .station) (x .line) (x .run) v
-            (out-fits n (x .other) (x .plan .station) (x .line) (x .run) (g .plan .station) (g .line) (g .run) home way));
+          (out-fits n (x .other) (x .plan .station) (x .line) (x .run) (g .plan .station) (g .line) (g .run) home way));
     }
 keeps n (DeleteFirst d) h = λ home away fits. record {
   here = λ here there r. without-good n (d .station) (d .train) here;

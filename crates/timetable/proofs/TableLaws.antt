@@ -1,26 +1,26 @@
 -- What the functions on a table's lists keep: the order, the limits, and every test of the entries or relations. By induction on the lists;
 -- for a train taken from a relation, the trains that stay are in order and the four places hold them. Assumes nothing.
-use Prim.Native.Nat.{ℕ, zero, suc, _+_, _≤_, _<_}
+use Prim.Native.Nat.{ℕ, suc, _+_, _≤_, _<_}
 use mathlib.Core.Path.{_≡_, refl, sym, _∙_, ap, ap₂}
 use mathlib.Core.Bool.{Bool, true, false, not, _&&_, _||_}
 use mathlib.Core.List.{List, [], _∷_, map}
 use mathlib.Core.Logic.{_⊎_, inl, inr}
 use mathlib.Core.Option.{Option, none, some, Option·map}
 use native.Mathlib.Omega.{arith}
-use lib.Dec.{T, ltb, leb, eqb, ltb→lt, lt→ltb, leb→le, le→leb, eqb→eq, eqb-refl, T-not}
-use lib.ListN.{length, getD, length-map}
-use borrow.Author.Tests.{ltb-false, leb-false, lt-ltb, eq-eqb}
-use Rattle.base.specs.Choice.{if_then_else_}
-use Rattle.base.specs.Lists.{any, every, keep, first, is, each-two, below, same, rising}
-use Rattle.base.proofs.Tests.{by-value, by-test, T-true, true-T, T-false, and-l, and-r, both, or-l, or-r, or-cases}
-use Rattle.base.proofs.Sorted.{every-head, every-tail, every-cons, every-weaker, every-keep, every-mapped, keep-length, two-head, two-tail, two-cons, two-step, two-keep}
+use lib.Dec.{T, ltb, leb, eqb, ltb→lt, lt→ltb, leb→le, le→leb, eqb→eq, T-not, not-T}
+use lib.ListN.{length, length-map}
+use borrow.Author.Tests.{ltb-false, leb-false, eqb-true, lt-ltb, eq-eqb}
+use Rattle.base.specs.Choice.{if_then_else_, _if_else_}
+use Rattle.base.specs.Lists.{any, every, keep, first, is, each-two, rising}
+use Rattle.base.proofs.Tests.{true-T, and-l, and-r, both, or-l, or-r, or-cases}
+use Rattle.base.proofs.Sorted.{every-head, every-tail, every-cons, every-weaker, every-keep, every-mapped, keep-length, keep-every, two-head, two-tail, two-cons, two-step, two-keep}
 use Rattle.base.proofs.Sorted.{smaller, smaller-across, rising-map, below-trans, below-total}
 use Rattle.railway.specs.Ranges.{same-train, train-ok, track-ok, minute-ok, interval-ok}
-use Rattle.railway.specs.Relations.{present, used, further-ok, trains-ok, pair-ok, relation-ok, key, precedes, same-relation}
+use Rattle.railway.specs.Relations.{present, used, further-ok, trains-ok, relation-ok, key, precedes, same-relation}
 use Rattle.railway.specs.Networks.{track-known}
-use Rattle.timetable.specs.Types.{Station, Train, Track, Line, Minute, Inward, Outward, InLink, OutLink, Visit, Trains, Relation, Connection, Disconnection, Dependency, Plan, Network}
+use Rattle.timetable.specs.Types.{Station, Train, Line, Minute, InLink, OutLink, Visit, Trains, Relation, Connection, Disconnection, Dependency, Plan, Network}
 use Rattle.timetable.specs.Visits.{ins, outs, with-in, with-out, planned, amended, arrived-at, departed-at, from, onward}
-use Rattle.timetable.specs.Tables.{Entry, Table, visit-of, has-visit, enter, add-visit, change-entry, change-visit, has-relation, insert, add-relation, drop-relation}
+use Rattle.timetable.specs.Tables.{Entry, Table, visit-of, has-visit, enter, add-visit, change-entry, change-visit, insert, add-relation, drop-relation}
 use Rattle.timetable.specs.Tables.{packed, fewer, lose, insert-if, lose-all, without, full-visits, full-relations}
 use Rattle.timetable.specs.Good.{in-good, out-good, links-good, values-good, visit-good, entry-good, visits-good, relations-good, table-good}
 
@@ -84,6 +84,27 @@ enter-order e (x ∷ xs) l o = go (smaller number e x) refl (enter-order e xs (e
         let differ : ¬ (number x ≡ number e) = λ q. T-not (same-train (x .train) (e .train)) (every-head other x xs l) (true-T (same-train (x .train) (e .train)) (eq-eqb (number x) (number e) q)) in
         let before : T (smaller number x e) = lt→ltb (number x) (number e) (omega (arith, ltb-false (number e) (number x) p)) in
         two-cons (smaller number) x (enter e xs) (enter-every (smaller number x) e xs before (two-head (smaller number) x xs o)) ih
+
+-- a train stands at most once in a list in order, so leaving it out leaves out one entry or none
+pub leave-length : (t : Train) (es : List Entry) → T (each-two (smaller number) es) → length (keep (λ e. not (same-train (e .train) t)) es) + (1 if among t es else 0) ≡ length es
+unfolding keep first
+leave-length t [] o = omega arith
+leave-length t (x ∷ xs) o = go (same-train (x .train) t) refl (leave-length t xs (two-tail (smaller number) x xs o))
+  where
+    other : Entry → Bool
+    other e = not (same-train (e .train) t)
+
+    later : same-train (x .train) t ≡ true → T (lacking t xs)
+    later q = every-weaker (smaller number x) other
+        (λ e l. not-T (same-train (e .train) t) (λ p. omega (arith, eqb-true (number x) (t .0) q, eqb→eq (number e) (t .0) p, ltb→lt (number x) (number e) l)))
+        xs (two-head (smaller number) x xs o)
+
+    go : (b : Bool) → same-train (x .train) t ≡ b → length (keep other xs) + (1 if among t xs else 0) ≡ length xs
+        → length (if not b then x ∷ keep other xs else keep other xs)
+        + (1 if is (λ v. true) (Option·map (λ (e : Entry). e .visit) (if b then some x else first (λ e. same-train (e .train) t) xs)) else 0)
+        ≡ suc (length xs)
+    go true q ih = rw (keep-every other xs (later q)) (omega arith)
+    go false q ih = omega arith
 
 -- a changed visit keeps its train
 pub change-train : (t : Train) (f : Visit → Visit) (e : Entry) → change-entry t f e .train ≡ e .train
@@ -241,9 +262,9 @@ pub places : (ts : Trains) → T (trains-ok ts) → Places ts
 unfolding trains-ok
 places ts h =
     let front : T (train-ok (ts .a) && (ltb (ts .a .0) (ts .b .0) && train-ok (ts .b))) =
-        and-l (train-ok (ts .a) && (ltb (ts .a .0) (ts .b .0) && train-ok (ts .b))) (further-ok (ts .b) (ts .c) && further-ok (ts .c) (ts .d)) h in
+    and-l (train-ok (ts .a) && (ltb (ts .a .0) (ts .b .0) && train-ok (ts .b))) (further-ok (ts .b) (ts .c) && further-ok (ts .c) (ts .d)) h in
     let back : T (further-ok (ts .b) (ts .c) && further-ok (ts .c) (ts .d)) =
-        and-r (train-ok (ts .a) && (ltb (ts .a .0) (ts .b .0) && train-ok (ts .b))) (further-ok (ts .b) (ts .c) && further-ok (ts .c) (ts .d)) h in
+    and-r (train-ok (ts .a) && (ltb (ts .a .0) (ts .b .0) && train-ok (ts .b))) (further-ok (ts .b) (ts .c) && further-ok (ts .c) (ts .d)) h in
     let second : T (ltb (ts .a .0) (ts .b .0) && train-ok (ts .b)) = and-r (train-ok (ts .a)) (ltb (ts .a .0) (ts .b .0) && train-ok (ts .b)) front in
     record {
       first-low = train-low (ts .a) (and-l (train-ok (ts .a)) (ltb (ts .a .0) (ts .b .0) && train-ok (ts .b)) front);
@@ -258,7 +279,7 @@ unfolding trains-ok
 places-fit ts p =
     both (train-ok (ts .a) && (ltb (ts .a .0) (ts .b .0) && train-ok (ts .b))) (further-ok (ts .b) (ts .c) && further-ok (ts .c) (ts .d))
     (both (train-ok (ts .a)) (ltb (ts .a .0) (ts .b .0) && train-ok (ts .b)) (train-fits (ts .a) (p .first-low) (omega arith))
-      (both (ltb (ts .a .0) (ts .b .0)) (train-ok (ts .b)) (lt→ltb (ts .a .0) (ts .b .0) (p .second-above)) (train-fits (ts .b) (omega arith) (p .second-high))))
+    (both (ltb (ts .a .0) (ts .b .0)) (train-ok (ts .b)) (lt→ltb (ts .a .0) (ts .b .0) (p .second-above)) (train-fits (ts .b) (omega arith) (p .second-high))))
     (both (further-ok (ts .b) (ts .c)) (further-ok (ts .c) (ts .d)) (further-fits (ts .b) (ts .c) (p .third)) (further-fits (ts .c) (ts .d) (p .fourth)))
 
 -- the list of the places in use, by how many they are
@@ -316,7 +337,7 @@ used-group ts h = go (p .third) (p .fourth)
       order = chain (ts .a) (ts .b) (ts .c ∷ ts .d ∷ []) (p .second-above) (chain (ts .b) (ts .c) (ts .d ∷ []) (e .1) (chain (ts .c) (ts .d) [] (f .1) tt));
       each = both (train-ok (ts .a)) (train-ok (ts .b) && (train-ok (ts .c) && (train-ok (ts .d) && true))) first-fits
           (both (train-ok (ts .b)) (train-ok (ts .c) && (train-ok (ts .d) && true)) second-fits
-            (both (train-ok (ts .c)) (train-ok (ts .d) && true) (train-fits (ts .c) (omega arith) (e .2)) (both (train-ok (ts .d)) true (train-fits (ts .d) (omega arith) (f .2)) tt)));
+          (both (train-ok (ts .c)) (train-ok (ts .d) && true) (train-fits (ts .c) (omega arith) (e .2)) (both (train-ok (ts .d)) true (train-fits (ts .d) (omega arith) (f .2)) tt)));
     })
 
 -- and the four places of a group are good
@@ -414,7 +435,7 @@ visit-facts n s v h =
     let values : T ((track-ok (v .track) && track-known n s (v .track)) && (minute-ok (v .arrival) && minute-ok (v .departure))) = and-l (values-good n s v) (links-good n s v) h in
     let links : T (every (in-good n s) (ins v) && every (out-good n s) (outs v)) = and-r (values-good n s v) (links-good n s v) h in
     let times : T (minute-ok (v .arrival) && minute-ok (v .departure)) =
-        and-r (track-ok (v .track) && track-known n s (v .track)) (minute-ok (v .arrival) && minute-ok (v .departure)) values in
+    and-r (track-ok (v .track) && track-known n s (v .track)) (minute-ok (v .arrival) && minute-ok (v .departure)) values in
     record {
       track = and-l (track-ok (v .track) && track-known n s (v .track)) (minute-ok (v .arrival) && minute-ok (v .departure)) values;
       arrival = and-l (minute-ok (v .arrival)) (minute-ok (v .departure)) times;
@@ -428,7 +449,7 @@ unfolding visit-good values-good links-good
 visit-fits n s v g =
     both (values-good n s v) (links-good n s v)
     (both (track-ok (v .track) && track-known n s (v .track)) (minute-ok (v .arrival) && minute-ok (v .departure)) (g .track)
-      (both (minute-ok (v .arrival)) (minute-ok (v .departure)) (g .arrival) (g .departure)))
+    (both (minute-ok (v .arrival)) (minute-ok (v .departure)) (g .arrival) (g .departure)))
     (both (every (in-good n s) (ins v)) (every (out-good n s) (outs v)) (g .inward) (g .outward))
 
 pub planned-good : (n : Network) (s : Station) (p : Plan) → T (track-ok (p .track) && track-known n s (p .track)) → T (minute-ok (p .arrival)) → T (minute-ok (p .departure))
@@ -597,6 +618,20 @@ pub table-fits : (n : Network) (s : Station) (tab : Table) → GoodTable n s tab
 unfolding table-good
 table-fits n s tab g =
     both (visits-good n s (tab .visits)) (relations-good (tab .relations)) (visits-fit n s (tab .visits) (g .visits)) (relations-fit (tab .relations) (g .relations))
+
+-- what the functions on tables do to the number of visits, and that they keep a table good
+
+pub add-visit-length : (t : Train) (v : Visit) (tab : Table) → length (add-visit t v tab .visits) ≡ suc (length (tab .visits))
+unfolding add-visit
+add-visit-length t v tab = enter-length (record { train = t; visit = v }) (tab .visits)
+
+pub change-visit-length : (t : Train) (f : Visit → Visit) (tab : Table) → length (change-visit t f tab .visits) ≡ length (tab .visits)
+unfolding change-visit
+change-visit-length t f tab = length-map (tab .visits) (change-entry t f)
+
+pub without-length : (t : Train) (tab : Table) → T (each-two (smaller number) (tab .visits)) → length (without t tab .visits) + (1 if has-visit t tab else 0) ≡ length (tab .visits)
+unfolding without has-visit visit-of
+without-length t tab o = leave-length t (tab .visits) o
 
 -- a train that has no visit gets one, where there is room
 pub add-visit-good : (n : Network) (s : Station) (t : Train) (v : Visit) (tab : Table) → T (train-ok t) → GoodVisit n s v
