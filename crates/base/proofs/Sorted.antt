@@ -13,6 +13,9 @@ use Rattle.base.specs.Choice.{if_then_else_, _if_else_}
 use Rattle.base.specs.Lists.{any, every, keep, count, each-two, sum, below, same, rising}
 use Rattle.base.proofs.Tests.{by-value, T-true, true-T, and-l, and-r, both, or-l, or-r, or-cases}
 
+-- the parts of tests joined by `&&`: `search parts` takes one out, `search both` puts them together
+pub ruleset parts = (and-l, and-r)
+
 module _ {A : Type 0} where
   -- each passes
 

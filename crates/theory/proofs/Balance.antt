@@ -12,8 +12,8 @@ use borrow.Author.Tests.{eqb-true, not-false, ltb-false}
 use Rattle.base.specs.Choice.{if_then_else_, _if_else_}
 use Rattle.base.specs.Lists.{every, count, each-two, sum, rising, within}
 use Rattle.base.specs.Runs.{run, answers}
-use Rattle.base.proofs.Tests.{true-T, if-yes, and-l, and-r}
-use Rattle.base.proofs.Sorted.{smaller, rising-map, two-map, every-any, sum-balance, sum-zero, count-sum, sum-once}
+use Rattle.base.proofs.Tests.{true-T, if-yes}
+use Rattle.base.proofs.Sorted.{parts, smaller, rising-map, two-map, every-any, sum-balance, sum-zero, count-sum, sum-once}
 use Rattle.railway.specs.declared.sorts.Train.{Train}
 use Rattle.railway.specs.declared.network.StationRow.{StationRow}
 use Rattle.railway.specs.declared.edit.Edit.the-variants.{Place, Prepend, Append, DeleteFirst, DeleteLast, Amend}
@@ -98,10 +98,7 @@ pub stations-rise : (n : Network) → GoodNetwork n → T (each-two (smaller pla
 unfolding network-refusal network-in-range stations-in-range stations-of
 stations-rise n g =
     let whole : T (network-in-range n) = true-T (network-in-range n) (not-false (network-in-range n) (passed 2 (not (network-in-range n)) _ g)) in
-    let rows : T (stations-in-range n) = and-l (stations-in-range n) (within 1 30 (n .headway) && lines-in-range n) whole in
-    let each : T (every station-row-ok (station-rows n) && rising (map number-of (station-rows n))) =
-    and-r (within 1 16 (n .stationcount)) (every station-row-ok (station-rows n) && rising (map number-of (station-rows n))) rows in
-    let up : T (rising (map number-of (station-rows n))) = and-r (every station-row-ok (station-rows n)) (rising (map number-of (station-rows n))) each in
+    let up : T (rising (map number-of (station-rows n))) = search parts in
     rw (two-map (smaller place) (λ r. r .station) (station-rows n)) (rw (rising-map number-of (station-rows n)) at up)
   where
     number-of : StationRow → ℕ
@@ -136,8 +133,7 @@ module _ (n : Network) (rise : T (each-two (smaller place) (stations-of n))) (m 
   unfolding changed removed-by added-by refused-as known listed
   sizes (local a) bal r =
       let fine : T (known n a) = true-T (known n a) (not-false (known n a) (passed 6 (not (known n a)) (a .refuses (m (a .home)) (m (a .away))) r)) in
-      let home : T (listed n (a .home)) =
-      and-l (listed n (a .home)) (listed n (a .away)) (and-l (listed n (a .home) && listed n (a .away)) (a .fits n) fine) in
+      let home : T (listed n (a .home)) = search parts in
       let removes : sum (at-only (a .home) (a .removes)) (stations-of n) ≡ a .removes = sum-once place (a .home .0) (a .removes) (stations-of n) rise home in
       let adds : sum (at-only (a .home) (a .adds)) (stations-of n) ≡ a .adds = sum-once place (a .home .0) (a .adds) (stations-of n) rise home in
       rw (removes, adds) at (sum-balance (listed n) (λ s. size (changed n (local a) m s)) (λ s. size (m s)) (at-only (a .home) (a .removes)) (at-only (a .home) (a .adds))
@@ -212,14 +208,11 @@ pub list-balances : (n : Network) → T (each-two (smaller place) (stations-of n
 unfolding run answers raise-all counts-in-full
 list-balances n rise [] m y w t = omega arith
 list-balances n rise (e ∷ es) m y w t =
-    let now : T (eqb (raise-refusal y (answer n e m)) 0 && not (eqb (answer n e m .refusal) 5)) =
-    and-l (eqb (raise-refusal y (answer n e m)) 0 && not (eqb (answer n e m .refusal) 5)) _ t in
-    let up : Raised y e (answer n e m) = counted y e (answer n e m) (and-l (eqb (raise-refusal y (answer n e m)) 0) (not (eqb (answer n e m .refusal) 5)) now) in
+    let up : Raised y e (answer n e m) = counted y e (answer n e m) (search parts) in
     omega (
       arith,
       one-balances n rise m w e,
-      list-balances n rise es (after n e m) (raise y e (answer n e m)) (after-whole n m e w)
-          (and-r (eqb (raise-refusal y (answer n e m)) 0 && not (eqb (answer n e m .refusal) 5)) _ t),
+      list-balances n rise es (after n e m) (raise y e (answer n e m)) (after-whole n m e w) (search parts),
     )
 
 pub balances : TallyBalances

@@ -10,7 +10,8 @@ use borrow.Author.Tests.{eqb-true, ne-eqb, not-false}
 use Rattle.base.specs.Choice.{if_then_else_, _if_else_}
 use Rattle.base.specs.Lists.{is}
 use Rattle.base.specs.Runs.{run}
-use Rattle.base.proofs.Tests.{true-T, and-l, and-r, both}
+use Rattle.base.proofs.Tests.{true-T, both}
+use Rattle.base.proofs.Sorted.{parts}
 use Rattle.railway.specs.declared.sorts.Line.{Line}
 use Rattle.railway.specs.declared.edit.Plan.{Plan}
 use Rattle.railway.specs.declared.edit.Extension.{Extension}
@@ -54,19 +55,7 @@ record GoodPlan (p : Plan) : Type 0 where
 
 plan-facts : (p : Plan) → T (plan-ok p) → GoodPlan p
 unfolding plan-ok
-plan-facts p h =
-    let who : T (station-ok (p .station) && train-ok (p .train)) =
-    and-l (station-ok (p .station) && train-ok (p .train)) (track-ok (p .track) && (minute-ok (p .arrival) && minute-ok (p .departure))) h in
-    let what : T (track-ok (p .track) && (minute-ok (p .arrival) && minute-ok (p .departure))) =
-    and-r (station-ok (p .station) && train-ok (p .train)) (track-ok (p .track) && (minute-ok (p .arrival) && minute-ok (p .departure))) h in
-    let times : T (minute-ok (p .arrival) && minute-ok (p .departure)) = and-r (track-ok (p .track)) (minute-ok (p .arrival) && minute-ok (p .departure)) what in
-    record {
-      station = and-l (station-ok (p .station)) (train-ok (p .train)) who;
-      train = and-r (station-ok (p .station)) (train-ok (p .train)) who;
-      track = and-l (track-ok (p .track)) (minute-ok (p .arrival) && minute-ok (p .departure)) what;
-      arrival = and-l (minute-ok (p .arrival)) (minute-ok (p .departure)) times;
-      departure = and-r (minute-ok (p .arrival)) (minute-ok (p .departure)) times;
-    }
+plan-facts p h = record { station = search parts; train = search parts; track = search parts; arrival = search parts; departure = search parts }
 
 record GoodExtension (x : Extension) : Type 0 where
   plan : GoodPlan (x .plan)
@@ -76,24 +65,15 @@ record GoodExtension (x : Extension) : Type 0 where
 
 extension-facts : (x : Extension) → T (extension-ok x) → GoodExtension x
 unfolding extension-ok
-extension-facts x h =
-    let link : T (station-ok (x .other) && (line-ok (x .line) && run-ok (x .run))) = and-r (plan-ok (x .plan)) (station-ok (x .other) && (line-ok (x .line) && run-ok (x .run))) h in
-    let way : T (line-ok (x .line) && run-ok (x .run)) = and-r (station-ok (x .other)) (line-ok (x .line) && run-ok (x .run)) link in
-    record {
-      plan = plan-facts (x .plan) (and-l (plan-ok (x .plan)) (station-ok (x .other) && (line-ok (x .line) && run-ok (x .run))) h);
-      other = and-l (station-ok (x .other)) (line-ok (x .line) && run-ok (x .run)) link;
-      line = and-l (line-ok (x .line)) (run-ok (x .run)) way;
-      run = and-r (line-ok (x .line)) (run-ok (x .run)) way;
-    }
+extension-facts x h = record { plan = plan-facts (x .plan) (search parts); other = search parts; line = search parts; run = search parts }
 
 report-time : (r : Report) → T (report-ok r) → T (minute-ok (r .time))
 unfolding report-ok
-report-time r h =
-    and-r (train-ok (r .train)) (minute-ok (r .time)) (and-r (station-ok (r .station)) (train-ok (r .train) && minute-ok (r .time)) h)
+report-time r h = search parts
 
 added-relation : (q : StationRelation) → T (station-relation-ok q) → T (relation-ok (q .relation))
 unfolding station-relation-ok
-added-relation q h = and-r (station-ok (q .station)) (relation-ok (q .relation)) h
+added-relation q h = search parts
 
 -- the visit that a plan in range makes, on a known track
 
@@ -108,14 +88,12 @@ room b c d f e = passed 11 f 0 (rest-passed 9 d _ (rest-passed 8 c _ (rest-passe
 
 in-fits : (n : Network) (s o : Station) (l : Line) → T (station-ok o) → T (line-ok l) → T (listed n o) → T (runs n l o s) → T (in-good n s (record { station = o; line = l }))
 unfolding in-good
-in-fits n s o l h k i r = both (station-ok o && line-ok l) (listed n o && runs n l o s) (both (station-ok o) (line-ok l) h k) (both (listed n o) (runs n l o s) i r)
+in-fits n s o l h k i r = search both
 
 out-fits : (n : Network) (s o : Station) (l : Line) (m : ℕ) → T (station-ok o) → T (line-ok l) → T (run-ok m) → T (listed n o) → T (runs n l s o)
     → T (out-good n s (record { station = o; line = l; run = m }))
 unfolding out-good
-out-fits n s o l m h k j i r =
-    both (station-ok o && (line-ok l && run-ok m)) (listed n o && runs n l s o) (both (station-ok o) (line-ok l && run-ok m) h (both (line-ok l) (run-ok m) k j))
-    (both (listed n o) (runs n l s o) i r)
+out-fits n s o l m h k j i r = search both
 
 -- each edit at its two tables
 
@@ -141,8 +119,8 @@ keeps n (Place p) h = λ home away fits.
     }
 keeps n (Prepend x) h = λ home away fits.
     let g : GoodExtension x = extension-facts x h in
-    let track : T (track-known n (x .plan .station) (x .plan .track)) = and-l (track-known n (x .plan .station) (x .plan .track)) _ fits in
-    let way : T (runs n (x .line) (x .plan .station) (x .other)) = and-r (track-known n (x .plan .station) (x .plan .track)) _ fits in
+    let track : T (track-known n (x .plan .station) (x .plan .track)) = search parts in
+    let way : T (runs n (x .line) (x .plan .station) (x .other)) = search parts in
     record {
       here = λ here there r.
           add-visit-good n (x .plan .station) (x .plan .train) (with-out (onward (x .other) (x .line) (x .run)) (planned (x .plan))) here (g .plan .train)
@@ -156,8 +134,8 @@ keeps n (Prepend x) h = λ home away fits.
     }
 keeps n (Append x) h = λ home away fits.
     let g : GoodExtension x = extension-facts x h in
-    let track : T (track-known n (x .plan .station) (x .plan .track)) = and-l (track-known n (x .plan .station) (x .plan .track)) _ fits in
-    let way : T (runs n (x .line) (x .other) (x .plan .station)) = and-r (track-known n (x .plan .station) (x .plan .track)) _ fits in
+    let track : T (track-known n (x .plan .station) (x .plan .track)) = search parts in
+    let way : T (runs n (x .line) (x .other) (x .plan .station)) = search parts in
     record {
       here = λ here there r.
           add-visit-good n (x .plan .station) (x .plan .train) (with-in (from (x .other) (x .line)) (planned (x .plan))) here (g .plan .train)
@@ -240,10 +218,9 @@ module _ (n : Network) (m : Timetable) (w : Whole n m) where
   unfolding changed refused-as known
   changed-whole (local a) k r =
       let fine : T (known n a) = true-T (known n a) (not-false (known n a) (passed 6 (not (known n a)) (a .refuses (m (a .home)) (m (a .away))) r)) in
-      let both-listed : T (listed n (a .home) && listed n (a .away)) = and-l (listed n (a .home) && listed n (a .away)) (a .fits n) fine in
-      let home : T (listed n (a .home)) = and-l (listed n (a .home)) (listed n (a .away)) both-listed in
-      let away : T (listed n (a .away)) = and-r (listed n (a .home)) (listed n (a .away)) both-listed in
-      local-whole a (k home away (and-r (listed n (a .home) && listed n (a .away)) (a .fits n) fine)) home away
+      let home : T (listed n (a .home)) = search parts in
+      let away : T (listed n (a .away)) = search parts in
+      local-whole a (k home away (search parts)) home away
       (rest-passed 6 (not (known n a)) (a .refuses (m (a .home)) (m (a .away))) r)
   changed-whole (throughout t) k r = record { good = λ s l. good s l (listed n s) refl; bare = λ s l. bare s l (listed n s) refl }
     where

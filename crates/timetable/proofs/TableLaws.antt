@@ -14,7 +14,7 @@ use Rattle.base.specs.Choice.{if_then_else_, _if_else_}
 use Rattle.base.specs.Lists.{any, every, keep, first, is, each-two, rising}
 use Rattle.base.proofs.Tests.{true-T, and-l, and-r, both, or-l, or-r, or-cases}
 use Rattle.base.proofs.Sorted.{every-head, every-tail, every-cons, every-weaker, every-keep, every-mapped, keep-length, keep-every, two-head, two-tail, two-cons, two-step, two-keep}
-use Rattle.base.proofs.Sorted.{smaller, smaller-across, rising-map, below-trans, below-total}
+use Rattle.base.proofs.Sorted.{parts, smaller, smaller-across, rising-map, below-trans, below-total}
 use Rattle.railway.specs.Ranges.{same-train, train-ok, track-ok, minute-ok, interval-ok}
 use Rattle.railway.specs.Relations.{present, used, further-ok, trains-ok, relation-ok, key, precedes, same-relation}
 use Rattle.railway.specs.Networks.{track-known}
@@ -220,10 +220,10 @@ pub record GroupOf (ts : List Train) : Type 0 where
 
 -- a train's range as numbers, both ways
 pub train-low : (t : Train) → T (train-ok t) → 1 ≤ t .0
-train-low t h = leb→le 1 (t .0) (and-l (leb 1 (t .0)) (leb (t .0) 9999) h)
+train-low t h = leb→le 1 (t .0) (search parts)
 
 pub train-high : (t : Train) → T (train-ok t) → t .0 ≤ 9999
-train-high t h = leb→le (t .0) 9999 (and-r (leb 1 (t .0)) (leb (t .0) 9999) h)
+train-high t h = leb→le (t .0) 9999 (search parts)
 
 pub train-fits : (t : Train) → 1 ≤ t .0 → t .0 ≤ 9999 → T (train-ok t)
 train-fits t l h = both (leb 1 (t .0)) (leb (t .0) 9999) (le→leb 1 (t .0) l) (le→leb (t .0) 9999 h)
@@ -237,18 +237,16 @@ unfolding further-ok
 further t u h =
     or-cases (eqb (u .0) 0) ((present t && ltb (t .0) (u .0)) && train-ok u) h
     (λ e. inl (eqb→eq (u .0) 0 e))
-    (λ r. inr (
-      ltb→lt 0 (t .0) (and-l (present t) (ltb (t .0) (u .0)) (and-l (present t && ltb (t .0) (u .0)) (train-ok u) r)),
-      ltb→lt (t .0) (u .0) (and-r (present t) (ltb (t .0) (u .0)) (and-l (present t && ltb (t .0) (u .0)) (train-ok u) r)),
-      train-high u (and-r (present t && ltb (t .0) (u .0)) (train-ok u) r),
-    ))
+    (λ r. inr (ltb→lt 0 (t .0) (search parts), ltb→lt (t .0) (u .0) (search parts), train-high u (search parts)))
 
 pub further-fits : (t u : Train) → Further t u → T (further-ok t u)
 unfolding further-ok
 further-fits t u (inl e) = or-l (eqb (u .0) 0) ((present t && ltb (t .0) (u .0)) && train-ok u) (true-T (eqb (u .0) 0) (eq-eqb (u .0) 0 e))
 further-fits t u (inr f) =
-    or-r (eqb (u .0) 0) ((present t && ltb (t .0) (u .0)) && train-ok u)
-    (both (present t && ltb (t .0) (u .0)) (train-ok u) (both (present t) (ltb (t .0) (u .0)) (lt→ltb 0 (t .0) (f .0)) (lt→ltb (t .0) (u .0) (f .1))) (train-fits u (omega arith) (f .2)))
+    let before : T (present t) = lt→ltb 0 (t .0) (f .0) in
+    let above : T (ltb (t .0) (u .0)) = lt→ltb (t .0) (u .0) (f .1) in
+    let fits : T (train-ok u) = train-fits u (omega arith) (f .2) in
+    or-r (eqb (u .0) 0) ((present t && ltb (t .0) (u .0)) && train-ok u) (search both)
 
 -- the four places as numbers
 pub record Places (ts : Trains) : Type 0 where
@@ -260,27 +258,23 @@ pub record Places (ts : Trains) : Type 0 where
 
 pub places : (ts : Trains) → T (trains-ok ts) → Places ts
 unfolding trains-ok
-places ts h =
-    let front : T (train-ok (ts .a) && (ltb (ts .a .0) (ts .b .0) && train-ok (ts .b))) =
-    and-l (train-ok (ts .a) && (ltb (ts .a .0) (ts .b .0) && train-ok (ts .b))) (further-ok (ts .b) (ts .c) && further-ok (ts .c) (ts .d)) h in
-    let back : T (further-ok (ts .b) (ts .c) && further-ok (ts .c) (ts .d)) =
-    and-r (train-ok (ts .a) && (ltb (ts .a .0) (ts .b .0) && train-ok (ts .b))) (further-ok (ts .b) (ts .c) && further-ok (ts .c) (ts .d)) h in
-    let second : T (ltb (ts .a .0) (ts .b .0) && train-ok (ts .b)) = and-r (train-ok (ts .a)) (ltb (ts .a .0) (ts .b .0) && train-ok (ts .b)) front in
-    record {
-      first-low = train-low (ts .a) (and-l (train-ok (ts .a)) (ltb (ts .a .0) (ts .b .0) && train-ok (ts .b)) front);
-      second-above = ltb→lt (ts .a .0) (ts .b .0) (and-l (ltb (ts .a .0) (ts .b .0)) (train-ok (ts .b)) second);
-      second-high = train-high (ts .b) (and-r (ltb (ts .a .0) (ts .b .0)) (train-ok (ts .b)) second);
-      third = further (ts .b) (ts .c) (and-l (further-ok (ts .b) (ts .c)) (further-ok (ts .c) (ts .d)) back);
-      fourth = further (ts .c) (ts .d) (and-r (further-ok (ts .b) (ts .c)) (further-ok (ts .c) (ts .d)) back);
-    }
+places ts h = record {
+  first-low = train-low (ts .a) (search parts);
+  second-above = ltb→lt (ts .a .0) (ts .b .0) (search parts);
+  second-high = train-high (ts .b) (search parts);
+  third = further (ts .b) (ts .c) (search parts);
+  fourth = further (ts .c) (ts .d) (search parts);
+}
 
 pub places-fit : (ts : Trains) → Places ts → T (trains-ok ts)
 unfolding trains-ok
 places-fit ts p =
-    both (train-ok (ts .a) && (ltb (ts .a .0) (ts .b .0) && train-ok (ts .b))) (further-ok (ts .b) (ts .c) && further-ok (ts .c) (ts .d))
-    (both (train-ok (ts .a)) (ltb (ts .a .0) (ts .b .0) && train-ok (ts .b)) (train-fits (ts .a) (p .first-low) (omega arith))
-    (both (ltb (ts .a .0) (ts .b .0)) (train-ok (ts .b)) (lt→ltb (ts .a .0) (ts .b .0) (p .second-above)) (train-fits (ts .b) (omega arith) (p .second-high))))
-    (both (further-ok (ts .b) (ts .c)) (further-ok (ts .c) (ts .d)) (further-fits (ts .b) (ts .c) (p .third)) (further-fits (ts .c) (ts .d) (p .fourth)))
+    let first : T (train-ok (ts .a)) = train-fits (ts .a) (p .first-low) (omega arith) in
+    let above : T (ltb (ts .a .0) (ts .b .0)) = lt→ltb (ts .a .0) (ts .b .0) (p .second-above) in
+    let second : T (train-ok (ts .b)) = train-fits (ts .b) (omega arith) (p .second-high) in
+    let third : T (further-ok (ts .b) (ts .c)) = further-fits (ts .b) (ts .c) (p .third) in
+    let fourth : T (further-ok (ts .c) (ts .d)) = further-fits (ts .c) (ts .d) (p .fourth) in
+    search both
 
 -- the list of the places in use, by how many they are
 pub used-two : (ts : Trains) → Places ts → ts .c .0 ≡ 0 → ts .d .0 ≡ 0 → used ts ≡ ts .a ∷ ts .b ∷ []
@@ -431,26 +425,11 @@ pub record GoodVisit (n : Network) (s : Station) (v : Visit) : Type 0 where
 
 pub visit-facts : (n : Network) (s : Station) (v : Visit) → T (visit-good n s v) → GoodVisit n s v
 unfolding visit-good values-good links-good
-visit-facts n s v h =
-    let values : T ((track-ok (v .track) && track-known n s (v .track)) && (minute-ok (v .arrival) && minute-ok (v .departure))) = and-l (values-good n s v) (links-good n s v) h in
-    let links : T (every (in-good n s) (ins v) && every (out-good n s) (outs v)) = and-r (values-good n s v) (links-good n s v) h in
-    let times : T (minute-ok (v .arrival) && minute-ok (v .departure)) =
-    and-r (track-ok (v .track) && track-known n s (v .track)) (minute-ok (v .arrival) && minute-ok (v .departure)) values in
-    record {
-      track = and-l (track-ok (v .track) && track-known n s (v .track)) (minute-ok (v .arrival) && minute-ok (v .departure)) values;
-      arrival = and-l (minute-ok (v .arrival)) (minute-ok (v .departure)) times;
-      departure = and-r (minute-ok (v .arrival)) (minute-ok (v .departure)) times;
-      inward = and-l (every (in-good n s) (ins v)) (every (out-good n s) (outs v)) links;
-      outward = and-r (every (in-good n s) (ins v)) (every (out-good n s) (outs v)) links;
-    }
+visit-facts n s v h = record { track = search parts; arrival = search parts; departure = search parts; inward = search parts; outward = search parts }
 
 pub visit-fits : (n : Network) (s : Station) (v : Visit) → GoodVisit n s v → T (visit-good n s v)
 unfolding visit-good values-good links-good
-visit-fits n s v g =
-    both (values-good n s v) (links-good n s v)
-    (both (track-ok (v .track) && track-known n s (v .track)) (minute-ok (v .arrival) && minute-ok (v .departure)) (g .track)
-    (both (minute-ok (v .arrival)) (minute-ok (v .departure)) (g .arrival) (g .departure)))
-    (both (every (in-good n s) (ins v)) (every (out-good n s) (outs v)) (g .inward) (g .outward))
+visit-fits n s v g = search both
 
 pub planned-good : (n : Network) (s : Station) (p : Plan) → T (track-ok (p .track) && track-known n s (p .track)) → T (minute-ok (p .arrival)) → T (minute-ok (p .departure))
     → GoodVisit n s (planned p)
@@ -511,19 +490,15 @@ pub record GoodVisits (n : Network) (s : Station) (es : List Entry) : Type 0 whe
 pub visits-facts : (n : Network) (s : Station) (es : List Entry) → T (visits-good n s es) → GoodVisits n s es
 unfolding visits-good
 visits-facts n s es h =
-    let front : T (leb (length es) 24 && rising (map number es)) = and-l (leb (length es) 24 && rising (map number es)) (every (entry-good n s) es) h in
-    record {
-      few = leb→le (length es) 24 (and-l (leb (length es) 24) (rising (map number es)) front);
-      order = rw (rising-map number es) at (and-r (leb (length es) 24) (rising (map number es)) front);
-      each = and-r (leb (length es) 24 && rising (map number es)) (every (entry-good n s) es) h;
-    }
+    let up : T (rising (map number es)) = search parts in
+    record { few = leb→le (length es) 24 (search parts); order = rw (rising-map number es) at up; each = search parts }
 
 pub visits-fit : (n : Network) (s : Station) (es : List Entry) → GoodVisits n s es → T (visits-good n s es)
 unfolding visits-good
 visits-fit n s es g =
-    both (leb (length es) 24 && rising (map number es)) (every (entry-good n s) es)
-    (both (leb (length es) 24) (rising (map number es)) (le→leb (length es) 24 (g .few)) (rw (rising-map number es) (g .order)))
-    (g .each)
+    let few : T (leb (length es) 24) = le→leb (length es) 24 (g .few) in
+    let up : T (rising (map number es)) = rw (rising-map number es) (g .order) in
+    search both
 
 pub enter-good : (n : Network) (s : Station) (e : Entry) (es : List Entry) → T (entry-good n s e) → T (lacking (e .train) es) → length es < 24
     → GoodVisits n s es → GoodVisits n s (enter e es)
@@ -565,20 +540,13 @@ pub record GoodRelations (rs : List Relation) : Type 0 where
 
 pub relations-facts : (rs : List Relation) → T (relations-good rs) → GoodRelations rs
 unfolding relations-good
-relations-facts rs h =
-    let front : T (leb (length rs) 6 && each-two precedes rs) = and-l (leb (length rs) 6 && each-two precedes rs) (every relation-ok rs) h in
-    record {
-      few = leb→le (length rs) 6 (and-l (leb (length rs) 6) (each-two precedes rs) front);
-      order = and-r (leb (length rs) 6) (each-two precedes rs) front;
-      each = and-r (leb (length rs) 6 && each-two precedes rs) (every relation-ok rs) h;
-    }
+relations-facts rs h = record { few = leb→le (length rs) 6 (search parts); order = search parts; each = search parts }
 
 pub relations-fit : (rs : List Relation) → GoodRelations rs → T (relations-good rs)
 unfolding relations-good
 relations-fit rs g =
-    both (leb (length rs) 6 && each-two precedes rs) (every relation-ok rs)
-    (both (leb (length rs) 6) (each-two precedes rs) (le→leb (length rs) 6 (g .few)) (g .order))
-    (g .each)
+    let few : T (leb (length rs) 6) = le→leb (length rs) 6 (g .few) in
+    search both
 
 pub insert-good : (r : Relation) (rs : List Relation) → T (relation-ok r) → length rs < 6 → GoodRelations rs → GoodRelations (insert r rs)
 insert-good r rs t f g = record {
@@ -609,10 +577,7 @@ pub record GoodTable (n : Network) (s : Station) (tab : Table) : Type 0 where
 
 pub table-facts : (n : Network) (s : Station) (tab : Table) → T (table-good n s tab) → GoodTable n s tab
 unfolding table-good
-table-facts n s tab h = record {
-  visits = visits-facts n s (tab .visits) (and-l (visits-good n s (tab .visits)) (relations-good (tab .relations)) h);
-  relations = relations-facts (tab .relations) (and-r (visits-good n s (tab .visits)) (relations-good (tab .relations)) h);
-}
+table-facts n s tab h = record { visits = visits-facts n s (tab .visits) (search parts); relations = relations-facts (tab .relations) (search parts) }
 
 pub table-fits : (n : Network) (s : Station) (tab : Table) → GoodTable n s tab → T (table-good n s tab)
 unfolding table-good
