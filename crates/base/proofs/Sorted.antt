@@ -1,9 +1,8 @@
 -- Laws of tests over lists, of lists in order, of sums over them, and of the order of lists of numbers: what keeping, mapping and weakening leave,
--- and that `below` is a strict order.
--- Each is by induction on the list. Assumes nothing.
+-- and that `below` is a strict order. Each is by induction on the list. Assumes nothing.
 use Prim.Native.Nat.{ℕ, suc, _+_, _≤_, _<_}
 use mathlib.Core.Path.{_≡_, refl, sym, ap, ap₂}
-use mathlib.Core.Bool.{Bool, true, false, not, _&&_, _||_}
+use mathlib.Core.Bool.{Bool, true, false, _&&_, _||_}
 use mathlib.Core.List.{List, [], _∷_, map}
 use native.Mathlib.Omega.{arith}
 use lib.Dec.{T, ltb, eqb, ltb→lt, lt→ltb, eqb→eq, eqb-refl}
@@ -11,7 +10,7 @@ use lib.ListN.{length}
 use borrow.Author.Tests.{ltb-true, ltb-false, eqb-true, eqb-false, eq-eqb, ne-eqb}
 use Rattle.base.specs.Choice.{if_then_else_, _if_else_}
 use Rattle.base.specs.Lists.{any, every, keep, count, each-two, sum, below, same, rising}
-use Rattle.base.proofs.Tests.{by-value, T-true, true-T, and-l, and-r, both, or-l, or-r, or-cases}
+use Rattle.base.proofs.Tests.{T-true, true-T, and-l, and-r, both, or-l, or-r, or-cases}
 
 -- the parts of tests joined by `&&`: `search parts` takes one out, `search both` puts them together
 pub ruleset parts = (and-l, and-r)
@@ -45,16 +44,6 @@ module _ {A : Type 0} where
       go : (b : Bool) → T (every f (keep p xs)) → T (every f (if b then x ∷ keep p xs else keep p xs))
       go true ih = every-cons f x (keep p xs) (every-head f x xs t) ih
       go false ih = ih
-
-  -- where none passes, each fails
-  pub none-every : (f : A → Bool) (xs : List A) → any f xs ≡ false → T (every (λ x. not (f x)) xs)
-  unfolding any every
-  none-every f [] e = tt
-  none-every f (x ∷ xs) e = go (f x) e (none-every f xs)
-    where
-      go : (b : Bool) → (b || any f xs) ≡ false → (any f xs ≡ false → T (every (λ y. not (f y)) xs)) → T (not b && every (λ y. not (f y)) xs)
-      go true q ih = absurd (true-T false (sym q))
-      go false q ih = ih q
 
   -- kept lists
 
@@ -129,7 +118,7 @@ pub rising-map : {A : Type 0} (g : A → ℕ) (xs : List A) → rising (map g xs
 unfolding rising
 rising-map g xs = two-map ltb g xs
 
--- sums
+-- sums over a list whose elements pass a test
 
 module _ {A : Type 0} where
   -- each element of a list is among its elements
@@ -161,17 +150,21 @@ module _ {A : Type 0} where
   pub sum-once : (g : A → ℕ) (k r : ℕ) (xs : List A) → T (each-two (smaller g) xs) → T (any (λ x. eqb k (g x)) xs) → sum (λ x. r if eqb (g x) k else 0) xs ≡ r
   unfolding sum any
   sum-once g k r [] o t = absurd t
-  sum-once g k r (x ∷ xs) o t = by-value (eqb (g x) k)
-      (λ e.
-      let rest : sum (λ y. r if eqb (g y) k else 0) xs ≡ 0 =
-      sum-zero (λ y. r if eqb (g y) k else 0) (smaller g x)
-      (λ y l. rw (ne-eqb (g y) k (λ q. omega (arith, eqb-true (g x) k e, ltb→lt (g x) (g y) l)))) xs (two-head (smaller g) x xs o) in
-      rw e (omega arith))
-      (λ e.
-      let rest : sum (λ y. r if eqb (g y) k else 0) xs ≡ r =
-      sum-once g k r xs (two-tail (smaller g) x xs o)
-      (or-cases (eqb k (g x)) (any (λ y. eqb k (g y)) xs) t (λ q. absurd (eqb-false (g x) k e (sym (eqb→eq k (g x) q)))) (λ q. q)) in
-      rw e (omega arith))
+  sum-once g k r (x ∷ xs) o t = go (eqb (g x) k) refl (sum-once g k r xs (two-tail (smaller g) x xs o))
+    where
+      -- those after x are above it
+      later : eqb (g x) k ≡ true → sum (λ y. r if eqb (g y) k else 0) xs ≡ 0
+      later e =
+          sum-zero (λ y. r if eqb (g y) k else 0) (smaller g x)
+          (λ y l. rw (ne-eqb (g y) k (λ q. omega (arith, eqb-true (g x) k e, ltb→lt (g x) (g y) l)))) xs (two-head (smaller g) x xs o)
+
+      among-later : eqb (g x) k ≡ false → T (any (λ y. eqb k (g y)) xs)
+      among-later e = or-cases (eqb k (g x)) (any (λ y. eqb k (g y)) xs) t (λ q. absurd (eqb-false (g x) k e (sym (eqb→eq k (g x) q)))) (λ q. q)
+
+      go : (b : Bool) → eqb (g x) k ≡ b → (T (any (λ y. eqb k (g y)) xs) → sum (λ y. r if eqb (g y) k else 0) xs ≡ r)
+          → (r if b else 0) + sum (λ y. r if eqb (g y) k else 0) xs ≡ r
+      go true e ih = omega (arith, later e)
+      go false e ih = omega (arith, ih (among-later e))
 
 -- lists of numbers
 
@@ -228,9 +221,11 @@ unfolding below same
 below-total [] [] n d = d tt
 below-total [] (y ∷ ys) n d = absurd (n tt)
 below-total (x ∷ xs) [] n d = tt
-below-total (x ∷ xs) (y ∷ ys) n d = by-value (ltb x y)
-    (λ e. absurd (n (below-smaller x y xs ys (ltb-true x y e))))
-    (λ e. by-value (eqb x y)
-    (λ q. below-equal y x ys xs (omega (arith, eqb-true x y q))
-    (below-total xs ys (λ t. n (below-equal x y xs ys (eqb-true x y q) t)) (λ t. d (both (eqb x y) (same xs ys) (true-T (eqb x y) q) t))))
-    (λ q. below-smaller y x ys xs (omega (arith, ltb-false x y e, eqb-false x y q))))
+below-total (x ∷ xs) (y ∷ ys) n d = go (ltb x y) refl (eqb x y) refl (below-total xs ys)
+  where
+    go : (b : Bool) → ltb x y ≡ b → (c : Bool) → eqb x y ≡ c → (¬ T (below xs ys) → ¬ T (same xs ys) → T (below ys xs)) → T (below (y ∷ ys) (x ∷ xs))
+    go true e c q ih = absurd (n (below-smaller x y xs ys (ltb-true x y e)))
+    go false e true q ih =
+        below-equal y x ys xs (sym (eqb-true x y q))
+        (ih (λ t. n (below-equal x y xs ys (eqb-true x y q) t)) (λ t. d (both (eqb x y) (same xs ys) (true-T (eqb x y) q) t)))
+    go false e false q ih = below-smaller y x ys xs (omega (arith, ltb-false x y e, eqb-false x y q))

@@ -8,11 +8,11 @@ use mathlib.Core.List.{List, [], _∷_, map}
 use native.Mathlib.Omega.{arith}
 use lib.Dec.{T, ltb, eqb, eqb-refl, eqb→eq}
 use lib.ListN.{length}
-use borrow.Author.Tests.{eqb-true, not-false, ltb-false}
+use borrow.Author.Tests.{eqb-true, ltb-false}
 use Rattle.base.specs.Choice.{if_then_else_, _if_else_}
-use Rattle.base.specs.Lists.{every, count, each-two, sum, rising, within}
+use Rattle.base.specs.Lists.{every, each-two, sum, rising}
 use Rattle.base.specs.Runs.{run, answers}
-use Rattle.base.proofs.Tests.{true-T, if-yes}
+use Rattle.base.proofs.Tests.{T-true, true-T, if-yes, and-l}
 use Rattle.base.proofs.Sorted.{parts, smaller, rising-map, two-map, every-any, sum-balance, sum-zero, count-sum, sum-once}
 use Rattle.railway.specs.declared.sorts.Train.{Train}
 use Rattle.railway.specs.declared.network.StationRow.{StationRow}
@@ -20,7 +20,7 @@ use Rattle.railway.specs.declared.edit.Edit.the-variants.{Place, Prepend, Appen
 use Rattle.railway.specs.declared.edit.Edit.the-variants.{ReportArrival, ReportDeparture, AddRelation, RemoveRelation, DeleteTrain}
 use Rattle.railway.specs.Ranges.{same-station}
 use Rattle.railway.specs.Edits.{edit-ok}
-use Rattle.railway.specs.Networks.{station-rows, stations-of, station-row-ok, stations-in-range, lines-in-range, network-in-range, network-refusal, listed}
+use Rattle.railway.specs.Networks.{station-rows, stations-of, stations-in-range, network-in-range, network-refusal, listed}
 use Rattle.timetable.specs.Tables.{Table, has-visit, add-relation, drop-relation, without}
 use Rattle.timetable.specs.Machine.{Timetable, put, Action, Meaning, local, throughout, as-it-was, meaning, known, refused-as, refusal, changed, removed-by, added-by, answer, after}
 use Rattle.timetable.specs.Good.{Whole}
@@ -28,7 +28,7 @@ use Rattle.timetable.specs.Count.{zero-tally, overfull, unlikely, raise-refusal
 use Rattle.timetable.proofs.TableLaws.{number, table-facts, add-visit-length, change-visit-length, without-length}
 use Rattle.theory.specs.Types.{Station, Edit, Network, Answer, Tally}
 use Rattle.theory.specs.Statements.{GoodNetwork, TallyBalances}
-use Rattle.theory.proofs.Kept.{same-station-equal, passed, rest-passed, after-whole}
+use Rattle.theory.proofs.Kept.{same-station-equal, passed, rest-passed, held, after-whole}
 
 abbrev size : Table → ℕ
 size tab = length (tab .visits)
@@ -37,23 +37,21 @@ size tab = length (tab .visits)
 abbrev Ordered : Table → Type 0
 Ordered tab = T (each-two (smaller number) (tab .visits))
 
-without-present : (t : Train) (tab : Table) → Ordered tab → has-visit t tab ≡ true → size (without t tab) + 1 ≡ size tab
-without-present t tab o p = rw p at (without-length t tab o)
+-- edits 4 and 5, not refused, take out a visit that was there
+takes-one : (t : Train) (here there : Table) (r : ℕ) → Ordered here → (9 if not (has-visit t here && has-visit t there) else r) ≡ 0 → size (without t here) + 1 ≡ size here
+takes-one t here there r o e =
+    let present : T (has-visit t here) = and-l (has-visit t here) (has-visit t there) (held 8 (has-visit t here && has-visit t there) r e) in
+    rw (T-true (has-visit t here) present) at (without-length t here o)
 
 -- each edit at its two tables
 
-record Balances (a : Action) : Type 0 where
+record BalancesTables (a : Action) : Type 0 where
   here : (here there : Table) → Ordered here → a .refuses here there ≡ 0 → size (a .here here) + a .removes ≡ size here + a .adds
   there : (tab : Table) → size (a .there tab) ≡ size tab
 
 abbrev Balancing : Meaning → Type 0
-Balancing (local a) = Balances a
+Balancing (local a) = BalancesTables a
 Balancing (throughout t) = Unit {0}
-
--- a train that edits 4 and 5 take out was there
-was-here : (b c : Bool) (r : ℕ) → (9 if not (b && c) else r) ≡ 0 → b ≡ true
-was-here true c r e = refl
-was-here false c r e = absurd (omega arith)
 
 grows : (s k : ℕ) → k ≡ suc s → k + 0 ≡ s + 1
 grows s k e = omega arith
@@ -67,14 +65,20 @@ shrinks s k e = omega arith
 balances-each : (e : Edit) → Balancing (meaning e)
 unfolding meaning as-it-was add-relation drop-relation
 balances-each (Place p) = record { here = λ here there o r. grows (size here) _ (add-visit-length (p .train) _ here); there = λ tab. refl }
-balances-each (Prepend x) = record { here = λ here there o r. grows (size here) _ (add-visit-length (x .plan .train) _ here); there = λ tab. change-visit-length (x .plan .train) _ tab }
-balances-each (Append x) = record { here = λ here there o r. grows (size here) _ (add-visit-length (x .plan .train) _ here); there = λ tab. change-visit-length (x .plan .train) _ tab }
+balances-each (Prepend x) = record {
+  here = λ here there o r. grows (size here) _ (add-visit-length (x .plan .train) _ here);
+  there = λ tab. change-visit-length (x .plan .train) _ tab;
+}
+balances-each (Append x) = record {
+  here = λ here there o r. grows (size here) _ (add-visit-length (x .plan .train) _ here);
+  there = λ tab. change-visit-length (x .plan .train) _ tab;
+}
 balances-each (DeleteFirst d) = record {
-  here = λ here there o r. shrinks (size here) _ (without-present (d .train) here o (was-here (has-visit (d .train) here) (has-visit (d .train) there) _ r));
+  here = λ here there o r. shrinks (size here) _ (takes-one (d .train) here there _ o r);
   there = λ tab. change-visit-length (d .train) _ tab;
 }
 balances-each (DeleteLast d) = record {
-  here = λ here there o r. shrinks (size here) _ (without-present (d .train) here o (was-here (has-visit (d .train) here) (has-visit (d .train) there) _ r));
+  here = λ here there o r. shrinks (size here) _ (takes-one (d .train) here there _ o r);
   there = λ tab. change-visit-length (d .train) _ tab;
 }
 balances-each (Amend p) = record { here = λ here there o r. stays (size here) _ (change-visit-length (p .train) _ here); there = λ tab. refl }
@@ -86,35 +90,35 @@ balances-each (DeleteTrain c) = tt
 
 -- the stations
 
-abbrev place : Station → ℕ
-place s = s .0
+abbrev pub station-number : Station → ℕ
+station-number s = s .0
 
 -- r at the station k, 0 elsewhere
 abbrev at-only : Station → ℕ → Station → ℕ
 at-only k r s = r if same-station s k else 0
 
 -- a good network lists its stations rising, so none twice
-pub stations-rise : (n : Network) → GoodNetwork n → T (each-two (smaller place) (stations-of n))
+pub stations-rise : (n : Network) → GoodNetwork n → T (each-two (smaller station-number) (stations-of n))
 unfolding network-refusal network-in-range stations-in-range stations-of
 stations-rise n g =
-    let whole : T (network-in-range n) = true-T (network-in-range n) (not-false (network-in-range n) (passed 2 (not (network-in-range n)) _ g)) in
+    let whole : T (network-in-range n) = held 2 (network-in-range n) _ g in
     let up : T (rising (map number-of (station-rows n))) = search parts in
-    rw (two-map (smaller place) (λ r. r .station) (station-rows n)) (rw (rising-map number-of (station-rows n)) at up)
+    rw (two-map (smaller station-number) (λ r. r .station) (station-rows n)) (rw (rising-map number-of (station-rows n)) at up)
   where
     number-of : StationRow → ℕ
     number-of r = r .station .0
 
-stations-listed : (n : Network) → T (every (listed n) (stations-of n))
+pub stations-listed : (n : Network) → T (every (listed n) (stations-of n))
 unfolding listed
 stations-listed n = every-any same-station (λ s. eqb-refl (s .0)) (stations-of n)
 
 -- one edit over all stations
 
-module _ (n : Network) (rise : T (each-two (smaller place) (stations-of n))) (m : Timetable) (w : Whole n m) where
+module _ (n : Network) (rise : T (each-two (smaller station-number) (stations-of n))) (m : Timetable) (w : Whole n m) where
   ordered : (s : Station) → T (listed n s) → Ordered (m s)
   ordered s l = table-facts n s (m s) (w .good s l) .visits .order
 
-  local-size : (a : Action) → Balances a → T (listed n (a .home)) → a .refuses (m (a .home)) (m (a .away)) ≡ 0 → (s : Station)
+  local-size : (a : Action) → BalancesTables a → T (listed n (a .home)) → a .refuses (m (a .home)) (m (a .away)) ≡ 0 → (s : Station)
       → size (changed n (local a) m s) + at-only (a .home) (a .removes) s ≡ size (m s) + at-only (a .home) (a .adds) s
   unfolding changed put
   local-size a bal h r s = go (same-station s (a .home)) refl (same-station s (a .away)) refl
@@ -132,20 +136,23 @@ module _ (n : Network) (rise : T (each-two (smaller place) (stations-of n))) (m 
       → sum (λ s. size (changed n μ m s)) (stations-of n) + removed-by n μ m ≡ sum (λ s. size (m s)) (stations-of n) + added-by μ
   unfolding changed removed-by added-by refused-as known listed
   sizes (local a) bal r =
-      let fine : T (known n a) = true-T (known n a) (not-false (known n a) (passed 6 (not (known n a)) (a .refuses (m (a .home)) (m (a .away))) r)) in
+      let known-here : T (known n a) = held 6 (known n a) (a .refuses (m (a .home)) (m (a .away))) r in
       let home : T (listed n (a .home)) = search parts in
-      let removes : sum (at-only (a .home) (a .removes)) (stations-of n) ≡ a .removes = sum-once place (a .home .0) (a .removes) (stations-of n) rise home in
-      let adds : sum (at-only (a .home) (a .adds)) (stations-of n) ≡ a .adds = sum-once place (a .home .0) (a .adds) (stations-of n) rise home in
-      rw (removes, adds) at (sum-balance (listed n) (λ s. size (changed n (local a) m s)) (λ s. size (m s)) (at-only (a .home) (a .removes)) (at-only (a .home) (a .adds))
-      (λ s l. local-size a bal home (rest-passed 6 (not (known n a)) (a .refuses (m (a .home)) (m (a .away))) r) s) (stations-of n) (stations-listed n))
-  sizes (throughout t) bal r =
-      let nothing : sum (λ s. 0) (stations-of n) ≡ 0 = sum-zero (λ s. 0) (listed n) (λ s l. refl) (stations-of n) (stations-listed n) in
-      let counting : count (λ s. has-visit t (m s)) (stations-of n) ≡ sum (λ s. 1 if has-visit t (m s) else 0) (stations-of n) = count-sum (λ s. has-visit t (m s)) (stations-of n) in
-      let balance : sum (λ s. size (changed n (throughout t) m s)) (stations-of n) + sum (λ s. 1 if has-visit t (m s) else 0) (stations-of n)
-      ≡ sum (λ s. size (m s)) (stations-of n) + sum (λ s. 0) (stations-of n) =
-      sum-balance (listed n) (λ s. size (changed n (throughout t) m s)) (λ s. size (m s)) (λ s. 1 if has-visit t (m s) else 0) (λ s. 0)
-      (λ s l. taken s l (listed n s) l) (stations-of n) (stations-listed n) in
-      omega arith
+      let fine : a .refuses (m (a .home)) (m (a .away)) ≡ 0 = rest-passed 6 (not (known n a)) (a .refuses (m (a .home)) (m (a .away))) r in
+      omega (
+        arith,
+        sum-once station-number (a .home .0) (a .removes) (stations-of n) rise home,
+        sum-once station-number (a .home .0) (a .adds) (stations-of n) rise home,
+        sum-balance (listed n) (λ s. size (changed n (local a) m s)) (λ s. size (m s)) (at-only (a .home) (a .removes)) (at-only (a .home) (a .adds))
+            (λ s l. local-size a bal home fine s) (stations-of n) (stations-listed n),
+      )
+  sizes (throughout t) bal r = omega (
+    arith,
+    count-sum (λ s. has-visit t (m s)) (stations-of n),
+    sum-zero (λ s. 0) (listed n) (λ s l. refl) (stations-of n) (stations-listed n),
+    sum-balance (listed n) (λ s. size (changed n (throughout t) m s)) (λ s. size (m s)) (λ s. 1 if has-visit t (m s) else 0) (λ s. 0)
+        (λ s l. taken s l (listed n s) l) (stations-of n) (stations-listed n),
+  )
     where
       taken : (s : Station) → T (listed n s) → (b : Bool) → T b → size (if b then without t (m s) else m s) + (1 if has-visit t (m s) else 0) ≡ size (m s) + 0
       taken s l true p = omega (arith, without-length t (m s) (ordered s l))
@@ -185,7 +192,8 @@ raised-by y e a h = go (eqb (a .refusal) 0) (eqb (a .refusal) 5) h
     fewer = record { accepted = y .accepted; refused = y .refused + 1; added = y .added; removed = y .removed }
 
     go : (b c : Bool) → (ltb 16 (a .removed) || (not b && ltb 0 (a .removed))) ≡ false
-        → ((if b then more else if c then y else fewer) .added ≡ y .added + (added-by (meaning e) if b else 0)) × ((if b then more else if c then y else fewer) .removed ≡ y .removed + a .removed)
+        → ((if b then more else if c then y else fewer) .added ≡ y .added + (added-by (meaning e) if b else 0))
+        × ((if b then more else if c then y else fewer) .removed ≡ y .removed + a .removed)
     go true c u = (refl, refl)
     go false true u = (omega arith, omega (arith, ltb-false 0 (a .removed) (second (ltb 16 (a .removed)) (ltb 0 (a .removed)) u)))
     go false false u = (omega arith, omega (arith, ltb-false 0 (a .removed) (second (ltb 16 (a .removed)) (ltb 0 (a .removed)) u)))
@@ -201,7 +209,7 @@ counted y e a h =
     }
 
 -- a list of edits, from any tally
-pub list-balances : (n : Network) → T (each-two (smaller place) (stations-of n)) → (es : List Edit) (m : Timetable) (y : Tally) → Whole n m
+pub list-balances : (n : Network) → T (each-two (smaller station-number) (stations-of n)) → (es : List Edit) (m : Timetable) (y : Tally) → Whole n m
     → T (counts-in-full y es (answers (after n) (answer n) es m))
     → visit-count n m + (raise-all y es (answers (after n) (answer n) es m) .added + y .removed)
     ≡ visit-count n (run (after n) es m) + (raise-all y es (answers (after n) (answer n) es m) .removed + y .added)

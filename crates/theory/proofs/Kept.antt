@@ -2,11 +2,11 @@
 -- listed stations get a new table. A refused edit changes nothing. Assumes nothing.
 use Prim.Native.Nat.{ℕ, suc}
 use mathlib.Core.Path.{_≡_, refl, ap}
-use mathlib.Core.Bool.{Bool, true, false, not, _&&_}
+use mathlib.Core.Bool.{Bool, true, false, not}
 use mathlib.Core.List.{List, [], _∷_}
 use native.Mathlib.Omega.{arith}
 use lib.Dec.{T, eqb, eqb→eq, T-not}
-use borrow.Author.Tests.{eqb-true, ne-eqb, not-false}
+use borrow.Author.Tests.{eqb-true, ne-eqb}
 use Rattle.base.specs.Choice.{if_then_else_, _if_else_}
 use Rattle.base.specs.Lists.{is}
 use Rattle.base.specs.Runs.{run}
@@ -43,6 +43,10 @@ passed k false r e = refl
 pub rest-passed : (k : ℕ) (b : Bool) (r : ℕ) → (suc k if b else r) ≡ 0 → r ≡ 0
 rest-passed k true r e = absurd (omega arith)
 rest-passed k false r e = e
+
+pub held : (k : ℕ) (b : Bool) (r : ℕ) → (suc k if not b else r) ≡ 0 → T b
+held k true r e = tt
+held k false r e = absurd (omega arith)
 
 -- what an edit in range carries
 
@@ -188,9 +192,13 @@ keeps n (DeleteTrain c) h = tt
 
 module _ (n : Network) (m : Timetable) (w : Whole n m) where
   -- an accepted edit at one or two stations
-  local-whole : (a : Action) → KeepsTables n a → T (listed n (a .home)) → T (listed n (a .away)) → a .refuses (m (a .home)) (m (a .away)) ≡ 0 → Whole n (changed n (local a) m)
+  local-whole : (a : Action) → KeepsTables n a → T (listed n (a .home)) → T (listed n (a .away)) → a .refuses (m (a .home)) (m (a .away)) ≡ 0
+      → Whole n (changed n (local a) m)
   unfolding changed put
-  local-whole a k h o r = record { good = λ s l. good s l (same-station s (a .home)) refl (same-station s (a .away)) refl; bare = λ s l. bare s l (same-station s (a .home)) refl (same-station s (a .away)) refl }
+  local-whole a k h o r = record {
+    good = λ s l. good s l (same-station s (a .home)) refl (same-station s (a .away)) refl;
+    bare = λ s l. bare s l (same-station s (a .home)) refl (same-station s (a .away)) refl;
+  }
     where
       was-good : (s : Station) → T (listed n s) → GoodTable n s (m s)
       was-good s l = table-facts n s (m s) (w .good s l)
@@ -217,7 +225,7 @@ module _ (n : Network) (m : Timetable) (w : Whole n m) where
   changed-whole : (μ : Meaning) → Keeps n μ → refused-as n μ m ≡ 0 → Whole n (changed n μ m)
   unfolding changed refused-as known
   changed-whole (local a) k r =
-      let fine : T (known n a) = true-T (known n a) (not-false (known n a) (passed 6 (not (known n a)) (a .refuses (m (a .home)) (m (a .away))) r)) in
+      let fine : T (known n a) = held 6 (known n a) (a .refuses (m (a .home)) (m (a .away))) r in
       let home : T (listed n (a .home)) = search parts in
       let away : T (listed n (a .away)) = search parts in
       local-whole a (k home away (search parts)) home away
@@ -239,7 +247,7 @@ after-whole n m e w = go (eqb (refusal n e m) 0) refl
     go : (b : Bool) → eqb (refusal n e m) 0 ≡ b → Whole n (if b then changed n (meaning e) m else m)
     go true p =
         let none : refusal n e m ≡ 0 = eqb-true (refusal n e m) 0 p in
-        let in-range : T (edit-ok e) = true-T (edit-ok e) (not-false (edit-ok e) (passed 2 (not (edit-ok e)) (refused-as n (meaning e) m) none)) in
+        let in-range : T (edit-ok e) = held 2 (edit-ok e) (refused-as n (meaning e) m) none in
         changed-whole n m w (meaning e) (keeps n e in-range) (rest-passed 2 (not (edit-ok e)) (refused-as n (meaning e) m) none)
     go false p = w
 

@@ -7,12 +7,12 @@ use mathlib.Core.List.{List, [], _∷_, map}
 use mathlib.Core.Logic.{_⊎_, inl, inr}
 use mathlib.Core.Option.{Option, none, some, Option·map}
 use native.Mathlib.Omega.{arith}
-use lib.Dec.{T, ltb, leb, eqb, ltb→lt, lt→ltb, leb→le, le→leb, eqb→eq, T-not, not-T}
+use lib.Dec.{T, ltb, leb, eqb, ltb→lt, lt→ltb, leb→le, le→leb, eqb→eq, not-T}
 use lib.ListN.{length, length-map}
-use borrow.Author.Tests.{ltb-false, leb-false, eqb-true, lt-ltb, eq-eqb}
+use borrow.Author.Tests.{ltb-false, leb-false, eqb-true, eqb-false, lt-ltb, eq-eqb}
 use Rattle.base.specs.Choice.{if_then_else_, _if_else_}
 use Rattle.base.specs.Lists.{any, every, keep, first, is, each-two, rising}
-use Rattle.base.proofs.Tests.{true-T, and-l, and-r, both, or-l, or-r, or-cases}
+use Rattle.base.proofs.Tests.{true-T, not-T-false, both, or-l, or-r, or-cases}
 use Rattle.base.proofs.Sorted.{every-head, every-tail, every-cons, every-weaker, every-keep, every-mapped, keep-length, keep-every, two-head, two-tail, two-cons, two-step, two-keep}
 use Rattle.base.proofs.Sorted.{parts, smaller, smaller-across, rising-map, below-trans, below-total}
 use Rattle.railway.specs.Ranges.{same-train, train-ok, track-ok, minute-ok, interval-ok}
@@ -81,12 +81,13 @@ enter-order e (x ∷ xs) l o = go (smaller number e x) refl (enter-order e xs (e
     go : (b : Bool) → smaller number e x ≡ b → T (each-two (smaller number) (enter e xs)) → T (each-two (smaller number) (if b then e ∷ x ∷ xs else x ∷ enter e xs))
     go true p ih = two-step (smaller number) (smaller-across number) e x xs (true-T (smaller number e x) p) o
     go false p ih =
-        let differ : ¬ (number x ≡ number e) = λ q. T-not (same-train (x .train) (e .train)) (every-head other x xs l) (true-T (same-train (x .train) (e .train)) (eq-eqb (number x) (number e) q)) in
-        let before : T (smaller number x e) = lt→ltb (number x) (number e) (omega (arith, ltb-false (number e) (number x) p)) in
+        let differ : same-train (x .train) (e .train) ≡ false = not-T-false (same-train (x .train) (e .train)) (every-head other x xs l) in
+        let before : T (smaller number x e) = lt→ltb (number x) (number e) (omega (arith, ltb-false (number e) (number x) p, eqb-false (number x) (number e) differ)) in
         two-cons (smaller number) x (enter e xs) (enter-every (smaller number x) e xs before (two-head (smaller number) x xs o)) ih
 
 -- a train stands at most once in a list in order, so leaving it out leaves out one entry or none
-pub leave-length : (t : Train) (es : List Entry) → T (each-two (smaller number) es) → length (keep (λ e. not (same-train (e .train) t)) es) + (1 if among t es else 0) ≡ length es
+pub leave-length : (t : Train) (es : List Entry) → T (each-two (smaller number) es)
+    → length (keep (λ e. not (same-train (e .train) t)) es) + (1 if among t es else 0) ≡ length es
 unfolding keep first
 leave-length t [] o = omega arith
 leave-length t (x ∷ xs) o = go (same-train (x .train) t) refl (leave-length t xs (two-tail (smaller number) x xs o))
@@ -200,7 +201,8 @@ unfolding lose-all each-two
 lose-all-order t [] = tt
 lose-all-order t (r ∷ rs) = insert-if-order (lose t r) (lose-all t rs) (lose-all-order t rs)
 
-pub lose-all-every : (f g : Relation → Bool) (t : Train) → ((r : Relation) → T (f r) → T (if-any g (lose t r))) → (rs : List Relation) → T (every f rs) → T (every g (lose-all t rs))
+pub lose-all-every : (f g : Relation → Bool) (t : Train) → ((r : Relation) → T (f r) → T (if-any g (lose t r)))
+    → (rs : List Relation) → T (every f rs) → T (every g (lose-all t rs))
 unfolding lose-all every
 lose-all-every f g t h [] u = tt
 lose-all-every f g t h (r ∷ rs) u =
@@ -289,87 +291,74 @@ pub used-four : (ts : Trains) → Places ts → 1 ≤ ts .c .0 → 1 ≤ ts .d .
 unfolding used keep
 used-four ts p e f = rw (lt-ltb 0 (ts .a .0) (omega arith), lt-ltb 0 (ts .b .0) (omega arith), lt-ltb 0 (ts .c .0) (omega arith), lt-ltb 0 (ts .d .0) (omega arith))
 
--- a train below the first of a list in order may stand before it, and only such a train
+-- a train below the first of a list in order may stand before it
 chain : (t u : Train) (us : List Train) → t .0 < u .0 → T (each-two (smaller digits) (u ∷ us)) → T (each-two (smaller digits) (t ∷ u ∷ us))
 chain t u us h o = two-step (smaller digits) (smaller-across digits) t u us (lt→ltb (t .0) (u .0) h) o
 
-neighbours : (t u : Train) (us : List Train) → T (each-two (smaller digits) (t ∷ u ∷ us)) → t .0 < u .0
-neighbours t u us o = ltb→lt (t .0) (u .0) (every-head (smaller digits t) u us (two-head (smaller digits) t (u ∷ us) o))
-
--- the trains of a good relation are a group
-pub used-group : (ts : Trains) → T (trains-ok ts) → GroupOf (used ts)
+placed-group : (ts : Trains) → Places ts → Further (ts .b) (ts .c) → Further (ts .c) (ts .d) → GroupOf (used ts)
 unfolding each-two every
-used-group ts h = go (p .third) (p .fourth)
-  where
-    p : Places ts
-    p = places ts h
-
-    first-fits : T (train-ok (ts .a))
-    first-fits = train-fits (ts .a) (omega (arith, p .first-low)) (omega (arith, p .second-above, p .second-high))
-
-    second-fits : T (train-ok (ts .b))
-    second-fits = train-fits (ts .b) (omega (arith, p .second-above)) (omega (arith, p .second-high))
-
-    go : Further (ts .b) (ts .c) → Further (ts .c) (ts .d) → GroupOf (used ts)
-    go (inl e) (inl f) = rw (used-two ts p e f) (record {
+placed-group ts p (inl e) (inl f) =
+    let first : T (train-ok (ts .a)) = train-fits (ts .a) (omega arith) (omega arith) in
+    let second : T (train-ok (ts .b)) = train-fits (ts .b) (omega arith) (omega arith) in
+    rw (used-two ts p e f) (record {
       least = omega arith;
       most = omega arith;
       order = chain (ts .a) (ts .b) [] (p .second-above) tt;
-      each = both (train-ok (ts .a)) (train-ok (ts .b) && true) first-fits (both (train-ok (ts .b)) true second-fits tt);
+      each = search both;
     })
-    go (inl e) (inr f) = absurd (omega arith)
-    go (inr e) (inl f) = rw (used-three ts p (omega arith) f) (record {
+placed-group ts p (inl e) (inr f) = absurd (omega arith)
+placed-group ts p (inr e) (inl f) =
+    let first : T (train-ok (ts .a)) = train-fits (ts .a) (omega arith) (omega arith) in
+    let second : T (train-ok (ts .b)) = train-fits (ts .b) (omega arith) (omega arith) in
+    let third : T (train-ok (ts .c)) = train-fits (ts .c) (omega arith) (omega arith) in
+    rw (used-three ts p (omega arith) f) (record {
       least = omega arith;
       most = omega arith;
       order = chain (ts .a) (ts .b) (ts .c ∷ []) (p .second-above) (chain (ts .b) (ts .c) [] (e .1) tt);
-      each = both (train-ok (ts .a)) (train-ok (ts .b) && (train-ok (ts .c) && true)) first-fits
-          (both (train-ok (ts .b)) (train-ok (ts .c) && true) second-fits (both (train-ok (ts .c)) true (train-fits (ts .c) (omega arith) (e .2)) tt));
+      each = search both;
     })
-    go (inr e) (inr f) = rw (used-four ts p (omega arith) (omega arith)) (record {
+placed-group ts p (inr e) (inr f) =
+    let first : T (train-ok (ts .a)) = train-fits (ts .a) (omega arith) (omega arith) in
+    let second : T (train-ok (ts .b)) = train-fits (ts .b) (omega arith) (omega arith) in
+    let third : T (train-ok (ts .c)) = train-fits (ts .c) (omega arith) (omega arith) in
+    let fourth : T (train-ok (ts .d)) = train-fits (ts .d) (omega arith) (omega arith) in
+    rw (used-four ts p (omega arith) (omega arith)) (record {
       least = omega arith;
       most = omega arith;
       order = chain (ts .a) (ts .b) (ts .c ∷ ts .d ∷ []) (p .second-above) (chain (ts .b) (ts .c) (ts .d ∷ []) (e .1) (chain (ts .c) (ts .d) [] (f .1) tt));
-      each = both (train-ok (ts .a)) (train-ok (ts .b) && (train-ok (ts .c) && (train-ok (ts .d) && true))) first-fits
-          (both (train-ok (ts .b)) (train-ok (ts .c) && (train-ok (ts .d) && true)) second-fits
-          (both (train-ok (ts .c)) (train-ok (ts .d) && true) (train-fits (ts .c) (omega arith) (e .2)) (both (train-ok (ts .d)) true (train-fits (ts .d) (omega arith) (f .2)) tt)));
+      each = search both;
     })
+
+-- the trains of a good relation are a group
+pub used-group : (ts : Trains) → T (trains-ok ts) → GroupOf (used ts)
+used-group ts h = placed-group ts (places ts h) (places ts h .third) (places ts h .fourth)
 
 -- and the four places of a group are good
 pub packed-ok : (ts : List Train) → GroupOf ts → T (trains-ok (packed ts))
-unfolding packed
+unfolding packed each-two every
 packed-ok [] g = absurd (omega arith)
 packed-ok (a ∷ []) g = absurd (omega arith)
 packed-ok (a ∷ b ∷ []) g = places-fit (packed (a ∷ b ∷ [])) (record {
-  first-low = train-low a (every-head train-ok a (b ∷ []) (g .each));
-  second-above = neighbours a b [] (g .order);
-  second-high = train-high b (every-head train-ok b [] (every-tail train-ok a (b ∷ []) (g .each)));
+  first-low = train-low a (search parts);
+  second-above = ltb→lt (a .0) (b .0) (search parts);
+  second-high = train-high b (search parts);
   third = inl refl;
   fourth = inl refl;
 })
-packed-ok (a ∷ b ∷ c ∷ []) g =
-    let from-second : T (every train-ok (b ∷ c ∷ [])) = every-tail train-ok a (b ∷ c ∷ []) (g .each) in
-    let from-third : T (every train-ok (c ∷ [])) = every-tail train-ok b (c ∷ []) from-second in
-    let order-second : T (each-two (smaller digits) (b ∷ c ∷ [])) = two-tail (smaller digits) a (b ∷ c ∷ []) (g .order) in
-    places-fit (packed (a ∷ b ∷ c ∷ [])) (record {
-      first-low = train-low a (every-head train-ok a (b ∷ c ∷ []) (g .each));
-      second-above = neighbours a b (c ∷ []) (g .order);
-      second-high = train-high b (every-head train-ok b (c ∷ []) from-second);
-      third = inr (train-low b (every-head train-ok b (c ∷ []) from-second), neighbours b c [] order-second, train-high c (every-head train-ok c [] from-third));
-      fourth = inl refl;
-    })
-packed-ok (a ∷ b ∷ c ∷ d ∷ []) g =
-    let from-second : T (every train-ok (b ∷ c ∷ d ∷ [])) = every-tail train-ok a (b ∷ c ∷ d ∷ []) (g .each) in
-    let from-third : T (every train-ok (c ∷ d ∷ [])) = every-tail train-ok b (c ∷ d ∷ []) from-second in
-    let from-fourth : T (every train-ok (d ∷ [])) = every-tail train-ok c (d ∷ []) from-third in
-    let order-second : T (each-two (smaller digits) (b ∷ c ∷ d ∷ [])) = two-tail (smaller digits) a (b ∷ c ∷ d ∷ []) (g .order) in
-    let order-third : T (each-two (smaller digits) (c ∷ d ∷ [])) = two-tail (smaller digits) b (c ∷ d ∷ []) order-second in
-    places-fit (packed (a ∷ b ∷ c ∷ d ∷ [])) (record {
-      first-low = train-low a (every-head train-ok a (b ∷ c ∷ d ∷ []) (g .each));
-      second-above = neighbours a b (c ∷ d ∷ []) (g .order);
-      second-high = train-high b (every-head train-ok b (c ∷ d ∷ []) from-second);
-      third = inr (train-low b (every-head train-ok b (c ∷ d ∷ []) from-second), neighbours b c (d ∷ []) order-second, train-high c (every-head train-ok c (d ∷ []) from-third));
-      fourth = inr (train-low c (every-head train-ok c (d ∷ []) from-third), neighbours c d [] order-third, train-high d (every-head train-ok d [] from-fourth));
-    })
+packed-ok (a ∷ b ∷ c ∷ []) g = places-fit (packed (a ∷ b ∷ c ∷ [])) (record {
+  first-low = train-low a (search parts);
+  second-above = ltb→lt (a .0) (b .0) (search parts);
+  second-high = train-high b (search parts);
+  third = inr (train-low b (search parts), ltb→lt (b .0) (c .0) (search parts), train-high c (search parts));
+  fourth = inl refl;
+})
+packed-ok (a ∷ b ∷ c ∷ d ∷ []) g = places-fit (packed (a ∷ b ∷ c ∷ d ∷ [])) (record {
+  first-low = train-low a (search parts);
+  second-above = ltb→lt (a .0) (b .0) (search parts);
+  second-high = train-high b (search parts);
+  third = inr (train-low b (search parts), ltb→lt (b .0) (c .0) (search parts), train-high c (search parts));
+  fourth = inr (train-low c (search parts), ltb→lt (c .0) (d .0) (search parts), train-high d (search parts));
+})
 packed-ok (a ∷ b ∷ c ∷ d ∷ e ∷ ts) g = absurd (omega arith)
 
 -- what is left of a relation that loses a train is good
@@ -392,22 +381,22 @@ fewer-ok make ok p ts g = go (ltb (length (keep p ts)) 2) refl
     go true e = tt
     go false e = ok (packed (keep p ts)) (packed-ok (keep p ts) (group-keep p ts g (ltb-false (length (keep p ts)) 2 e)))
 
+pub group-loses : (make : Trains → Relation) → ((us : Trains) → T (trains-ok us) → T (relation-ok (make us))) → (t : Train) (ts : Trains) → T (trains-ok ts)
+    → T (if-any relation-ok (if any (same-train t) (used ts) then fewer make (keep (λ u. not (same-train t u)) (used ts)) else some (make ts)))
+group-loses make ok t ts h = go (any (same-train t) (used ts))
+  where
+    go : (b : Bool) → T (if-any relation-ok (if b then fewer make (keep (λ u. not (same-train t u)) (used ts)) else some (make ts)))
+    go true = fewer-ok make ok (λ u. not (same-train t u)) (used ts) (used-group ts h)
+    go false = ok ts h
+
 pub lose-ok : (t : Train) (r : Relation) → T (relation-ok r) → T (if-any relation-ok (lose t r))
 unfolding lose relation-ok
-lose-ok t (Connection i ts) h = go (any (same-train t) (used ts))
-  where
-    go : (b : Bool) → T (if-any relation-ok (if b then fewer (Connection i) (keep (λ u. not (same-train t u)) (used ts)) else some (Connection i ts)))
-    go true =
-        fewer-ok (Connection i) (λ us k. both (interval-ok i) (trains-ok us) (and-l (interval-ok i) (trains-ok ts) h) k) (λ u. not (same-train t u)) (used ts)
-        (used-group ts (and-r (interval-ok i) (trains-ok ts) h))
-    go false = h
-lose-ok t (Disconnection i ts) h = go (any (same-train t) (used ts))
-  where
-    go : (b : Bool) → T (if-any relation-ok (if b then fewer (Disconnection i) (keep (λ u. not (same-train t u)) (used ts)) else some (Disconnection i ts)))
-    go true =
-        fewer-ok (Disconnection i) (λ us k. both (interval-ok i) (trains-ok us) (and-l (interval-ok i) (trains-ok ts) h) k) (λ u. not (same-train t u)) (used ts)
-        (used-group ts (and-r (interval-ok i) (trains-ok ts) h))
-    go false = h
+lose-ok t (Connection i ts) h =
+    let span : T (interval-ok i) = search parts in
+    group-loses (Connection i) (λ us k. both (interval-ok i) (trains-ok us) span k) t ts (search parts)
+lose-ok t (Disconnection i ts) h =
+    let span : T (interval-ok i) = search parts in
+    group-loses (Disconnection i) (λ us k. both (interval-ok i) (trains-ok us) span k) t ts (search parts)
 lose-ok t (Dependency i p) h = go (same-train t (p .arriver) || same-train t (p .departer))
   where
     go : (b : Bool) → T (if-any relation-ok (if b then none else some (Dependency i p)))
@@ -431,13 +420,13 @@ pub visit-fits : (n : Network) (s : Station) (v : Visit) → GoodVisit n s v →
 unfolding visit-good values-good links-good
 visit-fits n s v g = search both
 
-pub planned-good : (n : Network) (s : Station) (p : Plan) → T (track-ok (p .track) && track-known n s (p .track)) → T (minute-ok (p .arrival)) → T (minute-ok (p .departure))
-    → GoodVisit n s (planned p)
+pub planned-good : (n : Network) (s : Station) (p : Plan) → T (track-ok (p .track) && track-known n s (p .track))
+    → T (minute-ok (p .arrival)) → T (minute-ok (p .departure)) → GoodVisit n s (planned p)
 unfolding planned ins outs every
 planned-good n s p t a d = record { track = t; arrival = a; departure = d; inward = tt; outward = tt }
 
-pub amended-good : (n : Network) (s : Station) (p : Plan) (v : Visit) → T (track-ok (p .track) && track-known n s (p .track)) → T (minute-ok (p .arrival)) → T (minute-ok (p .departure))
-    → GoodVisit n s v → GoodVisit n s (amended p v)
+pub amended-good : (n : Network) (s : Station) (p : Plan) (v : Visit) → T (track-ok (p .track) && track-known n s (p .track))
+    → T (minute-ok (p .arrival)) → T (minute-ok (p .departure)) → GoodVisit n s v → GoodVisit n s (amended p v)
 unfolding amended ins outs
 amended-good n s p v t a d g = record { track = t; arrival = a; departure = d; inward = g .inward; outward = g .outward }
 
@@ -520,8 +509,9 @@ change-good n s t f h es g = record {
   where
     go : (e : Entry) → T (entry-good n s e) → (b : Bool) → T (entry-good n s (if b then record { train = e .train; visit = f (e .visit) } else e))
     go e k true =
-        both (train-ok (e .train)) (visit-good n s (f (e .visit))) (and-l (train-ok (e .train)) (visit-good n s (e .visit)) k)
-        (visit-fits n s (f (e .visit)) (h (e .visit) (visit-facts n s (e .visit) (and-r (train-ok (e .train)) (visit-good n s (e .visit)) k))))
+        let who : T (train-ok (e .train)) = search parts in
+        let what : T (visit-good n s (f (e .visit))) = visit-fits n s (f (e .visit)) (h (e .visit) (visit-facts n s (e .visit) (search parts))) in
+        search both
     go e k false = k
 
 pub keep-good : (n : Network) (s : Station) (p : Entry → Bool) (es : List Entry) → GoodVisits n s es → GoodVisits n s (keep p es)
@@ -594,7 +584,8 @@ pub change-visit-length : (t : Train) (f : Visit → Visit) (tab : Table) → le
 unfolding change-visit
 change-visit-length t f tab = length-map (tab .visits) (change-entry t f)
 
-pub without-length : (t : Train) (tab : Table) → T (each-two (smaller number) (tab .visits)) → length (without t tab .visits) + (1 if has-visit t tab else 0) ≡ length (tab .visits)
+pub without-length : (t : Train) (tab : Table) → T (each-two (smaller number) (tab .visits))
+    → length (without t tab .visits) + (1 if has-visit t tab else 0) ≡ length (tab .visits)
 unfolding without has-visit visit-of
 without-length t tab o = leave-length t (tab .visits) o
 
