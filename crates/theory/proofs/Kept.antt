@@ -8,7 +8,7 @@ use native.Mathlib.Omega.{arith}
 use lib.Dec.{T, eqb, eqb→eq, T-not}
 use borrow.Author.Tests.{eqb-true, ne-eqb}
 use Rattle.base.specs.Choice.{if_then_else_, _if_else_}
-use Rattle.base.specs.Lists.{is}
+use Rattle.base.specs.Lists.{every, is, each-two, rising}
 use Rattle.base.specs.Runs.{run}
 use Rattle.base.proofs.Tests.{true-T, both}
 use Rattle.base.proofs.Sorted.{parts}
@@ -25,8 +25,8 @@ use Rattle.railway.specs.Edits.{plan-ok, extension-ok, report-ok, station-relat
 use Rattle.railway.specs.Networks.{listed, track-known, runs}
 use Rattle.timetable.specs.Visits.{lacks-in, lacks-out, with-in, with-out, planned, amended, arrived-at, departed-at, from, onward}
 use Rattle.timetable.specs.Tables.{Table, empty, visit-of, has-visit, has-relation, without, full-visits, full-relations}
-use Rattle.timetable.specs.Machine.{Timetable, put, Action, Meaning, local, throughout, as-it-was, meaning, known, refused-as, refusal, changed, after}
-use Rattle.timetable.specs.Good.{in-good, out-good, table-good, Whole}
+use Rattle.timetable.specs.Machine.{Timetable, nothing-placed, put, Action, Meaning, local, throughout, as-it-was, meaning, known, refused-as, refusal, changed, after}
+use Rattle.timetable.specs.Good.{in-good, out-good, visits-good, relations-good, table-good, Whole}
 use Rattle.timetable.proofs.TableLaws.{GoodTable, GoodVisit, table-facts, table-fits, add-visit-good, change-visit-good, add-relation-good, drop-relation-good, without-good}
 use Rattle.timetable.proofs.TableLaws.{planned-good, amended-good, arrived-good, departed-good, from-good, onward-good, unlinked-in-good, unlinked-out-good}
 use Rattle.theory.specs.Types.{Station, Edit, Network}
@@ -263,3 +263,8 @@ pub run-whole : (n : Network) (es : List Edit) (m : Timetable) → Whole n m →
 unfolding run
 run-whole n [] m w = w
 run-whole n (e ∷ es) m w = run-whole n es (after n e m) (after-whole n m e w)
+
+-- the timetable with nothing placed is whole, so every list of edits from there leaves a whole one
+pub nothing-whole : (n : Network) → Whole n nothing-placed
+unfolding nothing-placed empty table-good visits-good relations-good rising each-two every
+nothing-whole n = record { good = λ k l. tt; bare = λ k l. refl }
