@@ -1,3 +1,4 @@
 pub mod Tests
 pub mod Lengths
 pub mod Counts
+pub mod Sorted

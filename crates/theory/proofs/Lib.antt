@@ -7,3 +7,5 @@ pub mod Placed
 pub mod Rising
 pub mod Reach
 pub mod Shared
+pub mod Kept
+pub mod Balance

@@ -1,2 +1,3 @@
 pub mod Locality
 pub mod Partition
+pub mod TableLaws
