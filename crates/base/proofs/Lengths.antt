@@ -1,5 +1,5 @@
 -- Lengths of what is kept, and lists that are read from an index on: one more element, and what is asked of the rest. Assumes nothing.
-use Prim.Native.Nat.{ℕ, _+_, _<_, _≤_}
+use Prim.Native.Nat.{ℕ, _+_, _-_, _<_, _≤_}
 use mathlib.Core.Path.{_≡_, refl, _∙_}
 use mathlib.Core.Bool.{Bool, true, false, _&&_, _||_}
 use mathlib.Core.List.{List, [], _∷_}
@@ -7,9 +7,9 @@ use mathlib.Core.Option.{Option, some}
 use native.Mathlib.Numerals.{add-one}
 use native.Mathlib.Omega.{arith}
 use lib.Dec.{ltb, eqb}
-use lib.ListN.{length, getD, drop, drop-of-length-le}
+use lib.ListN.{length, getD, take, drop, drop-of-length-le, length-drop}
 use borrow.Author.Tests.{lt-ltb, le-ltb, eq-eqb, ne-eqb}
-use lib.Seq.{drop-cons}
+use lib.Seq.{drop-cons, take-all}
 use Rattle.base.specs.Choice.{if_then_else_, _if_else_}
 use Rattle.base.specs.Lists.{every, keep, count, first, below, same}
 
@@ -26,6 +26,10 @@ module _ {A : Type 0} where
   -- the list from an index on is the element there and the list from the next index on
   pub drop-next : (l : List A) (i : ℕ) (d : A) → i < length l → drop i l ≡ getD l i d ∷ drop (i + 1) l
   drop-next l i d h = drop-cons l i d h ∙ rw (add-one i)
+
+  -- the part from an index to the end, as a lent part is read
+  pub rest-whole : (k : ℕ) (l : List A) → take (length l - k) (drop k l) ≡ drop k l
+  rest-whole k l = take-all (length l - k) (drop k l) (simp length-drop (omega arith))
 
   pub every-next : (f : A → Bool) (l : List A) (i : ℕ) (d : A) → i < length l → every f (drop i l) ≡ (f (getD l i d) && every f (drop (i + 1) l))
   unfolding every

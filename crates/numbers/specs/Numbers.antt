@@ -2,26 +2,24 @@
 -- group plus 128 times the number in the rest." Assumes nothing.
 use Prim.Native.Nat.{ℕ, zero, suc, _+_, _*_, _-_, _/_, _%_}
 use mathlib.Core.Bool.{Bool, true, false}
-use mathlib.Core.List.{List, [], _∷_}
-use lib.Dec.{ltb, eqb}
-use lib.ListN.{length}
+use mathlib.Core.List.{List, [], _∷_, _++_}
+use lib.Dec.{ltb, leb, eqb}
+use lib.ListN.{length, drop}
 use Rattle.base.specs.Choice.{if_then_else_}
-
--- what reading a number at the head of some bytes gives: its value and the bytes behind it, or a refusal's number
-pub data Reading : Type 0 where
-  value : ℕ → List ℕ → Reading
-  refused : ℕ → Reading
+use Rattle.numbers.specs.declared.Reading.{Reading}
+use Rattle.numbers.specs.declared.Reading.the-variants.{Value, Refused}
 
 -- the group g stands before the rest; "2 a number isn't shortest": a rest of 0 makes it longer than need be
 unfoldable pub group-before : ℕ → Reading → Reading
-group-before g (value n rest) = if eqb n 0 then refused 2 else value (g + 128 * n) rest
-group-before g (refused k) = refused k
+group-before g (Value n w) = if eqb n 0 then Refused 2 else Value (g + 128 * n) (w + 1)
+group-before g (Refused k) = Refused k
 
--- k groups more are permitted; "1 it ends early", "2 .. its third byte has the top bit set"
+-- the number at the head of some bytes and how many bytes it takes, or a refusal's number. k groups more are permitted; "1 it ends early", "2 .. its third byte
+-- has the top bit set"
 unfoldable pub read-groups : ℕ → List ℕ → Reading
-read-groups zero bytes = refused 2
-read-groups (suc k) [] = refused 1
-read-groups (suc k) (b ∷ bytes) = if ltb b 128 then value b bytes else group-before (b - 128) (read-groups k bytes)
+read-groups zero bytes = Refused 2
+read-groups (suc k) [] = Refused 1
+read-groups (suc k) (b ∷ bytes) = if ltb b 128 then Value b 1 else group-before (b - 128) (read-groups k bytes)
 
 unfoldable pub read-number : List ℕ → Reading
 read-number bytes = read-groups 3 bytes
@@ -38,7 +36,11 @@ write-number n = write-groups 3 n
 unfoldable pub width : ℕ → ℕ
 width n = length (write-number n)
 
+-- bytes with the number written at their head, as they were where it does not fit
+unfoldable pub with-number : ℕ → List ℕ → List ℕ
+with-number n bytes = if leb (width n) (length bytes) then write-number n ++ drop (width n) bytes else bytes
+
 -- The key ring of this module: `unfolding opened` opens every definition above.
 unfoldable pub opened : Unit {0}
-unfolding group-before read-groups read-number write-groups write-number width
+unfolding group-before read-groups read-number write-groups write-number width with-number
 opened = tt

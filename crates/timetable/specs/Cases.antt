@@ -11,7 +11,9 @@ use Rattle.base.specs.Lists.{any, keep, same}
 use Rattle.base.specs.Runs as Runs
 use Rattle.base.specs.Runs.{run, answers}
 use Rattle.numbers.specs.Numbers as Numbers
-use Rattle.numbers.specs.Numbers.{Reading, value, refused, read-number, write-number}
+use Rattle.numbers.specs.Numbers.{read-number, write-number}
+use Rattle.numbers.specs.declared.Reading.{Reading}
+use Rattle.numbers.specs.declared.Reading.the-variants.{Value, Refused}
 use Rattle.railway.specs.Relations as Relations
 use Rattle.railway.specs.Relations.{key}
 use Rattle.railway.specs.Edits as Edits
@@ -218,13 +220,13 @@ pub data Case : Type 0 where
   -- what shift prints
   printed : List Edit → List (List ℕ) → Case
 
-unfoldable pub reads-as : ℕ → Reading → Bool
-reads-as n (value k rest) = eqb n k && same rest []
-reads-as n (refused k) = false
+unfoldable pub reads-as : ℕ → ℕ → Reading → Bool
+reads-as n w (Value k used) = eqb n k && eqb w used
+reads-as n w (Refused k) = false
 
 unfoldable pub reads-refused : ℕ → Reading → Bool
-reads-refused n (value k rest) = false
-reads-refused n (refused k) = eqb n k
+reads-refused n (Value k used) = false
+reads-refused n (Refused k) = eqb n k
 
 unfoldable pub lists : Finding → List Finding → Bool
 lists f fs = any (λ g. same (finding-line f) (finding-line g)) fs
@@ -246,7 +248,7 @@ unfoldable pub each-before : List Relation → Bool
 each-before rs = Lists.each-two Relations.precedes rs
 
 unfoldable pub passes : Case → Bool
-passes (bytes n bs) = same (write-number n) bs && reads-as n (read-number bs)
+passes (bytes n bs) = same (write-number n) bs && reads-as n (length bs) (read-number bs)
 passes (unread bs k) = reads-refused k (read-number bs)
 passes (found n es f b) = Bool·beq b (lists f (findings n (run (after n) es nothing-placed)))
 passes (stands n m f b) = Bool·beq b (lists f (findings n m))
