@@ -4,17 +4,18 @@ use Prim.Native.Nat.{ℕ, _+_, _≤_}
 use mathlib.Core.Bool.{Bool, true, false, not, _&&_}
 use mathlib.Core.List.{List, [], _∷_, map, flatMap}
 use native.Mathlib.Omega.{arith}
-use lib.Dec.{T, leb, eqb-refl}
+use lib.Dec.{T, leb}
 use lib.ListN.{length}
 use Rattle.base.specs.Lists.{every, rising}
 use Rattle.base.proofs.Tests.{and-l, and-r, both}
-use Rattle.base.proofs.Counts.{every-head, every-tail, every-append, every-all, every-true, every-each, every-flatMap, every-weaker, every-of}
+use Rattle.base.proofs.Counts.{every-head, every-tail, every-append, every-all, every-true, every-each, every-flatMap, every-weaker}
 use Rattle.railway.specs.declared.visit.Inward.{Inward}
 use Rattle.railway.specs.declared.visit.Outward.{Outward}
 use Rattle.railway.specs.declared.visit.Visit.{Visit}
 use Rattle.railway.specs.declared.relation.Relation.{Relation}
-use Rattle.railway.specs.Ranges.{station-ok, train-ok, line-ok, run-ok, same-station}
+use Rattle.railway.specs.Ranges.{station-ok, train-ok, line-ok, run-ok}
 use Rattle.railway.specs.Networks.{stations-of, listed, runs}
+use Rattle.railway.proofs.NetworkLaws.{stations-listed}
 use Rattle.timetable.specs.Visits.{ins, outs}
 use Rattle.timetable.specs.Tables.{Entry, Table}
 use Rattle.timetable.specs.Machine.{Timetable}
@@ -172,11 +173,6 @@ table-leads n s tab t =
     let fits : Bool = leb (length (tab .visits)) 24 && rising (map (λ e. e .train .0) (tab .visits)) in
     every-weaker (entry-good n s) (leads (listed n)) (entry-leads n s) (tab .visits) (and-r fits (every (entry-good n s) (tab .visits)) visits)
 
--- every station of the network is listed
-all-listed : (n : Network) → T (every (listed n) (stations-of n))
-unfolding listed
-all-listed n = every-of (listed n) same-station (λ k. eqb-refl (k .0)) (stations-of n) (λ k t. t)
-
 pub placed : (n : Network) (m : Timetable) → Whole n m → T (every (spans (listed n)) (spanning n m))
 unfolding spanning
 placed n m w =
@@ -185,4 +181,4 @@ placed n m w =
     every-append (spans (listed n)) (own n s (m s)) (across n m s (m s))
     (every-own (spans (listed n)) n s (λ rule a c. both (listed n s) (listed n s) t t) (m s))
     (every-across (spans (listed n)) (listed n) n m s (λ p u rule a c. both (listed n s) (listed n p) t u) (m s) (table-leads n s (m s) (w .good s t))))
-    (stations-of n) (all-listed n)
+    (stations-of n) (stations-listed n)

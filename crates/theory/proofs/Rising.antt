@@ -2,14 +2,13 @@
 -- all elements of a piece have, and each piece rises by the numbers behind it: so for station, rule, first and second in turn, since stations, trains and
 -- ranks rise. Assumes nothing.
 use Prim.Native.Nat.{ℕ, suc, _+_, _≤_}
-use mathlib.Core.Path.{_≡_}
 use mathlib.Core.Bool.{Bool, true, false, not, _&&_, _||_}
 use mathlib.Core.List.{List, [], _∷_, _++_, map, flatMap, append-nil}
 use native.Mathlib.Omega.{arith}
 use lib.Dec.{T, ltb, leb, eqb, eqb-refl, eqb→eq, ltb→lt, leb→le, lt→ltb, le→leb, lit≤}
 use lib.ListN.{length}
-use Rattle.base.specs.Lists.{within, every, each-two, rising, below}
-use Rattle.base.proofs.Tests.{and-l, and-r, both, or-l, or-r, by-value, true-T}
+use Rattle.base.specs.Lists.{every, each-two, rising, below}
+use Rattle.base.proofs.Tests.{and-l, and-r, both, or-l, or-r, by-value}
 use Rattle.base.proofs.Counts.{every-append, every-true, every-each, every-flatMap, every-weaker, every-both}
 use Rattle.base.proofs.Counts.{each-two-head, each-two-tail, each-two-map, each-two-append, each-two-weaker}
 use Rattle.railway.specs.declared.visit.Inward.{Inward}
@@ -18,8 +17,8 @@ use Rattle.railway.specs.declared.visit.InLink.{InLink}
 use Rattle.railway.specs.declared.visit.OutLink.{OutLink}
 use Rattle.railway.specs.declared.visit.Visit.{Visit}
 use Rattle.railway.specs.declared.relation.Relation.{Relation}
-use Rattle.railway.specs.declared.network.StationRow.{StationRow}
-use Rattle.railway.specs.Networks.{station-rows, stations-of, station-row-ok, stations-in-range, lines-in-range, network-in-range, listed, network-refusal}
+use Rattle.railway.specs.Networks.{stations-of, listed}
+use Rattle.railway.proofs.NetworkLaws.{network-facts}
 use Rattle.timetable.specs.Visits.{ins, outs}
 use Rattle.timetable.specs.Tables.{Entry, Table, empty}
 use Rattle.timetable.specs.Machine.{Timetable}
@@ -283,23 +282,6 @@ trains-rise : (n : Network) (m : Timetable) → Whole n m → (k : Station) → 
 trains-rise n m w k =
     by-value (listed n k) (λ e. good-rise n k (m k) (w .good k (rw e tt))) (λ e. rw (w .bare k (rw e tt)) empty-rise)
 
--- in a good network the stations rise
-
-pub in-range : (n : Network) → GoodNetwork n → network-in-range n ≡ true
-unfolding network-refusal
-in-range n good = by-value (network-in-range n) (λ e. e) (λ e. absurd (omega (arith, rw e at good)))
-
-stations-rise : (n : Network) → GoodNetwork n → T (each-two (λ a b. ltb (a .0) (b .0)) (stations-of n))
-unfolding stations-of network-in-range stations-in-range rising
-stations-rise n good =
-    let rows : List StationRow = station-rows n in
-    let range : T (network-in-range n) = true-T (network-in-range n) (in-range n good) in
-    let stations : T (stations-in-range n) = and-l (stations-in-range n) (within 1 30 (n .headway) && lines-in-range n) range in
-    let order : T (each-two ltb (map (λ r. r .station .0) rows)) =
-    and-r (every station-row-ok rows) (each-two ltb (map (λ r. r .station .0) rows))
-    (and-r (within 1 16 (n .stationcount)) (every station-row-ok rows && each-two ltb (map (λ r. r .station .0) rows)) stations) in
-    rw (each-two-map (λ a b. ltb (a .0) (b .0)) (λ r. r .station) (station-rows n)) (rw (each-two-map ltb (λ r. r .station .0) (station-rows n)) at order)
-
 spanning-rises : (n : Network) → GoodNetwork n → (m : Timetable) → Whole n m → T (each-two by-station (spanning n m))
 unfolding spanning
 spanning-rises n good m w =
@@ -311,7 +293,7 @@ spanning-rises n good m w =
     (λ s.
     ranged-append rule by-first 1 7 11 (lit≤ tt) (lit≤ tt) (own n s (m s)) (across n m s (m s))
     (own-ranged n s (m s) (trains-rise n m w s)) (across-ranged n s (m s) (trains-rise n m w s) m (trains-rise n m w)) .rises)
-    (stations-of n) (stations-rise n good)
+    (stations-of n) (network-facts n good .stations-rise)
 
 -- "listed rising", strictly
 pub findings-rise : (n : Network) → GoodNetwork n → (m : Timetable) → Whole n m → T (each-two (λ f g. below (numbers f) (numbers g)) (findings n m))

@@ -20,8 +20,8 @@ use Rattle.timetable.specs.Tables.{Table, without, visit-of, has-visit, 
 use Rattle.timetable.specs.Machine.{Timetable, put, Action, Meaning, local, throughout, meaning, known, refused-as, refusal, changed, removed-by, answer, after}
 use Rattle.timetable.specs.Groups.{reaches, names}
 
-pub same-station→eq : (k s : Station) → T (same-station k s) → k ≡ s
-same-station→eq k s t = λ i. record { 0 = eqb→eq (k .0) (s .0) t i }
+pub same-station-equal : (k s : Station) → T (same-station k s) → k ≡ s
+same-station-equal k s t = λ i. record { 0 = eqb→eq (k .0) (s .0) t i }
 
 -- the station is s or p of the action
 abbrev at-ends : Action → Station → Bool
@@ -223,8 +223,8 @@ unfolding reaches known
 reached-listed n (throughout t) k r = r
 reached-listed n (local a) k r =
     or-cases (same-station k (a .home)) (same-station k (a .away)) (and-r (known n a) (at-ends a k) r)
-    (λ q. rw (same-station→eq k (a .home) q) (and-l (listed n (a .home)) (listed n (a .away)) ends))
-    (λ q. rw (same-station→eq k (a .away) q) (and-r (listed n (a .home)) (listed n (a .away)) ends))
+    (λ q. rw (same-station-equal k (a .home) q) (and-l (listed n (a .home)) (listed n (a .away)) ends))
+    (λ q. rw (same-station-equal k (a .away) q) (and-r (listed n (a .home)) (listed n (a .away)) ends))
   where
     ends : T (listed n (a .home) && listed n (a .away))
     ends = and-l (listed n (a .home) && listed n (a .away)) (a .fits n) (and-l (known n a) (at-ends a k) r)
