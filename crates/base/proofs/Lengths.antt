@@ -1,9 +1,9 @@
 -- Lengths of what is kept, and lists that are read from an index on: one more element, and what is asked of the rest. Assumes nothing.
-use Prim.Native.Nat.{ℕ, _+_, _<_, _≤_}
+use Prim.Native.Nat.{ℕ, suc, _+_, _<_, _≤_}
 use mathlib.Core.Path.{_≡_, refl, _∙_}
 use mathlib.Core.Bool.{Bool, true, false, _&&_, _||_}
 use mathlib.Core.List.{List, [], _∷_}
-use mathlib.Core.Option.{Option, some}
+use mathlib.Core.Option.{some}
 use native.Mathlib.Numerals.{add-one}
 use native.Mathlib.Omega.{arith}
 use lib.Dec.{ltb, eqb}
@@ -22,6 +22,15 @@ module _ {A : Type 0} where
       go : (b : Bool) → length (keep f xs) ≡ count f xs → length (if b then x ∷ keep f xs else keep f xs) ≡ (1 if b else 0) + count f xs
       go true e = omega arith
       go false e = omega arith
+
+  pub keep-no-longer : (f : A → Bool) (xs : List A) → length (keep f xs) ≤ length xs
+  unfolding keep
+  keep-no-longer f [] = omega arith
+  keep-no-longer f (x ∷ xs) = go (f x) (keep-no-longer f xs)
+    where
+      go : (b : Bool) → length (keep f xs) ≤ length xs → length (if b then x ∷ keep f xs else keep f xs) ≤ suc (length xs)
+      go true h = omega arith
+      go false h = omega arith
 
   -- the list from an index on is the element there and the list from the next index on
   pub drop-next : (l : List A) (i : ℕ) (d : A) → i < length l → drop i l ≡ getD l i d ∷ drop (i + 1) l

@@ -6,8 +6,8 @@ use mathlib.Core.Bool.{not}
 use mathlib.Core.List.{List, map}
 use lib.Dec.{T, leb, eqb-refl}
 use Rattle.base.specs.Lists.{every, each-two, rising, within}
-use Rattle.base.proofs.Tests.{held, rest-passed}
-use Rattle.base.proofs.Sorted.{parts, smaller, rising-map, two-map, every-any}
+use Rattle.base.proofs.Tests.{parts, held, rest-passed, every-any}
+use Rattle.base.proofs.Sorted.{smaller, rising-map, two-map}
 use Rattle.railway.specs.Types.{Station, StationRow, LineRow, Network}
 use Rattle.railway.specs.Ranges.{same-station}
 use Rattle.railway.specs.Networks.{station-rows, line-rows, stations-of, station-row-ok, line-row-ok, stations-rise, lines-rise, stations-in-range, lines-in-range}

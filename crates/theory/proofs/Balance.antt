@@ -12,8 +12,9 @@ use borrow.Author.Tests.{eqb-true, ltb-false}
 use Rattle.base.specs.Choice.{if_then_else_, _if_else_}
 use Rattle.base.specs.Lists.{each-two, sum}
 use Rattle.base.specs.Runs.{run, answers}
-use Rattle.base.proofs.Tests.{T-true, true-T, if-yes, and-l, passed, rest-passed, held}
-use Rattle.base.proofs.Sorted.{parts, smaller, sum-balance, sum-zero, count-sum, sum-once}
+use Rattle.base.proofs.Tests.{T-true, true-T, if-yes, and-l, parts, passed, rest-passed, held}
+use Rattle.base.proofs.Counts.{sum-balance, sum-zero, count-sum}
+use Rattle.base.proofs.Sorted.{smaller, sum-once}
 use Rattle.railway.specs.declared.sorts.Train.{Train}
 use Rattle.railway.specs.declared.edit.Edit.the-variants.{Place, Prepend, Append, DeleteFirst, DeleteLast, Amend}
 use Rattle.railway.specs.declared.edit.Edit.the-variants.{ReportArrival, ReportDeparture, AddRelation, RemoveRelation, DeleteTrain}

@@ -9,8 +9,7 @@ use borrow.Author.Tests.{eqb-true, ne-eqb}
 use Rattle.base.specs.Choice.{if_then_else_, _if_else_}
 use Rattle.base.specs.Lists.{every, is, each-two, rising}
 use Rattle.base.specs.Runs.{run}
-use Rattle.base.proofs.Tests.{true-T, both, passed, rest-passed, held}
-use Rattle.base.proofs.Sorted.{parts}
+use Rattle.base.proofs.Tests.{true-T, both, parts, passed, rest-passed, held}
 use Rattle.railway.specs.declared.sorts.Line.{Line}
 use Rattle.railway.specs.declared.edit.Plan.{Plan}
 use Rattle.railway.specs.declared.edit.Extension.{Extension}

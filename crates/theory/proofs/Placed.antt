@@ -8,7 +8,7 @@ use lib.Dec.{T, leb}
 use lib.ListN.{length}
 use Rattle.base.specs.Lists.{every, rising}
 use Rattle.base.proofs.Tests.{and-l, and-r, both}
-use Rattle.base.proofs.Counts.{every-head, every-tail, every-append, every-all, every-true, every-each, every-flatMap, every-weaker}
+use Rattle.base.proofs.Tests.{every-head, every-tail, every-append, every-all, every-true, every-each, every-flatMap, every-weaker}
 use Rattle.railway.specs.declared.visit.Inward.{Inward}
 use Rattle.railway.specs.declared.visit.Outward.{Outward}
 use Rattle.railway.specs.declared.visit.Visit.{Visit}

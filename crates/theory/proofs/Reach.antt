@@ -7,8 +7,8 @@ use mathlib.Core.List.{List, [], _++_, map}
 use lib.Dec.{T, eqb, ltb, eqb-refl, eqb→eq, not-T}
 use Rattle.base.specs.Choice.{if_then_else_}
 use Rattle.base.specs.Lists.{every, keep}
-use Rattle.base.proofs.Tests.{and-l, and-r, or-l, or-r, or-cases, by-test, by-value, if-yes}
-use Rattle.base.proofs.Counts.{keep-two, keep-flatMap, keep-none, every-append}
+use Rattle.base.proofs.Tests.{and-l, and-r, or-l, or-r, or-cases, by-test, by-value, if-yes, every-append}
+use Rattle.base.proofs.Counts.{keep-two, keep-flatMap, keep-none}
 use Rattle.railway.specs.declared.visit.Inward.{Inward}
 use Rattle.railway.specs.declared.visit.Outward.{Outward}
 use Rattle.railway.specs.Networks.{stations-of}

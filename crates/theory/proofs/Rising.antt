@@ -9,8 +9,8 @@ use lib.Dec.{T, ltb, leb, eqb, eqb-refl, eqb→eq, ltb→lt, leb→le, lt→ltb,
 use lib.ListN.{length}
 use Rattle.base.specs.Lists.{every, each-two, rising, below}
 use Rattle.base.proofs.Tests.{and-l, and-r, both, or-l, or-r, by-value}
-use Rattle.base.proofs.Counts.{every-append, every-true, every-each, every-flatMap, every-weaker, every-both}
-use Rattle.base.proofs.Counts.{each-two-head, each-two-tail, each-two-map, each-two-append, each-two-weaker}
+use Rattle.base.proofs.Tests.{every-append, every-true, every-each, every-flatMap, every-weaker, every-both}
+use Rattle.base.proofs.Sorted.{two-head, two-tail, two-map, two-append, two-weaker}
 use Rattle.railway.specs.declared.visit.Inward.{Inward}
 use Rattle.railway.specs.declared.visit.Outward.{Outward}
 use Rattle.railway.specs.declared.visit.InLink.{InLink}
@@ -48,7 +48,7 @@ module _ {A : Type 0} (κ : A → ℕ) (r : A → A → Bool) where
   level : (j : ℕ) (xs : List A) → T (every (has κ j) xs) → T (each-two r xs) → T (each-two (then-by κ r) xs)
   unfolding then-by
   level j xs =
-      each-two-weaker r (then-by κ r) (has κ j)
+      two-weaker r (then-by κ r) (has κ j)
       (λ x y t u v. or-r (ltb (κ x) (κ y)) (eqb (κ x) (κ y) && r x y)
       (both (eqb (κ x) (κ y)) (r x y) (rw (eqb→eq (κ x) j t, eqb→eq (κ y) j u) (eqb-refl j)) v)) xs
 
@@ -57,7 +57,7 @@ module _ {A : Type 0} (κ : A → ℕ) (r : A → A → Bool) where
       → T (each-two (then-by κ r) xs) → T (each-two (then-by κ r) ys) → T (each-two (then-by κ r) (xs ++ ys))
   unfolding then-by
   join j xs ys t u v w =
-      each-two-append (then-by κ r) (λ x. ltb (κ x) j) (λ y. leb j (κ y))
+      two-append (then-by κ r) (λ x. ltb (κ x) j) (λ y. leb j (κ y))
       (λ x y a b. or-l (ltb (κ x) (κ y)) (eqb (κ x) (κ y) && r x y) (lt→ltb (κ x) (κ y) (omega (arith, ltb→lt (κ x) j a, leb→le j (κ y) b)))) xs ys v w t u
 
   all-below : (j : ℕ) (xs : List A) → T (every (has κ j) xs) → T (every (λ x. ltb (κ x) (suc j)) xs)
@@ -74,9 +74,9 @@ module _ {A : Type 0} (κ : A → ℕ) (r : A → A → Bool) where
   flat key f same rises (b ∷ bs) t =
       join (suc (key b)) (f b) (flatMap f bs) (all-below (key b) (f b) (same b))
       (every-flatMap (λ x. leb (suc (key b)) (κ x)) f (λ c. ltb (key b) (key c))
-      (λ c u. all-from (suc (key b)) (key c) (ltb→lt (key b) (key c) u) (f c) (same c)) bs (each-two-head (λ c d. ltb (key c) (key d)) b bs t))
+      (λ c u. all-from (suc (key b)) (key c) (ltb→lt (key b) (key c) u) (f c) (same c)) bs (two-head (λ c d. ltb (key c) (key d)) b bs t))
       (level (key b) (f b) (same b) (rises b))
-      (flat key f same rises bs (each-two-tail (λ c d. ltb (key c) (key d)) b bs t))
+      (flat key f same rises bs (two-tail (λ c d. ltb (key c) (key d)) b bs t))
 
 -- pieces by their ranges of numbers: all of xs have numbers from lo to below hi, and rise
 record Ranged {A : Type 0} (κ : A → ℕ) (r : A → A → Bool) (lo hi : ℕ) (xs : List A) : Type 0 where
@@ -163,13 +163,13 @@ by-two-rises : (k : ℕ) (f : Visit → Visit → Bool) (s : Station) (es : List
 unfolding by-two
 by-two-rises k f s [] h = none first by-second
 by-two-rises k f s (t ∷ us) h =
-    let rest : Trains-rise us = each-two-tail (λ u w. ltb (u .train .0) (w .train .0)) t us h in
+    let rest : Trains-rise us = two-tail (λ u w. ltb (u .train .0) (w .train .0)) t us h in
     let same : T (every (has first (t .train .0)) (flatMap (λ u. one (f (t .visit) (u .visit)) s (finding s k (t .train .0) (u .train .0))) us)) =
     every-ones (has first (t .train .0)) (λ u. f (t .visit) (u .visit)) s s k (λ u. t .train .0) (λ u. u .train .0) (λ u. eqb-refl (t .train .0)) us in
     join first by-second (suc (t .train .0)) _ (by-two k f s us)
     (all-below first by-second (t .train .0) _ same)
     (every-by-two (λ x. leb (suc (t .train .0)) (first x)) (λ u. ltb (t .train .0) (u .train .0)) k f s (λ u v c. v) us
-    (each-two-head (λ u w. ltb (u .train .0) (w .train .0)) t us h))
+    (two-head (λ u w. ltb (u .train .0) (w .train .0)) t us h))
     (level first by-second (t .train .0) _ same (seconds-rise (λ u. f (t .visit) (u .visit)) s s k (t .train .0) us rest))
     (by-two-rises k f s us rest)
 
@@ -272,7 +272,7 @@ good-rise n k tab t =
     let trains : List ℕ = map (λ e. e .train .0) (tab .visits) in
     let good : T (visits-good n k (tab .visits)) = and-l (visits-good n k (tab .visits)) (relations-good (tab .relations)) t in
     let fits : Bool = leb (length (tab .visits)) 24 in
-    rw each-two-map at (and-r fits (each-two ltb trains) (and-l (fits && each-two ltb trains) (every (entry-good n k) (tab .visits)) good))
+    rw two-map at (and-r fits (each-two ltb trains) (and-l (fits && each-two ltb trains) (every (entry-good n k) (tab .visits)) good))
 
 empty-rise : Trains-rise (empty .visits)
 unfolding empty each-two
@@ -299,4 +299,4 @@ spanning-rises n good m w =
 pub findings-rise : (n : Network) → GoodNetwork n → (m : Timetable) → Whole n m → T (each-two (λ f g. below (numbers f) (numbers g)) (findings n m))
 unfolding findings then-by below
 findings-rise n good m w =
-    rw (each-two-map (λ f g. below (numbers f) (numbers g)) (λ x. x .found) (spanning n m)) (spanning-rises n good m w)
+    rw (two-map (λ f g. below (numbers f) (numbers g)) (λ x. x .found) (spanning n m)) (spanning-rises n good m w)
