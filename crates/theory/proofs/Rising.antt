@@ -3,11 +3,11 @@
 -- ranks rise. Assumes nothing.
 use Prim.Native.Nat.{ℕ, suc, _+_, _≤_}
 use mathlib.Core.Bool.{Bool, true, false, not, _&&_, _||_}
-use mathlib.Core.List.{List, [], _∷_, _++_, map, flatMap, append-nil}
+use mathlib.Core.List.{List, [], _∷_, _++_, flatMap, append-nil}
 use native.Mathlib.Omega.{arith}
 use lib.Dec.{T, ltb, leb, eqb, eqb-refl, eqb→eq, ltb→lt, leb→le, lt→ltb, le→leb, lit≤}
 use lib.ListN.{length}
-use Rattle.base.specs.Lists.{every, each-two, rising, below}
+use Rattle.base.specs.Lists.{every, each-two, below}
 use Rattle.base.proofs.Tests.{and-l, and-r, both, or-l, or-r, by-value}
 use Rattle.base.proofs.Tests.{every-append, every-true, every-each, every-flatMap, every-weaker, every-both}
 use Rattle.base.proofs.Sorted.{two-head, two-tail, two-map, two-append, two-weaker}
@@ -22,10 +22,11 @@ use Rattle.railway.proofs.NetworkLaws.{network-facts}
 use Rattle.timetable.specs.Visits.{ins, outs}
 use Rattle.timetable.specs.Tables.{Entry, Table, empty}
 use Rattle.timetable.specs.Machine.{Timetable}
-use Rattle.timetable.specs.Good.{entry-good, visits-good, relations-good, table-good, Whole}
+use Rattle.timetable.specs.Good.{Whole}
 use Rattle.timetable.specs.Rules.{met}
 use Rattle.timetable.specs.Findings.{Spanning, finding, one, by-one, by-two, unmet, own, by-out, by-in, rule-7, rule-8, rule-9, rule-10}
 use Rattle.timetable.specs.Findings.{across, spanning, findings}
+use Rattle.timetable.proofs.TableLaws.{table-facts}
 use Rattle.theory.specs.Types.{Station, Network, Finding}
 use Rattle.theory.specs.Statements.{GoodNetwork, numbers}
 use Rattle.theory.proofs.Placed.{spot, anywhere, every-one, every-ones, every-by-one, every-by-two, every-unmet, every-own}
@@ -266,21 +267,13 @@ module _ (n : Network) (s : Station) (here : Table) (h : Trains-rise (here .visi
 
 -- in a whole timetable the trains of every station rise
 
-good-rise : (n : Network) (k : Station) (tab : Table) → T (table-good n k tab) → Trains-rise (tab .visits)
-unfolding table-good visits-good rising
-good-rise n k tab t =
-    let trains : List ℕ = map (λ e. e .train .0) (tab .visits) in
-    let good : T (visits-good n k (tab .visits)) = and-l (visits-good n k (tab .visits)) (relations-good (tab .relations)) t in
-    let fits : Bool = leb (length (tab .visits)) 24 in
-    rw two-map at (and-r fits (each-two ltb trains) (and-l (fits && each-two ltb trains) (every (entry-good n k) (tab .visits)) good))
-
 empty-rise : Trains-rise (empty .visits)
 unfolding empty each-two
 empty-rise = tt
 
 trains-rise : (n : Network) (m : Timetable) → Whole n m → (k : Station) → Trains-rise (m k .visits)
 trains-rise n m w k =
-    by-value (listed n k) (λ e. good-rise n k (m k) (w .good k (rw e tt))) (λ e. rw (w .bare k (rw e tt)) empty-rise)
+    by-value (listed n k) (λ e. table-facts n k (m k) (w .good k (rw e tt)) .visits .order) (λ e. rw (w .bare k (rw e tt)) empty-rise)
 
 spanning-rises : (n : Network) → GoodNetwork n → (m : Timetable) → Whole n m → T (each-two by-station (spanning n m))
 unfolding spanning
