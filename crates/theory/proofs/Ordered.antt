@@ -102,6 +102,6 @@ unfolding listed stations-of station-row area-of
 areas-group n h =
     let placed : (k : Station) → Placed (listed n k) (area-of n k) = λ k. row-placed k (station-rows n) (network-facts n h .station-rows-ok) in
     record {
-      in-one = λ k t. one-of-six (area-of n k) (placed-within (listed n k) (area-of n k) (placed k) t);
+      in-one = λ k t. omega (arith, one-of-six (area-of n k) (placed-within (listed n k) (area-of n k) (placed k) t));
       in-none = λ k. placed-test (listed n k) (area-of n k) (placed k);
     }

@@ -28,7 +28,7 @@ pub counted-alike : (n : Network) (γ : Grouping) (gs : List ℕ) → Grouped n 
 unfolding all-lists findings group-findings pair-findings
 counted-alike n γ gs G m w q =
     rw (fun-ext (own-part n γ m), fun-ext (pair-part n γ m), count-append, count-flatMap, count-flatMap)
-    (partition γ gs (listed n) positive (G .in-one) q (spanning n m) (placed n m w))
+    (partition γ gs (listed n) positive (λ k t. omega (arith, G .in-one k t)) q (spanning n m) (placed n m w))
   where
     positive : (k : Station) → T (listed n k) → 0 < γ k
     positive k t = ltb→lt 0 (γ k) (rw (G .in-none k) at t)

@@ -2,13 +2,13 @@
 -- alone, so each fact is proved once for all meanings, by the tests that decide what an edit names: its values are in range (`edit-ok`), its network knows it
 -- (`known`), and the station is s or p. Assumes nothing.
 use Prim.Native.Nat.{ℕ, _+_}
-use mathlib.Core.Path.{_≡_, refl, _∙_, ap, ap₂}
+use mathlib.Core.Path.{_≡_, refl, sym, _∙_, ap, ap₂}
 use mathlib.Core.Bool.{Bool, true, false, not, _&&_, _||_}
 use mathlib.Core.List.{List, [], _∷_}
 use lib.Dec.{T, eqb, eqb-refl, eqb→eq}
 use Rattle.base.specs.Choice.{if_then_else_, _if_else_}
 use Rattle.base.specs.Lists.{any, count, is}
-use Rattle.base.proofs.Tests.{if-no, and-l, and-r, or-l, or-r, or-cases}
+use Rattle.base.proofs.Tests.{if-yes, if-no, and-l, and-r, or-l, or-r, or-cases}
 use Rattle.railway.specs.Ranges.{same-station}
 use Rattle.railway.specs.Edits.{edit-ok}
 use Rattle.railway.specs.Networks.{stations-of, listed}
@@ -82,7 +82,7 @@ module _ (n : Network) (m m′ : Timetable) where
   changed-agree : (b : Bool) (μ : Meaning) → Agree b μ → (k : Station) → T (b && reaches n μ k) → changed n μ m k ≡ changed n μ m′ k
   unfolding changed reaches
   changed-agree false μ h k r = absurd r
-  changed-agree true (throughout t) h k r = λ i. if listed n k then without t (h k r i) else h k r i
+  changed-agree true (throughout t) h k r = if-yes (listed n k) _ _ r ∙ ap (without t) (h k r) ∙ sym (if-yes (listed n k) _ _ r)
   changed-agree true (local a) h k r = put-agree a k (known n a) h r
 
   -- an edit that is not refused is in range
@@ -145,7 +145,7 @@ meaning-kept : (n : Network) (m : Timetable) (b : Bool) (μ : Meaning) (k : Stat
     → (if eqb (3 if not b else refused-as n μ m) 0 then changed n μ m else m) k ≡ m k
 unfolding reaches refused-as changed
 meaning-kept n m false μ k away = refl
-meaning-kept n m true (throughout t) k away = if-no (listed n k) (without t (m k)) (m k) away
+meaning-kept n m true (throughout t) k away = if-no (listed n k) _ _ away
 meaning-kept n m true (local a) k away = action-kept (known n a) (a .refuses (m (a .home)) (m (a .away))) a m k away
 
 -- an edit leaves every table that it does not name
