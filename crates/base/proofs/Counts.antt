@@ -1,19 +1,14 @@
--- How tests and counts over lists go through `++`, `map`, `flatMap` and pairs: each law is an induction on the list, by the cases of a test of its head.
+-- How what is counted, summed or kept goes through `++`, `map`, `flatMap` and pairs: each law is an induction on the list, by the cases of a test of its head.
 -- Assumes nothing.
 use Prim.Native.Nat.{ℕ, _+_, _≤_}
-use mathlib.Core.Path.{_≡_, refl, sym, _∙_, ap₂, fun-ext}
+use mathlib.Core.Path.{_≡_, refl, sym, _∙_, ap, ap₂, fun-ext}
 use mathlib.Core.Bool.{Bool, true, false, not, _&&_, _||_}
 use mathlib.Core.List.{List, [], _∷_, _++_, map, flatMap}
 use native.Mathlib.Omega.{arith}
-use lib.Dec.{T, not-T, eqb, ltb, eqb→eq, ltb→lt}
+use lib.Dec.{T}
 use Rattle.base.specs.Choice.{if_then_else_, _if_else_}
-use Rattle.base.specs.Lists.{any, every, keep, count, each-two, sum, pairs, below, same}
-use Rattle.base.proofs.Tests.{and-l, and-r, both, or-l, or-r, or-cases}
-
-pub every-true : {A : Type 0} (xs : List A) → T (every (λ x. true) xs)
-unfolding every
-every-true [] = tt
-every-true (x ∷ xs) = every-true xs
+use Rattle.base.specs.Lists.{any, every, keep, count, sum, pairs}
+use Rattle.base.proofs.Tests.{T-true, every-head, every-tail, every-all}
 
 module _ {A : Type 0} (f : A → Bool) where
   pub count-append : (xs ys : List A) → count f (xs ++ ys) ≡ count f xs + count f ys
@@ -88,110 +83,34 @@ module _ {A : Type 0} (f : A → Bool) where
       go true u ih = absurd u
       go false u ih = ih u
 
-  pub every-head : (x : A) (xs : List A) → T (every f (x ∷ xs)) → T (f x)
-  unfolding every
-  every-head x xs t = and-l (f x) (every f xs) t
-
-  pub every-tail : (x : A) (xs : List A) → T (every f (x ∷ xs)) → T (every f xs)
-  unfolding every
-  every-tail x xs t = and-r (f x) (every f xs) t
-
-  pub every-append : (xs ys : List A) → T (every f xs) → T (every f ys) → T (every f (xs ++ ys))
-  unfolding every
-  every-append [] ys t u = u
-  every-append (x ∷ xs) ys t u = both (f x) (every f (xs ++ ys)) (every-head x xs t) (every-append xs ys (every-tail x xs t) u)
-
-  pub every-all : ((x : A) → T (f x)) → (xs : List A) → T (every f xs)
-  unfolding every
-  every-all h [] = tt
-  every-all h (x ∷ xs) = both (f x) (every f xs) (h x) (every-all h xs)
-
-  pub every-map : {B : Type 0} (g : B → A) (xs : List B) → every f (map g xs) ≡ every (λ b. f (g b)) xs
-  unfolding every
-  every-map g [] = refl
-  every-map g (x ∷ xs) = rw (every-map g xs)
-
-  -- lists in a row, each formed of something that passes p
-  pub every-flatMap : {B : Type 0} (g : B → List A) (p : B → Bool) → ((b : B) → T (p b) → T (every f (g b)))
-      → (xs : List B) → T (every p xs) → T (every f (flatMap g xs))
-  unfolding every flatMap
-  every-flatMap g p h [] t = tt
-  every-flatMap g p h (x ∷ xs) t =
-      every-append (g x) (flatMap g xs) (h x (and-l (p x) (every p xs) t)) (every-flatMap g p h xs (and-r (p x) (every p xs) t))
-
-  pub every-each : {B : Type 0} (g : B → List A) → ((b : B) → T (every f (g b))) → (xs : List B) → T (every f (flatMap g xs))
-  every-each g h xs = every-flatMap g (λ b. true) (λ b t. h b) xs (every-true xs)
-
-  -- what holds of each x that has one like it in the list holds of all of the list
-  pub every-of : (r : A → A → Bool) → ((x : A) → T (r x x)) → (xs : List A) → ((x : A) → T (any (r x) xs) → T (f x)) → T (every f xs)
-  unfolding every any
-  every-of r like [] h = tt
-  every-of r like (x ∷ xs) h =
-      both (f x) (every f xs) (h x (or-l (r x x) (any (r x) xs) (like x))) (every-of r like xs (λ y t. h y (or-r (r y x) (any (r y) xs) t)))
-
--- what passes the one test passes the other
-pub every-weaker : {A : Type 0} (f g : A → Bool) → ((x : A) → T (f x) → T (g x)) → (xs : List A) → T (every f xs) → T (every g xs)
-unfolding every
-every-weaker f g h [] t = tt
-every-weaker f g h (x ∷ xs) t = both (g x) (every g xs) (h x (every-head f x xs t)) (every-weaker f g h xs (every-tail f x xs t))
-
-pub every-both : {A : Type 0} (f g : A → Bool) (xs : List A) → T (every f xs) → T (every g xs) → T (every (λ x. f x && g x) xs)
-unfolding every
-every-both f g [] t u = tt
-every-both f g (x ∷ xs) t u =
-    both (f x && g x) (every (λ y. f y && g y) xs)
-    (both (f x) (g x) (every-head f x xs t) (every-head g x xs u)) (every-both f g xs (every-tail f x xs t) (every-tail g x xs u))
-
-module _ {A : Type 0} (r : A → A → Bool) where
-  pub each-two-map : {B : Type 0} (g : B → A) (xs : List B) → each-two r (map g xs) ≡ each-two (λ b c. r (g b) (g c)) xs
-  unfolding each-two
-  each-two-map g [] = refl
-  each-two-map g (x ∷ xs) = rw (every-map (r (g x)) g xs, each-two-map g xs)
-
-  pub each-two-head : (x : A) (xs : List A) → T (each-two r (x ∷ xs)) → T (every (r x) xs)
-  unfolding each-two
-  each-two-head x xs t = and-l (every (r x) xs) (each-two r xs) t
-
-  pub each-two-tail : (x : A) (xs : List A) → T (each-two r (x ∷ xs)) → T (each-two r xs)
-  unfolding each-two
-  each-two-tail x xs t = and-r (every (r x) xs) (each-two r xs) t
-
-  -- what passes p stands before what passes q
-  pub each-two-append : (p q : A → Bool) → ((x y : A) → T (p x) → T (q y) → T (r x y))
-      → (xs ys : List A) → T (each-two r xs) → T (each-two r ys) → T (every p xs) → T (every q ys) → T (each-two r (xs ++ ys))
-  unfolding each-two every
-  each-two-append p q h [] ys s t u v = t
-  each-two-append p q h (x ∷ xs) ys s t u v =
-      both (every (r x) (xs ++ ys)) (each-two r (xs ++ ys))
-      (every-append (r x) xs ys (each-two-head x xs s) (every-weaker q (r x) (λ y. h x y (every-head p x xs u)) ys v))
-      (each-two-append p q h xs ys (each-two-tail x xs s) t (every-tail p x xs u) v)
-
-  -- of two elements that pass q neither may stand before the other: there is one at most
-  pub each-two-once : (q : A → Bool) → ((x y : A) → T (q x) → T (q y) → ¬ T (r x y)) → (xs : List A) → T (each-two r xs) → count q xs ≤ 1
-  unfolding each-two count
-  each-two-once q h [] t = omega arith
-  each-two-once q h (x ∷ xs) t = go (q x) refl (each-two-once q h xs (each-two-tail x xs t))
-    where
-      none : T (q x) → T (every (r x) xs) → count q xs ≡ 0
-      none u v = count-none q xs (every-weaker (r x) (λ y. not (q y)) (λ y s. not-T (q y) (λ w. h x y u w s)) xs v)
-
-      go : (b : Bool) → q x ≡ b → count q xs ≤ 1 → (1 if b else 0) + count q xs ≤ 1
-      go true e ih = omega (arith, none (rw e tt) (each-two-head x xs t))
-      go false e ih = omega arith
-
--- another order, which follows from the first where both elements pass p
-pub each-two-weaker : {A : Type 0} (r s : A → A → Bool) (p : A → Bool) → ((x y : A) → T (p x) → T (p y) → T (r x y) → T (s x y))
-    → (xs : List A) → T (every p xs) → T (each-two r xs) → T (each-two s xs)
-unfolding each-two every
-each-two-weaker r s p h [] t u = tt
-each-two-weaker r s p h (x ∷ xs) t u =
-    both (every (s x) xs) (each-two s xs)
-    (every-weaker (λ y. p y && r x y) (s x) (λ y v. h x y (every-head p x xs t) (and-l (p y) (r x y) v) (and-r (p y) (r x y) v)) xs
-    (every-both p (r x) xs (every-tail p x xs t) (each-two-head r x xs u)))
-    (each-two-weaker r s p h xs (every-tail p x xs t) (each-two-tail r x xs u))
+  -- all are kept where each passes
+  pub keep-every : (xs : List A) → T (every f xs) → keep f xs ≡ xs
+  unfolding every keep
+  keep-every [] t = refl
+  keep-every (x ∷ xs) t = rw (T-true (f x) (every-head f x xs t), keep-every xs (every-tail f x xs t))
 
 pub count-same : {A : Type 0} (f g : A → Bool) → ((x : A) → f x ≡ g x) → (xs : List A) → count f xs ≡ count g xs
 count-same f g e xs = rw (fun-ext e)
+
+-- sums over a list whose elements pass a test
+
+module _ {A : Type 0} where
+  -- what balances at each element that passes balances in sum
+  pub sum-balance : (p : A → Bool) (f g u v : A → ℕ) → ((x : A) → T (p x) → f x + u x ≡ g x + v x) → (xs : List A) → T (every p xs)
+      → sum f xs + sum u xs ≡ sum g xs + sum v xs
+  unfolding sum
+  sum-balance p f g u v h [] t = refl
+  sum-balance p f g u v h (x ∷ xs) t = omega (arith, h x (every-head p x xs t), sum-balance p f g u v h xs (every-tail p x xs t))
+
+  pub sum-zero : (f : A → ℕ) (p : A → Bool) → ((x : A) → T (p x) → f x ≡ 0) → (xs : List A) → T (every p xs) → sum f xs ≡ 0
+  unfolding sum
+  sum-zero f p h [] t = refl
+  sum-zero f p h (x ∷ xs) t = omega (arith, h x (every-head p x xs t), sum-zero f p h xs (every-tail p x xs t))
+
+  pub count-sum : (p : A → Bool) (xs : List A) → count p xs ≡ sum (λ x. 1 if p x else 0) xs
+  unfolding count sum
+  count-sum p [] = refl
+  count-sum p (x ∷ xs) = ap (λ k. (1 if p x else 0) + k) (count-sum p xs)
 
 -- Two tests over the elements and the pairs of a list: elements that pass both, and pairs of which the one passes x and the other y.
 module _ {A : Type 0} (x y : A → Bool) where
@@ -283,20 +202,3 @@ module _ {A : Type 0} (x y : A → Bool) where
       go true false u v ih = omega (arith, against-first gs, met-never gs (omega arith))
       go false true u v ih = omega (arith, against-second gs, met-never-far gs (omega arith))
       go false false u v ih = omega (arith, against-neither gs, ih (omega arith) (omega arith))
-
--- lists of numbers
-
-pub same-equal : (xs ys : List ℕ) → T (same xs ys) → xs ≡ ys
-unfolding same
-same-equal [] [] t = refl
-same-equal [] (y ∷ ys) t = absurd t
-same-equal (x ∷ xs) [] t = absurd t
-same-equal (x ∷ xs) (y ∷ ys) t = rw (eqb→eq x y (and-l (eqb x y) (same xs ys) t), same-equal xs ys (and-r (eqb x y) (same xs ys) t))
-
-pub below-itself : (xs : List ℕ) → ¬ T (below xs xs)
-unfolding below
-below-itself [] t = t
-below-itself (x ∷ xs) t =
-    or-cases (ltb x x) (eqb x x && below xs xs) t
-    (λ u. absurd (omega (arith, ltb→lt x x u)))
-    (λ u. below-itself xs (and-r (eqb x x) (below xs xs) u))

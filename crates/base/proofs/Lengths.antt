@@ -1,9 +1,9 @@
 -- Lengths of what is kept, and lists that are read from an index on: one more element, and what is asked of the rest. Assumes nothing.
-use Prim.Native.Nat.{ℕ, _+_, _-_, _<_, _≤_}
+use Prim.Native.Nat.{ℕ, suc, _+_, _-_, _<_, _≤_}
 use mathlib.Core.Path.{_≡_, refl, _∙_}
 use mathlib.Core.Bool.{Bool, true, false, _&&_, _||_}
 use mathlib.Core.List.{List, [], _∷_}
-use mathlib.Core.Option.{Option, some}
+use mathlib.Core.Option.{some}
 use native.Mathlib.Numerals.{add-one}
 use native.Mathlib.Omega.{arith}
 use lib.Dec.{ltb, eqb}
@@ -23,6 +23,15 @@ module _ {A : Type 0} where
       go true e = omega arith
       go false e = omega arith
 
+  pub keep-no-longer : (f : A → Bool) (xs : List A) → length (keep f xs) ≤ length xs
+  unfolding keep
+  keep-no-longer f [] = omega arith
+  keep-no-longer f (x ∷ xs) = go (f x) (keep-no-longer f xs)
+    where
+      go : (b : Bool) → length (keep f xs) ≤ length xs → length (if b then x ∷ keep f xs else keep f xs) ≤ suc (length xs)
+      go true h = omega arith
+      go false h = omega arith
+
   -- the list from an index on is the element there and the list from the next index on
   pub drop-next : (l : List A) (i : ℕ) (d : A) → i < length l → drop i l ≡ getD l i d ∷ drop (i + 1) l
   drop-next l i d h = drop-cons l i d h ∙ rw (add-one i)
@@ -30,15 +39,6 @@ module _ {A : Type 0} where
   -- the part from an index to the end, as a lent part is read
   pub rest-whole : (k : ℕ) (l : List A) → take (length l - k) (drop k l) ≡ drop k l
   rest-whole k l = take-all (length l - k) (drop k l) (simp length-drop (omega arith))
-
-  pub every-next : (f : A → Bool) (l : List A) (i : ℕ) (d : A) → i < length l → every f (drop i l) ≡ (f (getD l i d) && every f (drop (i + 1) l))
-  unfolding every
-  every-next f l i d h = rw (drop-next l i d h)
-
-  pub first-next : (f : A → Bool) (l : List A) (i : ℕ) (d : A) → i < length l
-      → first f (drop i l) ≡ (if f (getD l i d) then some (getD l i d) else first f (drop (i + 1) l))
-  unfolding first
-  first-next f l i d h = rw (drop-next l i d h)
 
 -- two lists of numbers compared from an index on: decided there, equal there, or at the end of both
 module _ (a b : List ℕ) (i : ℕ) where

@@ -1,69 +1,20 @@
--- Laws of tests over lists, of lists in order, of sums over them, and of the order of lists of numbers: what keeping, mapping and weakening leave,
--- and that `below` is a strict order. Each is by induction on the list. Assumes nothing.
-use Prim.Native.Nat.{ℕ, suc, _+_, _≤_, _<_}
-use mathlib.Core.Path.{_≡_, refl, sym, ap, ap₂}
-use mathlib.Core.Bool.{Bool, true, false, _&&_, _||_}
-use mathlib.Core.List.{List, [], _∷_, map}
+-- Laws of lists in order: what keeping, mapping, joining and weakening leave of an order of each two elements, what stands in such a list once at most,
+-- and that `below` is a strict order of lists of numbers. Each is by induction on the list. Assumes nothing.
+use Prim.Native.Nat.{ℕ, _+_, _≤_, _<_}
+use mathlib.Core.Path.{_≡_, refl, sym, ap₂}
+use mathlib.Core.Bool.{Bool, true, false, not, _&&_}
+use mathlib.Core.List.{List, [], _∷_, _++_, map}
 use native.Mathlib.Omega.{arith}
-use lib.Dec.{T, ltb, eqb, ltb→lt, lt→ltb, eqb→eq, eqb-refl}
-use lib.ListN.{length}
+use lib.Dec.{T, not-T, ltb, eqb, ltb→lt, lt→ltb, eqb→eq, eqb-refl}
 use borrow.Author.Tests.{ltb-true, ltb-false, eqb-true, eqb-false, eq-eqb, ne-eqb}
 use Rattle.base.specs.Choice.{if_then_else_, _if_else_}
 use Rattle.base.specs.Lists.{any, every, keep, count, each-two, sum, below, same, rising}
-use Rattle.base.proofs.Tests.{T-true, true-T, and-l, and-r, both, or-l, or-r, or-cases}
+use Rattle.base.proofs.Tests.{true-T, and-l, and-r, both, or-l, or-r, or-cases, every-head, every-tail, every-cons, every-weaker, every-both, every-keep, every-append, every-map}
+use Rattle.base.proofs.Counts.{count-none, sum-zero}
 
--- the parts of tests joined by `&&`: `search parts` takes one out, `search both` puts them together
-pub ruleset parts = (and-l, and-r)
+-- each two pass
 
 module _ {A : Type 0} where
-  -- each passes
-
-  pub every-head : (f : A → Bool) (x : A) (xs : List A) → T (every f (x ∷ xs)) → T (f x)
-  unfolding every
-  every-head f x xs t = and-l (f x) (every f xs) t
-
-  pub every-tail : (f : A → Bool) (x : A) (xs : List A) → T (every f (x ∷ xs)) → T (every f xs)
-  unfolding every
-  every-tail f x xs t = and-r (f x) (every f xs) t
-
-  pub every-cons : (f : A → Bool) (x : A) (xs : List A) → T (f x) → T (every f xs) → T (every f (x ∷ xs))
-  unfolding every
-  every-cons f x xs t u = both (f x) (every f xs) t u
-
-  pub every-weaker : (f g : A → Bool) → ((x : A) → T (f x) → T (g x)) → (xs : List A) → T (every f xs) → T (every g xs)
-  unfolding every
-  every-weaker f g h [] t = tt
-  every-weaker f g h (x ∷ xs) t =
-      every-cons g x xs (h x (every-head f x xs t)) (every-weaker f g h xs (every-tail f x xs t))
-
-  pub every-keep : (f p : A → Bool) (xs : List A) → T (every f xs) → T (every f (keep p xs))
-  unfolding every keep
-  every-keep f p [] t = tt
-  every-keep f p (x ∷ xs) t = go (p x) (every-keep f p xs (every-tail f x xs t))
-    where
-      go : (b : Bool) → T (every f (keep p xs)) → T (every f (if b then x ∷ keep p xs else keep p xs))
-      go true ih = every-cons f x (keep p xs) (every-head f x xs t) ih
-      go false ih = ih
-
-  -- kept lists
-
-  pub keep-length : (p : A → Bool) (xs : List A) → length (keep p xs) ≤ length xs
-  unfolding keep
-  keep-length p [] = omega arith
-  keep-length p (x ∷ xs) = go (p x) (keep-length p xs)
-    where
-      go : (b : Bool) → length (keep p xs) ≤ length xs → length (if b then x ∷ keep p xs else keep p xs) ≤ suc (length xs)
-      go true ih = omega arith
-      go false ih = omega arith
-
-  -- all are kept where each passes
-  pub keep-every : (p : A → Bool) (xs : List A) → T (every p xs) → keep p xs ≡ xs
-  unfolding every keep
-  keep-every p [] t = refl
-  keep-every p (x ∷ xs) t = rw (T-true (p x) (every-head p x xs t), keep-every p xs (every-tail p x xs t))
-
-  -- each two pass
-
   pub two-head : (f : A → A → Bool) (x : A) (xs : List A) → T (each-two f (x ∷ xs)) → T (every (f x) xs)
   unfolding each-two
   two-head f x xs t = and-l (every (f x) xs) (each-two f xs) t
@@ -91,19 +42,45 @@ module _ {A : Type 0} where
       go true ih = two-cons f x (keep p xs) (every-keep (f x) p xs (two-head f x xs t)) ih
       go false ih = ih
 
-module _ {A B : Type 0} where
-  pub every-map : (f : B → Bool) (g : A → B) (xs : List A) → every f (map g xs) ≡ every (λ x. f (g x)) xs
-  unfolding every
-  every-map f g [] = refl
-  every-map f g (x ∷ xs) = ap (λ b. f (g x) && b) (every-map f g xs)
+  -- what passes p stands before what passes q
+  pub two-append : (f : A → A → Bool) (p q : A → Bool) → ((x y : A) → T (p x) → T (q y) → T (f x y))
+      → (xs ys : List A) → T (each-two f xs) → T (each-two f ys) → T (every p xs) → T (every q ys) → T (each-two f (xs ++ ys))
+  unfolding each-two every
+  two-append f p q h [] ys s t u v = t
+  two-append f p q h (x ∷ xs) ys s t u v =
+      two-cons f x (xs ++ ys) (every-append (f x) xs ys (two-head f x xs s) (every-weaker q (f x) (λ y. h x y (every-head p x xs u)) ys v))
+      (two-append f p q h xs ys (two-tail f x xs s) t (every-tail p x xs u) v)
 
-  pub every-mapped : (p : A → Bool) (q : B → Bool) (g : A → B) → ((x : A) → T (p x) → T (q (g x))) → (xs : List A) → T (every p xs) → T (every q (map g xs))
-  every-mapped p q g h xs t = rw (every-map q g xs) (every-weaker p (λ x. q (g x)) h xs t)
+  -- another order, which follows from the first where both elements pass p
+  pub two-weaker : (f g : A → A → Bool) (p : A → Bool) → ((x y : A) → T (p x) → T (p y) → T (f x y) → T (g x y))
+      → (xs : List A) → T (every p xs) → T (each-two f xs) → T (each-two g xs)
+  unfolding each-two every
+  two-weaker f g p h [] t u = tt
+  two-weaker f g p h (x ∷ xs) t u =
+      two-cons g x xs
+      (every-weaker (λ y. p y && f x y) (g x) (λ y v. h x y (every-head p x xs t) (and-l (p y) (f x y) v) (and-r (p y) (f x y) v)) xs
+      (every-both p (f x) xs (every-tail p x xs t) (two-head f x xs u)))
+      (two-weaker f g p h xs (every-tail p x xs t) (two-tail f x xs u))
 
-  pub two-map : (f : B → B → Bool) (g : A → B) (xs : List A) → each-two f (map g xs) ≡ each-two (λ x y. f (g x) (g y)) xs
+  -- of two elements that pass q neither may stand before the other: there is one at most
+  pub two-once : (f : A → A → Bool) (q : A → Bool) → ((x y : A) → T (q x) → T (q y) → ¬ T (f x y)) → (xs : List A) → T (each-two f xs) → count q xs ≤ 1
+  unfolding each-two count
+  two-once f q h [] t = omega arith
+  two-once f q h (x ∷ xs) t = go (q x) refl (two-once f q h xs (two-tail f x xs t))
+    where
+      none : T (q x) → T (every (f x) xs) → count q xs ≡ 0
+      none u v = count-none q xs (every-weaker (f x) (λ y. not (q y)) (λ y s. not-T (q y) (λ w. h x y u w s)) xs v)
+
+      go : (b : Bool) → q x ≡ b → count q xs ≤ 1 → (1 if b else 0) + count q xs ≤ 1
+      go true e ih = omega (arith, none (rw e tt) (two-head f x xs t))
+      go false e ih = omega arith
+
+  pub two-map : {B : Type 0} (f : B → B → Bool) (g : A → B) (xs : List A) → each-two f (map g xs) ≡ each-two (λ x y. f (g x) (g y)) xs
   unfolding each-two
   two-map f g [] = refl
   two-map f g (x ∷ xs) = ap₂ (λ a b. a && b) (every-map (f (g x)) g xs) (two-map f g xs)
+
+-- rising by a number of each element
 
 module _ {A : Type 0} (g : A → ℕ) where
   -- the one has the smaller number
@@ -113,39 +90,11 @@ module _ {A : Type 0} (g : A → ℕ) where
   pub smaller-across : (x y z : A) → T (smaller x y) → T (smaller y z) → T (smaller x z)
   smaller-across x y z t u = lt→ltb (g x) (g z) (omega (arith, ltb→lt (g x) (g y) t, ltb→lt (g y) (g z) u))
 
--- rising by a number of each element
 pub rising-map : {A : Type 0} (g : A → ℕ) (xs : List A) → rising (map g xs) ≡ each-two (smaller g) xs
 unfolding rising
 rising-map g xs = two-map ltb g xs
 
--- sums over a list whose elements pass a test
-
 module _ {A : Type 0} where
-  -- each element of a list is among its elements
-  pub every-any : (f : A → A → Bool) → ((x : A) → T (f x x)) → (xs : List A) → T (every (λ x. any (f x) xs) xs)
-  unfolding every any
-  every-any f r [] = tt
-  every-any f r (x ∷ xs) =
-      every-cons (λ y. f y x || any (f y) xs) x xs (or-l (f x x) (any (f x) xs) (r x))
-      (every-weaker (λ y. any (f y) xs) (λ y. f y x || any (f y) xs) (λ y t. or-r (f y x) (any (f y) xs) t) xs (every-any f r xs))
-
-  -- what balances at each element that passes balances in sum
-  pub sum-balance : (p : A → Bool) (f g u v : A → ℕ) → ((x : A) → T (p x) → f x + u x ≡ g x + v x) → (xs : List A) → T (every p xs)
-      → sum f xs + sum u xs ≡ sum g xs + sum v xs
-  unfolding sum
-  sum-balance p f g u v h [] t = refl
-  sum-balance p f g u v h (x ∷ xs) t = omega (arith, h x (every-head p x xs t), sum-balance p f g u v h xs (every-tail p x xs t))
-
-  pub sum-zero : (f : A → ℕ) (p : A → Bool) → ((x : A) → T (p x) → f x ≡ 0) → (xs : List A) → T (every p xs) → sum f xs ≡ 0
-  unfolding sum
-  sum-zero f p h [] t = refl
-  sum-zero f p h (x ∷ xs) t = omega (arith, h x (every-head p x xs t), sum-zero f p h xs (every-tail p x xs t))
-
-  pub count-sum : (p : A → Bool) (xs : List A) → count p xs ≡ sum (λ x. 1 if p x else 0) xs
-  unfolding count sum
-  count-sum p [] = refl
-  count-sum p (x ∷ xs) = ap (λ k. (1 if p x else 0) + k) (count-sum p xs)
-
   -- a number for the one element that has the number k, in a list rising by that number
   pub sum-once : (g : A → ℕ) (k r : ℕ) (xs : List A) → T (each-two (smaller g) xs) → T (any (λ x. eqb k (g x)) xs) → sum (λ x. r if eqb (g x) k else 0) xs ≡ r
   unfolding sum any
@@ -182,11 +131,11 @@ same-equal (x ∷ xs) [] t = absurd t
 same-equal (x ∷ xs) (y ∷ ys) t =
     ap₂ (λ h r. h ∷ r) (eqb→eq x y (and-l (eqb x y) (same xs ys) t)) (same-equal xs ys (and-r (eqb x y) (same xs ys) t))
 
-pub below-irreflexive : (xs : List ℕ) → ¬ T (below xs xs)
+pub below-itself : (xs : List ℕ) → ¬ T (below xs xs)
 unfolding below
-below-irreflexive [] t = t
-below-irreflexive (x ∷ xs) t =
-    or-cases (ltb x x) (eqb x x && below xs xs) t (λ l. omega (arith, ltb→lt x x l)) (λ r. below-irreflexive xs (and-r (eqb x x) (below xs xs) r))
+below-itself [] t = t
+below-itself (x ∷ xs) t =
+    or-cases (ltb x x) (eqb x x && below xs xs) t (λ l. omega (arith, ltb→lt x x l)) (λ r. below-itself xs (and-r (eqb x x) (below xs xs) r))
 
 -- from the heads: below where the first is smaller, or where they are equal and the rests are below
 pub below-smaller : (x y : ℕ) (xs ys : List ℕ) → x < y → T (below (x ∷ xs) (y ∷ ys))

@@ -1,3 +1,4 @@
 pub mod Gaps
 pub mod RelationLaws
 pub mod RowLaws
+pub mod NetworkLaws

@@ -1,22 +1,22 @@
 -- Rows in use, gone through from an index on: the first that passes a test, whether each passes, and whether each is in range with a number above the one
 -- before it. A loop's turn looks at one row; what is asked of the rest is asked of the rows from the next index on. Assumes nothing.
-use Prim.Native.Nat.{ℕ, zero, suc, _+_, _<_, _≤_, min}
+use Prim.Native.Nat.{ℕ, _+_, _<_, _≤_, min}
 use mathlib.Core.Path.{_≡_, refl, sym, _∙_, ap}
 use mathlib.Core.Bool.{Bool, true, false, false≢true, _&&_, _||_}
 use mathlib.Core.List.{List, [], _∷_, map}
 use mathlib.Core.Option.{Option, none, some}
 use native.Mathlib.Omega.{arith}
-use lib.Dec.{T, ltb, leb, eqb}
+use lib.Dec.{ltb, leb, eqb, ltb→lt, lt→ltb}
 use lib.ListN.{length, getD, take, drop, drop-of-length-le, length-take}
 use lib.Seq.{getD-take, take-all}
-use borrow.Author.Tests.{lt-ltb, le-ltb, ltb-true, leb-true, leb-false, eqb-true, eqb-false, eq-eqb, ne-eqb}
+use borrow.Author.Tests.{lt-ltb, le-ltb, ltb-true, leb-true, leb-false}
 use Rattle.base.specs.Choice.{if_then_else_}
 use Rattle.base.specs.Lists.{any, every, first, is, each-two, rising}
 use Rattle.base.proofs.Lengths.{drop-next}
-use Rattle.base.proofs.Tests.{by-value}
+use Rattle.base.proofs.Tests.{T-true, true-T, eqb-turned, every-weaker}
 use Rattle.railway.specs.Types.{Station, StationRow, LineRow, Network, StationFound, LineFound}
 use Rattle.railway.specs.Ranges.{same-station}
-use Rattle.railway.specs.Networks.{station-rows, stations-of, listed, station-row, line-row, station-found, line-found}
+use Rattle.railway.specs.Networks.{station-rows, stations-of, listed, station-row, station-found, line-found}
 
 -- the rows in use, at most those that there are
 pub used-rows : {A : Type 0} (rows : List A) (c k n : ℕ) → length rows ≡ k → n ≡ min c k → take c rows ≡ take n rows
@@ -93,13 +93,8 @@ module _ {A : Type 0} (rows : List A) (n : ℕ) (fits : n ≤ length rows) (i : 
 
 -- above x, and so above whatever is below x
 every-above : (m x : ℕ) (ys : List ℕ) → m < x → every (ltb x) ys ≡ true → every (ltb m) ys ≡ true
-unfolding every
-every-above m x [] h e = refl
-every-above m x (y ∷ ys) h e = go (ltb x y) refl e (every-above m x ys h)
-  where
-    go : (b : Bool) → ltb x y ≡ b → (b && every (ltb x) ys) ≡ true → (every (ltb x) ys ≡ true → every (ltb m) ys ≡ true) → (ltb m y && every (ltb m) ys) ≡ true
-    go true p q ih = rw (lt-ltb m y (omega (arith, ltb-true x y p))) (ih q)
-    go false p q ih = absurd (false≢true q)
+every-above m x ys h e =
+    T-true (every (ltb m) ys) (every-weaker (ltb x) (ltb m) (λ y t. lt→ltb m y (omega (arith, ltb→lt x y t))) ys (true-T (every (ltb x) ys) e))
 
 module _ {A : Type 0} (ok : A → Bool) (f : A → ℕ) where
   chained-rises : (m : ℕ) (xs : List A) → chained ok f m xs ≡ (every ok xs && (every (ltb m) (map f xs) && rising (map f xs)))
@@ -159,9 +154,6 @@ line-some (some x) r e = cc
 pub line-none : (o : Option LineRow) → line-found o ≡ LineFound.Nothing → o ≡ none
 line-none none e = refl
 line-none (some x) e = let z : _≡_ {A = ℕ} 0 1 = cc in absurd (omega arith)
-
-eqb-turned : (a b : ℕ) → eqb a b ≡ eqb b a
-eqb-turned a b = by-value (eqb a b) (λ e. e ∙ sym (eq-eqb b a (sym (eqb-true a b e)))) (λ e. e ∙ sym (ne-eqb b a (λ q. eqb-false a b e (sym q))))
 
 -- a station is listed where its row is found
 pub listed-found : (n : Network) (s : Station) → listed n s ≡ is (λ r. true) (station-row n s)

@@ -4,31 +4,33 @@
 use Prim.Native.Nat.{ℕ, suc, _+_}
 use mathlib.Core.Path.{_≡_, refl, sym, _∙_, ap}
 use mathlib.Core.Bool.{Bool, true, false, not, _&&_, _||_}
-use mathlib.Core.List.{List, [], _∷_, map}
+use mathlib.Core.List.{List, [], _∷_}
 use native.Mathlib.Omega.{arith}
-use lib.Dec.{T, ltb, eqb, eqb-refl, eqb→eq}
+use lib.Dec.{T, ltb, eqb, eqb→eq}
 use lib.ListN.{length}
 use borrow.Author.Tests.{eqb-true, ltb-false}
 use Rattle.base.specs.Choice.{if_then_else_, _if_else_}
-use Rattle.base.specs.Lists.{every, each-two, sum, rising}
+use Rattle.base.specs.Lists.{each-two, sum}
 use Rattle.base.specs.Runs.{run, answers}
-use Rattle.base.proofs.Tests.{T-true, true-T, if-yes, and-l}
-use Rattle.base.proofs.Sorted.{parts, smaller, rising-map, two-map, every-any, sum-balance, sum-zero, count-sum, sum-once}
+use Rattle.base.proofs.Tests.{T-true, true-T, if-yes, and-l, parts, passed, rest-passed, held}
+use Rattle.base.proofs.Counts.{sum-balance, sum-zero, count-sum}
+use Rattle.base.proofs.Sorted.{smaller, sum-once}
 use Rattle.railway.specs.declared.sorts.Train.{Train}
-use Rattle.railway.specs.declared.network.StationRow.{StationRow}
 use Rattle.railway.specs.declared.edit.Edit.the-variants.{Place, Prepend, Append, DeleteFirst, DeleteLast, Amend}
 use Rattle.railway.specs.declared.edit.Edit.the-variants.{ReportArrival, ReportDeparture, AddRelation, RemoveRelation, DeleteTrain}
 use Rattle.railway.specs.Ranges.{same-station}
 use Rattle.railway.specs.Edits.{edit-ok}
-use Rattle.railway.specs.Networks.{station-rows, stations-of, stations-in-range, network-in-range, network-refusal, listed}
+use Rattle.railway.specs.Networks.{stations-of, listed}
+use Rattle.railway.proofs.NetworkLaws.{station-number, network-facts, stations-listed}
 use Rattle.timetable.specs.Tables.{Table, has-visit, add-relation, drop-relation, without}
 use Rattle.timetable.specs.Machine.{Timetable, put, Action, Meaning, local, throughout, as-it-was, meaning, known, refused-as, refusal, changed, removed-by, added-by, answer, after}
 use Rattle.timetable.specs.Good.{Whole}
 use Rattle.timetable.specs.Count.{zero-tally, overfull, unlikely, raise-refusal, raised, raise, raise-all, counts-in-full, visit-count}
+use Rattle.timetable.proofs.Locality.{same-station-equal}
 use Rattle.timetable.proofs.TableLaws.{number, table-facts, add-visit-length, change-visit-length, without-length}
 use Rattle.theory.specs.Types.{Station, Edit, Network, Answer, Tally}
-use Rattle.theory.specs.Statements.{GoodNetwork, TallyBalances}
-use Rattle.theory.proofs.Kept.{same-station-equal, passed, rest-passed, held, after-whole}
+use Rattle.theory.specs.Statements.{TallyBalances}
+use Rattle.theory.proofs.Kept.{after-whole}
 
 abbrev size : Table → ℕ
 size tab = length (tab .visits)
@@ -90,27 +92,9 @@ balances-each (DeleteTrain c) = tt
 
 -- the stations
 
-abbrev pub station-number : Station → ℕ
-station-number s = s .0
-
 -- r at the station k, 0 elsewhere
 abbrev at-only : Station → ℕ → Station → ℕ
 at-only k r s = r if same-station s k else 0
-
--- a good network lists its stations rising, so none twice
-pub stations-rise : (n : Network) → GoodNetwork n → T (each-two (smaller station-number) (stations-of n))
-unfolding network-refusal network-in-range stations-in-range stations-of
-stations-rise n g =
-    let whole : T (network-in-range n) = held 2 (network-in-range n) _ g in
-    let up : T (rising (map number-of (station-rows n))) = search parts in
-    rw (two-map (smaller station-number) (λ r. r .station) (station-rows n)) (rw (rising-map number-of (station-rows n)) at up)
-  where
-    number-of : StationRow → ℕ
-    number-of r = r .station .0
-
-pub stations-listed : (n : Network) → T (every (listed n) (stations-of n))
-unfolding listed
-stations-listed n = every-any same-station (λ s. eqb-refl (s .0)) (stations-of n)
 
 -- one edit over all stations
 
@@ -225,4 +209,4 @@ list-balances n rise (e ∷ es) m y w t =
 
 pub balances : TallyBalances
 unfolding zero-tally
-balances n g m w es = record { balance = λ t. omega (arith, list-balances n (stations-rise n g) es m zero-tally w t) }
+balances n g m w es = record { balance = λ t. omega (arith, list-balances n (network-facts n g .stations-rise) es m zero-tally w t) }

@@ -14,7 +14,7 @@ use Rattle.timetable.specs.Tables.{empty}
 use Rattle.timetable.specs.Machine.{Timetable, answer, after}
 use Rattle.timetable.specs.Groups.{Grouping, names, names-group, in-group, Divided, divide, merge, gather, divided-answer, divided-after}
 use Rattle.timetable.specs.Good.{Whole, GoodDivision}
-use Rattle.timetable.proofs.Locality.{same-station→eq, same-answer, same-change, others-kept, names-listed}
+use Rattle.timetable.proofs.Locality.{same-station-equal, same-answer, same-change, others-kept, names-listed}
 use Rattle.theory.specs.Types.{Station, Edit, Network}
 use Rattle.theory.specs.Reordering.{Meet}
 
@@ -25,7 +25,7 @@ pub group-named : (n : Network) (γ : Grouping) (e : Edit) (k : Station) → T (
 unfolding names-group listed
 group-named n γ e k r =
     any-weaker (same-station k) (λ s. eqb (γ k) (γ s) && names n e s)
-    (λ s t. rw (← same-station→eq k s t) (both (eqb (γ k) (γ k)) (names n e k) (eqb-refl (γ k)) r))
+    (λ s t. rw (← same-station-equal k s t) (both (eqb (γ k) (γ k)) (names n e k) (eqb-refl (γ k)) r))
     (stations-of n) (names-listed n e k r)
 
 -- and no other group is

@@ -13,8 +13,8 @@ use Rattle.base.specs.Lists.{count}
 use Rattle.base.specs.Runs.{run, answers}
 use Rattle.base.proofs.Tests.{by-test}
 use Rattle.theory.specs.Reordering.{times, place, at, along, Meet, Reordering}
-use Rattle.theory.proofs.Positions.{rest, times-rest, times-zero-suc, none-nil, place-rest, place-head, place-zero-suc, place-cons}
-use Rattle.theory.proofs.Positions.{at-both, along-rest, along-cons, along-zero, along-suc}
+use Rattle.theory.proofs.Positions.{rest, times-rest, times-zero-suc, place-rest, place-head, place-zero-suc, place-cons}
+use Rattle.theory.proofs.Positions.{at-both, along-nil, along-rest, along-cons, along-zero, along-suc}
 
 -- the first edit of a reordering
 
@@ -44,8 +44,8 @@ module _ {Edit : Type 0} (names : Edit → ℕ → Bool) where
     unfolding at
     rest-reordering ps R =
         record {
-          once = λ i h. times-rest i ps ∙ R .once (suc i) (omega arith);
-          nothing-else = λ i h. times-rest i ps ∙ R .nothing-else (suc i) (omega arith);
+          once = λ i h. omega (arith, times-rest i ps, R .once (suc i) (omega arith));
+          nothing-else = λ i h. omega (arith, times-rest i ps, R .nothing-else (suc i) (omega arith));
           in-order = λ i j x y p q h m. place-rest i j ps (R .in-order (suc i) (suc j) x y p q (omega arith) m);
         }
 
@@ -121,15 +121,15 @@ module _ {Edit Place Part Answer : Type 0} (touches : Edit → Place → Bool)
   pub same-answers : (es : List Edit) (ps : List ℕ) (st : Place → Part) → Reordering names es ps
       → answers step answer (along es ps) st ≡ along (answers step answer es st) ps
   unfolding answers along flatMap
-  same-answers [] ps st R = rw (none-nil ps (λ i. R .nothing-else i (omega arith)))
+  same-answers [] ps st R = rw (along-nil {A = Edit} ps, along-nil {A = Answer} ps)
   same-answers (e ∷ es) ps st R =
-      answers-first e es (answers step answer es (step e st)) (answers-length es (step e st)) ps st (R .once 0 (omega arith)) (reordering-free names e es ps R)
+      answers-first e es (answers step answer es (step e st)) (answers-length es (step e st)) ps st (omega (arith, R .once 0 (omega arith))) (reordering-free names e es ps R)
       (same-answers es (rest ps) (step e st) (rest-reordering names e es ps R))
 
   -- THEOREM. The reordered edits end in the same state
   pub same-state : (es : List Edit) (ps : List ℕ) (st : Place → Part) → Reordering names es ps → run step (along es ps) st ≡ run step es st
   unfolding run along flatMap
-  same-state [] ps st R = rw (none-nil ps (λ i. R .nothing-else i (omega arith)))
+  same-state [] ps st R = rw (along-nil {A = Edit} ps)
   same-state (e ∷ es) ps st R =
-      run-first e es ps st (R .once 0 (omega arith)) (reordering-free names e es ps R)
+      run-first e es ps st (omega (arith, R .once 0 (omega arith))) (reordering-free names e es ps R)
       ∙ same-state es (rest ps) (step e st) (rest-reordering names e es ps R)

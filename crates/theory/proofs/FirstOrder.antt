@@ -44,11 +44,11 @@ module _ {Edit : Type 0} (names : Edit → ℕ → Bool) where
     where
       once : (i : ℕ) → i < length (e ∷ es) → times i (0 ∷ map suc ps) ≡ 1
       once zero h = omega (arith, times-shift-zero ps)
-      once (suc i) h = times-suc-zero i (map suc ps) ∙ times-shift i ps ∙ R .once i (omega arith)
+      once (suc i) h = omega (arith, times-suc-zero i (map suc ps), times-shift i ps, R .once i (omega arith))
 
       none : (i : ℕ) → length (e ∷ es) ≤ i → times i (0 ∷ map suc ps) ≡ 0
       none zero h = absurd (omega arith)
-      none (suc i) h = times-suc-zero i (map suc ps) ∙ times-shift i ps ∙ R .nothing-else i (omega arith)
+      none (suc i) h = omega (arith, times-suc-zero i (map suc ps), times-shift i ps, R .nothing-else i (omega arith))
 
       order : (i j : ℕ) (x y : Edit) → at (e ∷ es) i ≡ x ∷ [] → at (e ∷ es) j ≡ y ∷ [] → i < j → Meet names x y
           → place i (0 ∷ map suc ps) < place j (0 ∷ map suc ps)

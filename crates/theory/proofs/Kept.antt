@@ -1,17 +1,15 @@
 -- An edit keeps a whole timetable whole: each edit's two new tables are good where the edit is in range, known and not refused, the other tables stay, and only
 -- listed stations get a new table. A refused edit changes nothing. Assumes nothing.
-use Prim.Native.Nat.{ℕ, suc}
-use mathlib.Core.Path.{_≡_, refl, ap}
+use Prim.Native.Nat.{ℕ}
+use mathlib.Core.Path.{_≡_, refl}
 use mathlib.Core.Bool.{Bool, true, false, not}
 use mathlib.Core.List.{List, [], _∷_}
-use native.Mathlib.Omega.{arith}
-use lib.Dec.{T, eqb, eqb→eq, T-not}
+use lib.Dec.{T, eqb, T-not}
 use borrow.Author.Tests.{eqb-true, ne-eqb}
 use Rattle.base.specs.Choice.{if_then_else_, _if_else_}
 use Rattle.base.specs.Lists.{every, is, each-two, rising}
 use Rattle.base.specs.Runs.{run}
-use Rattle.base.proofs.Tests.{true-T, both}
-use Rattle.base.proofs.Sorted.{parts}
+use Rattle.base.proofs.Tests.{true-T, both, parts, passed, rest-passed, held}
 use Rattle.railway.specs.declared.sorts.Line.{Line}
 use Rattle.railway.specs.declared.edit.Plan.{Plan}
 use Rattle.railway.specs.declared.edit.Extension.{Extension}
@@ -27,26 +25,11 @@ use Rattle.timetable.specs.Visits.{lacks-in, lacks-out, with-in, with-out, plan
 use Rattle.timetable.specs.Tables.{Table, empty, visit-of, has-visit, has-relation, without, full-visits, full-relations}
 use Rattle.timetable.specs.Machine.{Timetable, nothing-placed, put, Action, Meaning, local, throughout, as-it-was, meaning, known, refused-as, refusal, changed, after}
 use Rattle.timetable.specs.Good.{in-good, out-good, visits-good, relations-good, table-good, Whole}
+use Rattle.timetable.proofs.Locality.{same-station-equal}
 use Rattle.timetable.proofs.TableLaws.{GoodTable, GoodVisit, table-facts, table-fits, add-visit-good, change-visit-good, add-relation-good, drop-relation-good, without-good}
 use Rattle.timetable.proofs.TableLaws.{planned-good, amended-good, arrived-good, departed-good, from-good, onward-good, unlinked-in-good, unlinked-out-good}
 use Rattle.theory.specs.Types.{Station, Edit, Network}
 use Rattle.theory.specs.Statements.{WholeIsKept}
-
-pub same-station-equal : (k s : Station) → T (same-station k s) → k ≡ s
-same-station-equal k s t = ap (λ (x : ℕ). record { 0 = x }) (eqb→eq (k .0) (s .0) t)
-
--- a refusal that does not come: its first test fails, and the rest does not refuse
-pub passed : (k : ℕ) (b : Bool) (r : ℕ) → (suc k if b else r) ≡ 0 → b ≡ false
-passed k true r e = absurd (omega arith)
-passed k false r e = refl
-
-pub rest-passed : (k : ℕ) (b : Bool) (r : ℕ) → (suc k if b else r) ≡ 0 → r ≡ 0
-rest-passed k true r e = absurd (omega arith)
-rest-passed k false r e = e
-
-pub held : (k : ℕ) (b : Bool) (r : ℕ) → (suc k if not b else r) ≡ 0 → T b
-held k true r e = tt
-held k false r e = absurd (omega arith)
 
 -- what an edit in range carries
 

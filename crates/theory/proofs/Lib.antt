@@ -9,3 +9,4 @@ pub mod Reach
 pub mod Shared
 pub mod Kept
 pub mod Balance
+pub mod Demand

@@ -2,9 +2,9 @@
 -- common group name no common station), edits on a division are the edits on the whole, divisions round-trip (Divided), and a good network's areas are a grouping,
 -- since each of its rows has an area of 1..6. Assumes nothing.
 use mathlib.Core.Path.{_≡_, refl, sym}
-use mathlib.Core.Bool.{Bool, true, false, not, _&&_, _||_}
+use mathlib.Core.Bool.{Bool, true, false, _&&_, _||_}
 use mathlib.Core.List.{List, [], _∷_, map}
-use mathlib.Core.Option.{none, some}
+use mathlib.Core.Option.{some}
 use Prim.Native.Nat.{ℕ, zero, suc}
 use native.Mathlib.Omega.{arith}
 use lib.Dec.{T, eqb, ltb, leb, leb→le}
@@ -13,14 +13,14 @@ use Rattle.base.specs.Choice.{if_then_else_, _if_else_}
 use Rattle.base.specs.Lists.{any, every, count, first, within}
 use Rattle.base.proofs.Tests.{and-l, and-r, eqb-turned}
 use Rattle.railway.specs.Ranges.{same-station, area-ok, station-ok}
-use Rattle.railway.specs.Networks.{station-rows, line-rows, stations-of, station-row-ok, stations-in-range, network-in-range, ends-listed, network-refusal}
-use Rattle.railway.specs.Networks.{listed, station-row, area-of}
+use Rattle.railway.specs.Networks.{station-rows, stations-of, station-row-ok, listed, station-row, row-area, area-of}
+use Rattle.railway.proofs.NetworkLaws.{network-facts}
 use Rattle.railway.specs.declared.network.StationRow.{StationRow}
 use Rattle.timetable.specs.Machine.{answer, after}
 use Rattle.timetable.specs.Groups.{names, names-group}
 use Rattle.timetable.proofs.Locality.{same-answer, same-change, others-kept, names-none}
 use Rattle.theory.specs.Types.{Station, Network}
-use Rattle.theory.specs.Statements.{GoodNetwork, six, EveryEditIsLocal, AnyOrderIsTheFirst, DividedIsWhole, DivisionsRoundTrip, AreasGroup}
+use Rattle.theory.specs.Statements.{six, EveryEditIsLocal, AnyOrderIsTheFirst, DividedIsWhole, DivisionsRoundTrip, AreasGroup}
 use Rattle.theory.proofs.Exchange.{LocalStep, same-answers, same-state}
 use Rattle.theory.proofs.Divided.{groups-apart, run-divided, answers-divided, merged-back, divided-back, divided-good, merged-whole}
 
@@ -57,24 +57,20 @@ round-trip n γ gs G = record {
 
 -- the areas
 
--- the area of the first row with the station, 0 where there is none
-abbrev row-area : List StationRow → Station → ℕ
-row-area rows k = elim (first (λ r. same-station (r .station) k) rows) [ none ↦ 0 | some r ↦ r .area .0 ]
-
 -- a station with a row has an area of 1..6, another has 0
 abbrev Placed : Bool → ℕ → Type 0
 Placed true x = T (within 1 6 x)
 Placed false x = x ≡ 0
 
-row-placed : (k : Station) (rows : List StationRow) → T (every station-row-ok rows) → Placed (any (same-station k) (map (λ r. r .station) rows)) (row-area rows k)
+row-placed : (k : Station) (rows : List StationRow) → T (every station-row-ok rows) → Placed (any (same-station k) (map (λ r. r .station) rows)) (row-area (first (λ q. same-station (q .station) k) rows))
 unfolding every any first station-row-ok
 row-placed k [] ok = refl
 row-placed k (r ∷ rows) ok =
     rw (eqb-turned (k .0) (r .station .0)) (go (same-station (r .station) k) (row-placed k rows (and-r (station-row-ok r) (every station-row-ok rows) ok)))
   where
-    go : (b : Bool) → Placed (any (same-station k) (map (λ q. q .station) rows)) (row-area rows k)
+    go : (b : Bool) → Placed (any (same-station k) (map (λ q. q .station) rows)) (row-area (first (λ q. same-station (q .station) k) rows))
         → Placed (b || any (same-station k) (map (λ q. q .station) rows))
-        (elim (if b then some r else first (λ q. same-station (q .station) k) rows) [ none ↦ 0 | some q ↦ q .area .0 ])
+        (row-area (if b then some r else first (λ q. same-station (q .station) k) rows))
     go true later =
         and-l (area-ok (r .area)) (within 1 8 (r .tracks))
         (and-r (station-ok (r .station)) (area-ok (r .area) && within 1 8 (r .tracks)) (and-l (station-row-ok r) (every station-row-ok rows) ok))
@@ -101,22 +97,11 @@ one-of-six (suc (suc (suc (suc (suc (suc (suc x))))))) t =
     let y = suc (suc (suc (suc (suc (suc (suc x)))))) in
     absurd (omega (arith, leb→le y 6 (and-r (leb 1 y) (leb y 6) t)))
 
--- a network that 3 and 4 do not refuse is in range
-not-refused : (b c : Bool) → (3 if not b else 4 if c else 0) ≡ 0 → T b
-not-refused true c h = tt
-not-refused false c h = absurd (omega arith)
-
-rows-ok : (n : Network) → GoodNetwork n → T (every station-row-ok (station-rows n))
-unfolding network-refusal network-in-range stations-in-range
-rows-ok n h =
-    let good = not-refused (network-in-range n) (not (every (ends-listed n) (line-rows n))) h in
-    search (and-l, and-r)
-
 pub areas-group : AreasGroup
 unfolding listed stations-of station-row area-of
 areas-group n h =
-    let placed : (k : Station) → Placed (listed n k) (area-of n k) = λ k. row-placed k (station-rows n) (rows-ok n h) in
+    let placed : (k : Station) → Placed (listed n k) (area-of n k) = λ k. row-placed k (station-rows n) (network-facts n h .station-rows-ok) in
     record {
-      in-one = λ k t. one-of-six (area-of n k) (placed-within (listed n k) (area-of n k) (placed k) t);
+      in-one = λ k t. omega (arith, one-of-six (area-of n k) (placed-within (listed n k) (area-of n k) (placed k) t));
       in-none = λ k. placed-test (listed n k) (area-of n k) (placed k);
     }

@@ -2,26 +2,26 @@
 -- stations of every finding are listed: the station is one of the network's, and a good link leads to a listed one. Assumes nothing.
 use Prim.Native.Nat.{ℕ, _+_, _≤_}
 use mathlib.Core.Bool.{Bool, true, false, not, _&&_}
-use mathlib.Core.List.{List, [], _∷_, map, flatMap}
+use mathlib.Core.List.{List, [], _∷_, flatMap}
 use native.Mathlib.Omega.{arith}
-use lib.Dec.{T, leb, eqb-refl}
-use lib.ListN.{length}
-use Rattle.base.specs.Lists.{every, rising}
-use Rattle.base.proofs.Tests.{and-l, and-r, both}
-use Rattle.base.proofs.Counts.{every-head, every-tail, every-append, every-all, every-true, every-each, every-flatMap, every-weaker, every-of}
+use lib.Dec.{T}
+use Rattle.base.specs.Lists.{every}
+use Rattle.base.proofs.Tests.{and-l, and-r, both, parts}
+use Rattle.base.proofs.Tests.{every-head, every-tail, every-append, every-all, every-true, every-each, every-flatMap, every-weaker}
 use Rattle.railway.specs.declared.visit.Inward.{Inward}
 use Rattle.railway.specs.declared.visit.Outward.{Outward}
 use Rattle.railway.specs.declared.visit.Visit.{Visit}
 use Rattle.railway.specs.declared.relation.Relation.{Relation}
-use Rattle.railway.specs.Ranges.{station-ok, train-ok, line-ok, run-ok, same-station}
-use Rattle.railway.specs.Networks.{stations-of, listed, runs}
+use Rattle.railway.specs.Networks.{stations-of, listed}
+use Rattle.railway.proofs.NetworkLaws.{stations-listed}
 use Rattle.timetable.specs.Visits.{ins, outs}
 use Rattle.timetable.specs.Tables.{Entry, Table}
 use Rattle.timetable.specs.Machine.{Timetable}
-use Rattle.timetable.specs.Good.{in-good, out-good, links-good, values-good, visit-good, entry-good, visits-good, relations-good, table-good, Whole}
+use Rattle.timetable.specs.Good.{in-good, out-good, entry-good, table-good, Whole}
 use Rattle.timetable.specs.Rules.{met}
 use Rattle.timetable.specs.Findings.{Spanning, finding, one, by-one, by-two, unmet, own, by-out, by-in, rule-7, rule-8, rule-9, rule-10, across, spanning}
 use Rattle.timetable.proofs.Partition.{spans}
+use Rattle.timetable.proofs.TableLaws.{GoodVisit, visit-facts, table-facts}
 use Rattle.theory.specs.Types.{Station, Network}
 
 -- a finding at s with the far station p
@@ -143,39 +143,23 @@ anywhere es =
 
 in-listed : (n : Network) (s : Station) (i : Inward) → T (in-good n s i) → T (listed n (i .station))
 unfolding in-good
-in-listed n s i t =
-    and-l (listed n (i .station)) (runs n (i .line) (i .station) s)
-    (and-r (station-ok (i .station) && line-ok (i .line)) (listed n (i .station) && runs n (i .line) (i .station) s) t)
+in-listed n s i t = search parts
 
 out-listed : (n : Network) (s : Station) (o : Outward) → T (out-good n s o) → T (listed n (o .station))
 unfolding out-good
-out-listed n s o t =
-    and-l (listed n (o .station)) (runs n (o .line) s (o .station))
-    (and-r (station-ok (o .station) && (line-ok (o .line) && run-ok (o .run))) (listed n (o .station) && runs n (o .line) s (o .station)) t)
+out-listed n s o t = search parts
 
 -- the links of a good visit lead to listed stations
 entry-leads : (n : Network) (s : Station) (e : Entry) → T (entry-good n s e) → T (leads (listed n) e)
-unfolding leads entry-good visit-good links-good
+unfolding leads entry-good
 entry-leads n s e t =
-    let visit : T (visit-good n s (e .visit)) = and-r (train-ok (e .train)) (visit-good n s (e .visit)) t in
-    let links : T (links-good n s (e .visit)) = and-r (values-good n s (e .visit)) (links-good n s (e .visit)) visit in
-    let comes : T (every (in-good n s) (ins (e .visit))) = and-l (every (in-good n s) (ins (e .visit))) (every (out-good n s) (outs (e .visit))) links in
-    let goes : T (every (out-good n s) (outs (e .visit))) = and-r (every (in-good n s) (ins (e .visit))) (every (out-good n s) (outs (e .visit))) links in
+    let good : GoodVisit n s (e .visit) = visit-facts n s (e .visit) (search parts) in
     both (leads-in (listed n) e) (leads-out (listed n) e)
-    (every-weaker (in-good n s) (λ i. listed n (i .station)) (in-listed n s) (ins (e .visit)) comes)
-    (every-weaker (out-good n s) (λ o. listed n (o .station)) (out-listed n s) (outs (e .visit)) goes)
+    (every-weaker (in-good n s) (λ i. listed n (i .station)) (in-listed n s) (ins (e .visit)) (good .inward))
+    (every-weaker (out-good n s) (λ o. listed n (o .station)) (out-listed n s) (outs (e .visit)) (good .outward))
 
 table-leads : (n : Network) (s : Station) (tab : Table) → T (table-good n s tab) → T (every (leads (listed n)) (tab .visits))
-unfolding table-good visits-good
-table-leads n s tab t =
-    let visits : T (visits-good n s (tab .visits)) = and-l (visits-good n s (tab .visits)) (relations-good (tab .relations)) t in
-    let fits : Bool = leb (length (tab .visits)) 24 && rising (map (λ e. e .train .0) (tab .visits)) in
-    every-weaker (entry-good n s) (leads (listed n)) (entry-leads n s) (tab .visits) (and-r fits (every (entry-good n s) (tab .visits)) visits)
-
--- every station of the network is listed
-all-listed : (n : Network) → T (every (listed n) (stations-of n))
-unfolding listed
-all-listed n = every-of (listed n) same-station (λ k. eqb-refl (k .0)) (stations-of n) (λ k t. t)
+table-leads n s tab t = every-weaker (entry-good n s) (leads (listed n)) (entry-leads n s) (tab .visits) (table-facts n s tab t .visits .each)
 
 pub placed : (n : Network) (m : Timetable) → Whole n m → T (every (spans (listed n)) (spanning n m))
 unfolding spanning
@@ -185,4 +169,4 @@ placed n m w =
     every-append (spans (listed n)) (own n s (m s)) (across n m s (m s))
     (every-own (spans (listed n)) n s (λ rule a c. both (listed n s) (listed n s) t t) (m s))
     (every-across (spans (listed n)) (listed n) n m s (λ p u rule a c. both (listed n s) (listed n p) t u) (m s) (table-leads n s (m s) (w .good s t))))
-    (stations-of n) (all-listed n)
+    (stations-of n) (stations-listed n)

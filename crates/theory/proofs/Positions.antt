@@ -27,19 +27,9 @@ times-rest i [] = refl
 times-rest i (zero ∷ ps) = rw (eqb·suc-zero, times-rest i ps) (omega arith)
 times-rest i (suc p ∷ ps) = rw (eqb·suc-suc, times-rest i ps)
 
--- a number stands in a list that begins with it
-pub times-head : (i : ℕ) (ps : List ℕ) → ¬ (times i (i ∷ ps) ≡ 0)
-unfolding count
-times-head i ps h = omega (arith, rw (eq-eqb i i refl) at h)
-
 pub times-zero-suc : (p : ℕ) (ps : List ℕ) → times 0 (suc p ∷ ps) ≡ times 0 ps
 unfolding count
 times-zero-suc p ps = rw eqb·zero-suc (omega arith)
-
--- a list in which no number stands is empty
-pub none-nil : (ps : List ℕ) → ((i : ℕ) → times i ps ≡ 0) → ps ≡ []
-none-nil [] h = refl
-none-nil (p ∷ ps) h = absurd (times-head p ps (h p))
 
 -- where
 
@@ -101,6 +91,13 @@ unfolding count rest along at flatMap
 along-rest x l [] h = refl
 along-rest x l (zero ∷ ps) h = absurd (omega arith)
 along-rest x l (suc p ∷ ps) h = ap (λ (k : List _). take 1 (drop p l) ++ k) (along-rest x l ps (sym (times-zero-suc p ps) ∙ h))
+
+-- an empty list has nothing at any position
+pub along-nil : {A : Type 0} (ps : List ℕ) → along {A = A} [] ps ≡ []
+unfolding along at flatMap
+along-nil [] = refl
+along-nil (zero ∷ ps) = along-nil ps
+along-nil (suc p ∷ ps) = along-nil ps
 
 -- reading one position after another
 pub along-cons : {A : Type 0} (l : List A) (p : ℕ) (ps : List ℕ) → along l (p ∷ ps) ≡ at l p ++ along l ps

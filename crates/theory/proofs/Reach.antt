@@ -7,8 +7,8 @@ use mathlib.Core.List.{List, [], _++_, map}
 use lib.Dec.{T, eqb, ltb, eqb-refl, eqb→eq, not-T}
 use Rattle.base.specs.Choice.{if_then_else_}
 use Rattle.base.specs.Lists.{every, keep}
-use Rattle.base.proofs.Tests.{and-l, and-r, or-l, or-r, or-cases, by-test, by-value, if-yes}
-use Rattle.base.proofs.Counts.{keep-two, keep-flatMap, keep-none, every-append}
+use Rattle.base.proofs.Tests.{and-l, and-r, or-l, or-r, or-cases, by-test, by-value, if-yes, every-append}
+use Rattle.base.proofs.Counts.{keep-two, keep-flatMap, keep-none}
 use Rattle.railway.specs.declared.visit.Inward.{Inward}
 use Rattle.railway.specs.declared.visit.Outward.{Outward}
 use Rattle.railway.specs.Networks.{stations-of}
@@ -138,8 +138,7 @@ gathered γ p m g k t u =
 pub pair-part : (n : Network) (γ : Grouping) (m : Timetable) (gh : ℕ × ℕ) → pair-list n γ (divide γ m) gh ≡ pair-findings n γ m (gh .0) (gh .1)
 unfolding pair-list
 pair-part n γ m gh =
-    let two : ℕ → Bool = λ x. eqb x (gh .0) || eqb x (gh .1) in
-    pair-local n γ (gh .0) (gh .1) (gather γ two (divide γ m)) m
+    pair-local n γ (gh .0) (gh .1) _ m
     (λ k t. or-cases (in-group γ (gh .0) k) (in-group γ (gh .1) k) t
-    (gathered γ two m (gh .0) k (or-l (eqb (gh .0) (gh .0)) (eqb (gh .0) (gh .1)) (eqb-refl (gh .0))))
-    (gathered γ two m (gh .1) k (or-r (eqb (gh .1) (gh .0)) (eqb (gh .1) (gh .1)) (eqb-refl (gh .1)))))
+    (gathered γ _ m (gh .0) k (search (or-l, or-r, eqb-refl)))
+    (gathered γ _ m (gh .1) k (search (or-l, or-r, eqb-refl))))

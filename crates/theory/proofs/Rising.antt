@@ -2,31 +2,31 @@
 -- all elements of a piece have, and each piece rises by the numbers behind it: so for station, rule, first and second in turn, since stations, trains and
 -- ranks rise. Assumes nothing.
 use Prim.Native.Nat.{ℕ, suc, _+_, _≤_}
-use mathlib.Core.Path.{_≡_}
 use mathlib.Core.Bool.{Bool, true, false, not, _&&_, _||_}
-use mathlib.Core.List.{List, [], _∷_, _++_, map, flatMap, append-nil}
+use mathlib.Core.List.{List, [], _∷_, _++_, flatMap, append-nil}
 use native.Mathlib.Omega.{arith}
 use lib.Dec.{T, ltb, leb, eqb, eqb-refl, eqb→eq, ltb→lt, leb→le, lt→ltb, le→leb, lit≤}
 use lib.ListN.{length}
-use Rattle.base.specs.Lists.{within, every, each-two, rising, below}
-use Rattle.base.proofs.Tests.{and-l, and-r, both, or-l, or-r, by-value, true-T}
-use Rattle.base.proofs.Counts.{every-append, every-true, every-each, every-flatMap, every-weaker, every-both}
-use Rattle.base.proofs.Counts.{each-two-head, each-two-tail, each-two-map, each-two-append, each-two-weaker}
+use Rattle.base.specs.Lists.{every, each-two, below}
+use Rattle.base.proofs.Tests.{and-l, and-r, both, or-l, or-r, by-value}
+use Rattle.base.proofs.Tests.{every-append, every-true, every-each, every-flatMap, every-weaker, every-both}
+use Rattle.base.proofs.Sorted.{two-head, two-tail, two-map, two-append, two-weaker}
 use Rattle.railway.specs.declared.visit.Inward.{Inward}
 use Rattle.railway.specs.declared.visit.Outward.{Outward}
 use Rattle.railway.specs.declared.visit.InLink.{InLink}
 use Rattle.railway.specs.declared.visit.OutLink.{OutLink}
 use Rattle.railway.specs.declared.visit.Visit.{Visit}
 use Rattle.railway.specs.declared.relation.Relation.{Relation}
-use Rattle.railway.specs.declared.network.StationRow.{StationRow}
-use Rattle.railway.specs.Networks.{station-rows, stations-of, station-row-ok, stations-in-range, lines-in-range, network-in-range, listed, network-refusal}
+use Rattle.railway.specs.Networks.{stations-of, listed}
+use Rattle.railway.proofs.NetworkLaws.{network-facts}
 use Rattle.timetable.specs.Visits.{ins, outs}
 use Rattle.timetable.specs.Tables.{Entry, Table, empty}
 use Rattle.timetable.specs.Machine.{Timetable}
-use Rattle.timetable.specs.Good.{entry-good, visits-good, relations-good, table-good, Whole}
+use Rattle.timetable.specs.Good.{Whole}
 use Rattle.timetable.specs.Rules.{met}
 use Rattle.timetable.specs.Findings.{Spanning, finding, one, by-one, by-two, unmet, own, by-out, by-in, rule-7, rule-8, rule-9, rule-10}
 use Rattle.timetable.specs.Findings.{across, spanning, findings}
+use Rattle.timetable.proofs.TableLaws.{table-facts}
 use Rattle.theory.specs.Types.{Station, Network, Finding}
 use Rattle.theory.specs.Statements.{GoodNetwork, numbers}
 use Rattle.theory.proofs.Placed.{spot, anywhere, every-one, every-ones, every-by-one, every-by-two, every-unmet, every-own}
@@ -49,7 +49,7 @@ module _ {A : Type 0} (κ : A → ℕ) (r : A → A → Bool) where
   level : (j : ℕ) (xs : List A) → T (every (has κ j) xs) → T (each-two r xs) → T (each-two (then-by κ r) xs)
   unfolding then-by
   level j xs =
-      each-two-weaker r (then-by κ r) (has κ j)
+      two-weaker r (then-by κ r) (has κ j)
       (λ x y t u v. or-r (ltb (κ x) (κ y)) (eqb (κ x) (κ y) && r x y)
       (both (eqb (κ x) (κ y)) (r x y) (rw (eqb→eq (κ x) j t, eqb→eq (κ y) j u) (eqb-refl j)) v)) xs
 
@@ -58,7 +58,7 @@ module _ {A : Type 0} (κ : A → ℕ) (r : A → A → Bool) where
       → T (each-two (then-by κ r) xs) → T (each-two (then-by κ r) ys) → T (each-two (then-by κ r) (xs ++ ys))
   unfolding then-by
   join j xs ys t u v w =
-      each-two-append (then-by κ r) (λ x. ltb (κ x) j) (λ y. leb j (κ y))
+      two-append (then-by κ r) (λ x. ltb (κ x) j) (λ y. leb j (κ y))
       (λ x y a b. or-l (ltb (κ x) (κ y)) (eqb (κ x) (κ y) && r x y) (lt→ltb (κ x) (κ y) (omega (arith, ltb→lt (κ x) j a, leb→le j (κ y) b)))) xs ys v w t u
 
   all-below : (j : ℕ) (xs : List A) → T (every (has κ j) xs) → T (every (λ x. ltb (κ x) (suc j)) xs)
@@ -75,9 +75,9 @@ module _ {A : Type 0} (κ : A → ℕ) (r : A → A → Bool) where
   flat key f same rises (b ∷ bs) t =
       join (suc (key b)) (f b) (flatMap f bs) (all-below (key b) (f b) (same b))
       (every-flatMap (λ x. leb (suc (key b)) (κ x)) f (λ c. ltb (key b) (key c))
-      (λ c u. all-from (suc (key b)) (key c) (ltb→lt (key b) (key c) u) (f c) (same c)) bs (each-two-head (λ c d. ltb (key c) (key d)) b bs t))
+      (λ c u. all-from (suc (key b)) (key c) (ltb→lt (key b) (key c) u) (f c) (same c)) bs (two-head (λ c d. ltb (key c) (key d)) b bs t))
       (level (key b) (f b) (same b) (rises b))
-      (flat key f same rises bs (each-two-tail (λ c d. ltb (key c) (key d)) b bs t))
+      (flat key f same rises bs (two-tail (λ c d. ltb (key c) (key d)) b bs t))
 
 -- pieces by their ranges of numbers: all of xs have numbers from lo to below hi, and rise
 record Ranged {A : Type 0} (κ : A → ℕ) (r : A → A → Bool) (lo hi : ℕ) (xs : List A) : Type 0 where
@@ -164,13 +164,13 @@ by-two-rises : (k : ℕ) (f : Visit → Visit → Bool) (s : Station) (es : List
 unfolding by-two
 by-two-rises k f s [] h = none first by-second
 by-two-rises k f s (t ∷ us) h =
-    let rest : Trains-rise us = each-two-tail (λ u w. ltb (u .train .0) (w .train .0)) t us h in
+    let rest : Trains-rise us = two-tail (λ u w. ltb (u .train .0) (w .train .0)) t us h in
     let same : T (every (has first (t .train .0)) (flatMap (λ u. one (f (t .visit) (u .visit)) s (finding s k (t .train .0) (u .train .0))) us)) =
     every-ones (has first (t .train .0)) (λ u. f (t .visit) (u .visit)) s s k (λ u. t .train .0) (λ u. u .train .0) (λ u. eqb-refl (t .train .0)) us in
     join first by-second (suc (t .train .0)) _ (by-two k f s us)
     (all-below first by-second (t .train .0) _ same)
     (every-by-two (λ x. leb (suc (t .train .0)) (first x)) (λ u. ltb (t .train .0) (u .train .0)) k f s (λ u v c. v) us
-    (each-two-head (λ u w. ltb (u .train .0) (w .train .0)) t us h))
+    (two-head (λ u w. ltb (u .train .0) (w .train .0)) t us h))
     (level first by-second (t .train .0) _ same (seconds-rise (λ u. f (t .visit) (u .visit)) s s k (t .train .0) us rest))
     (by-two-rises k f s us rest)
 
@@ -267,38 +267,13 @@ module _ (n : Network) (s : Station) (here : Table) (h : Trains-rise (here .visi
 
 -- in a whole timetable the trains of every station rise
 
-good-rise : (n : Network) (k : Station) (tab : Table) → T (table-good n k tab) → Trains-rise (tab .visits)
-unfolding table-good visits-good rising
-good-rise n k tab t =
-    let trains : List ℕ = map (λ e. e .train .0) (tab .visits) in
-    let good : T (visits-good n k (tab .visits)) = and-l (visits-good n k (tab .visits)) (relations-good (tab .relations)) t in
-    let fits : Bool = leb (length (tab .visits)) 24 in
-    rw each-two-map at (and-r fits (each-two ltb trains) (and-l (fits && each-two ltb trains) (every (entry-good n k) (tab .visits)) good))
-
 empty-rise : Trains-rise (empty .visits)
 unfolding empty each-two
 empty-rise = tt
 
 trains-rise : (n : Network) (m : Timetable) → Whole n m → (k : Station) → Trains-rise (m k .visits)
 trains-rise n m w k =
-    by-value (listed n k) (λ e. good-rise n k (m k) (w .good k (rw e tt))) (λ e. rw (w .bare k (rw e tt)) empty-rise)
-
--- in a good network the stations rise
-
-pub in-range : (n : Network) → GoodNetwork n → network-in-range n ≡ true
-unfolding network-refusal
-in-range n good = by-value (network-in-range n) (λ e. e) (λ e. absurd (omega (arith, rw e at good)))
-
-stations-rise : (n : Network) → GoodNetwork n → T (each-two (λ a b. ltb (a .0) (b .0)) (stations-of n))
-unfolding stations-of network-in-range stations-in-range rising
-stations-rise n good =
-    let rows : List StationRow = station-rows n in
-    let range : T (network-in-range n) = true-T (network-in-range n) (in-range n good) in
-    let stations : T (stations-in-range n) = and-l (stations-in-range n) (within 1 30 (n .headway) && lines-in-range n) range in
-    let order : T (each-two ltb (map (λ r. r .station .0) rows)) =
-    and-r (every station-row-ok rows) (each-two ltb (map (λ r. r .station .0) rows))
-    (and-r (within 1 16 (n .stationcount)) (every station-row-ok rows && each-two ltb (map (λ r. r .station .0) rows)) stations) in
-    rw (each-two-map (λ a b. ltb (a .0) (b .0)) (λ r. r .station) (station-rows n)) (rw (each-two-map ltb (λ r. r .station .0) (station-rows n)) at order)
+    by-value (listed n k) (λ e. table-facts n k (m k) (w .good k (rw e tt)) .visits .order) (λ e. rw (w .bare k (rw e tt)) empty-rise)
 
 spanning-rises : (n : Network) → GoodNetwork n → (m : Timetable) → Whole n m → T (each-two by-station (spanning n m))
 unfolding spanning
@@ -311,10 +286,10 @@ spanning-rises n good m w =
     (λ s.
     ranged-append rule by-first 1 7 11 (lit≤ tt) (lit≤ tt) (own n s (m s)) (across n m s (m s))
     (own-ranged n s (m s) (trains-rise n m w s)) (across-ranged n s (m s) (trains-rise n m w s) m (trains-rise n m w)) .rises)
-    (stations-of n) (stations-rise n good)
+    (stations-of n) (network-facts n good .stations-rise)
 
 -- "listed rising", strictly
 pub findings-rise : (n : Network) → GoodNetwork n → (m : Timetable) → Whole n m → T (each-two (λ f g. below (numbers f) (numbers g)) (findings n m))
 unfolding findings then-by below
 findings-rise n good m w =
-    rw (each-two-map (λ f g. below (numbers f) (numbers g)) (λ x. x .found) (spanning n m)) (spanning-rises n good m w)
+    rw (two-map (λ f g. below (numbers f) (numbers g)) (λ x. x .found) (spanning n m)) (spanning-rises n good m w)

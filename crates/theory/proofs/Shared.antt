@@ -8,7 +8,8 @@ use mathlib.Core.List.{List}
 use native.Mathlib.Omega.{arith}
 use lib.Dec.{T, ltb→lt}
 use Rattle.base.specs.Lists.{count, below, same}
-use Rattle.base.proofs.Counts.{count-append, count-flatMap, any-count, count-any, each-two-once, same-equal, below-itself}
+use Rattle.base.proofs.Counts.{count-append, count-flatMap, any-count, count-any}
+use Rattle.base.proofs.Sorted.{two-once, same-equal, below-itself}
 use Rattle.railway.specs.Networks.{listed}
 use Rattle.timetable.specs.Machine.{Timetable}
 use Rattle.timetable.specs.Groups.{Grouping, divide}
@@ -27,7 +28,7 @@ pub counted-alike : (n : Network) (γ : Grouping) (gs : List ℕ) → Grouped n 
 unfolding all-lists findings group-findings pair-findings
 counted-alike n γ gs G m w q =
     rw (fun-ext (own-part n γ m), fun-ext (pair-part n γ m), count-append, count-flatMap, count-flatMap)
-    (partition γ gs (listed n) positive (G .in-one) q (spanning n m) (placed n m w))
+    (partition γ gs (listed n) positive (λ k t. omega (arith, G .in-one k t)) q (spanning n m) (placed n m w))
   where
     positive : (k : Station) → T (listed n k) → 0 < γ k
     positive k t = ltb→lt 0 (γ k) (rw (G .in-none k) at t)
@@ -49,7 +50,7 @@ findings-shared n good γ gs G m w = record {
         arith,
         counted-alike n γ gs G m w (is-like f),
         any-count (is-like f) (findings n m) t,
-        each-two-once (λ g h. below (numbers g) (numbers h)) (is-like f) (not-below f) (findings n m) (findings-rise n good m w),
+        two-once (λ g h. below (numbers g) (numbers h)) (is-like f) (not-below f) (findings n m) (findings-rise n good m w),
       );
   no-other = λ f t.
       count-any (is-like f) (findings n m)

@@ -2,13 +2,13 @@
 -- alone, so each fact is proved once for all meanings, by the tests that decide what an edit names: its values are in range (`edit-ok`), its network knows it
 -- (`known`), and the station is s or p. Assumes nothing.
 use Prim.Native.Nat.{ℕ, _+_}
-use mathlib.Core.Path.{_≡_, refl, _∙_, ap, ap₂}
+use mathlib.Core.Path.{_≡_, refl, sym, _∙_, ap, ap₂}
 use mathlib.Core.Bool.{Bool, true, false, not, _&&_, _||_}
 use mathlib.Core.List.{List, [], _∷_}
 use lib.Dec.{T, eqb, eqb-refl, eqb→eq}
 use Rattle.base.specs.Choice.{if_then_else_, _if_else_}
 use Rattle.base.specs.Lists.{any, count, is}
-use Rattle.base.proofs.Tests.{if-no, and-l, and-r, or-l, or-r, or-cases}
+use Rattle.base.proofs.Tests.{if-yes, if-no, and-l, and-r, or-l, or-r, or-cases}
 use Rattle.railway.specs.Ranges.{same-station}
 use Rattle.railway.specs.Edits.{edit-ok}
 use Rattle.railway.specs.Networks.{stations-of, listed}
@@ -20,8 +20,8 @@ use Rattle.timetable.specs.Tables.{Table, without, visit-of, has-visit, 
 use Rattle.timetable.specs.Machine.{Timetable, put, Action, Meaning, local, throughout, meaning, known, refused-as, refusal, changed, removed-by, answer, after}
 use Rattle.timetable.specs.Groups.{reaches, names}
 
-pub same-station→eq : (k s : Station) → T (same-station k s) → k ≡ s
-same-station→eq k s t = λ i. record { 0 = eqb→eq (k .0) (s .0) t i }
+pub same-station-equal : (k s : Station) → T (same-station k s) → k ≡ s
+same-station-equal k s t = λ i. record { 0 = eqb→eq (k .0) (s .0) t i }
 
 -- the station is s or p of the action
 abbrev at-ends : Action → Station → Bool
@@ -82,7 +82,7 @@ module _ (n : Network) (m m′ : Timetable) where
   changed-agree : (b : Bool) (μ : Meaning) → Agree b μ → (k : Station) → T (b && reaches n μ k) → changed n μ m k ≡ changed n μ m′ k
   unfolding changed reaches
   changed-agree false μ h k r = absurd r
-  changed-agree true (throughout t) h k r = λ i. if listed n k then without t (h k r i) else h k r i
+  changed-agree true (throughout t) h k r = if-yes (listed n k) _ _ r ∙ ap (without t) (h k r) ∙ sym (if-yes (listed n k) _ _ r)
   changed-agree true (local a) h k r = put-agree a k (known n a) h r
 
   -- an edit that is not refused is in range
@@ -145,7 +145,7 @@ meaning-kept : (n : Network) (m : Timetable) (b : Bool) (μ : Meaning) (k : Stat
     → (if eqb (3 if not b else refused-as n μ m) 0 then changed n μ m else m) k ≡ m k
 unfolding reaches refused-as changed
 meaning-kept n m false μ k away = refl
-meaning-kept n m true (throughout t) k away = if-no (listed n k) (without t (m k)) (m k) away
+meaning-kept n m true (throughout t) k away = if-no (listed n k) _ _ away
 meaning-kept n m true (local a) k away = action-kept (known n a) (a .refuses (m (a .home)) (m (a .away))) a m k away
 
 -- an edit leaves every table that it does not name
@@ -223,8 +223,8 @@ unfolding reaches known
 reached-listed n (throughout t) k r = r
 reached-listed n (local a) k r =
     or-cases (same-station k (a .home)) (same-station k (a .away)) (and-r (known n a) (at-ends a k) r)
-    (λ q. rw (same-station→eq k (a .home) q) (and-l (listed n (a .home)) (listed n (a .away)) ends))
-    (λ q. rw (same-station→eq k (a .away) q) (and-r (listed n (a .home)) (listed n (a .away)) ends))
+    (λ q. rw (same-station-equal k (a .home) q) (and-l (listed n (a .home)) (listed n (a .away)) ends))
+    (λ q. rw (same-station-equal k (a .away) q) (and-r (listed n (a .home)) (listed n (a .away)) ends))
   where
     ends : T (listed n (a .home) && listed n (a .away))
     ends = and-l (listed n (a .home) && listed n (a .away)) (a .fits n) (and-l (known n a) (at-ends a k) r)

@@ -12,9 +12,11 @@ use lib.ListN.{length, length-map}
 use borrow.Author.Tests.{ltb-false, leb-false, eqb-true, eqb-false, lt-ltb, eq-eqb}
 use Rattle.base.specs.Choice.{if_then_else_, _if_else_}
 use Rattle.base.specs.Lists.{any, every, keep, first, is, each-two, rising}
-use Rattle.base.proofs.Tests.{true-T, not-T-false, both, or-l, or-r, or-cases}
-use Rattle.base.proofs.Sorted.{every-head, every-tail, every-cons, every-weaker, every-keep, every-mapped, keep-length, keep-every, two-head, two-tail, two-cons, two-step, two-keep}
-use Rattle.base.proofs.Sorted.{parts, smaller, smaller-across, rising-map, below-trans, below-total}
+use Rattle.base.proofs.Tests.{true-T, not-T-false, both, or-l, or-r, or-cases, parts}
+use Rattle.base.proofs.Tests.{every-head, every-tail, every-cons, every-weaker, every-keep, every-mapped}
+use Rattle.base.proofs.Lengths.{keep-no-longer}
+use Rattle.base.proofs.Counts.{keep-every}
+use Rattle.base.proofs.Sorted.{two-head, two-tail, two-cons, two-step, two-keep, smaller, smaller-across, rising-map, below-trans, below-total}
 use Rattle.railway.specs.Ranges.{same-train, train-ok, track-ok, minute-ok, interval-ok}
 use Rattle.railway.specs.Relations.{present, used, further-ok, trains-ok, relation-ok, key, precedes, same-relation}
 use Rattle.railway.specs.Networks.{track-known}
@@ -366,7 +368,7 @@ packed-ok (a ∷ b ∷ c ∷ d ∷ e ∷ ts) g = absurd (omega arith)
 pub group-keep : (p : Train → Bool) (ts : List Train) → GroupOf ts → 2 ≤ length (keep p ts) → GroupOf (keep p ts)
 group-keep p ts g h = record {
   least = h;
-  most = omega (arith, keep-length p ts);
+  most = omega (arith, keep-no-longer p ts);
   order = two-keep (smaller digits) p ts (g .order);
   each = every-keep train-ok p ts (g .each);
 }
@@ -516,7 +518,7 @@ change-good n s t f h es g = record {
 
 pub keep-good : (n : Network) (s : Station) (p : Entry → Bool) (es : List Entry) → GoodVisits n s es → GoodVisits n s (keep p es)
 keep-good n s p es g = record {
-  few = omega (arith, keep-length p es);
+  few = omega (arith, keep-no-longer p es);
   order = two-keep (smaller number) p es (g .order);
   each = every-keep (entry-good n s) p es (g .each);
 }
@@ -547,7 +549,7 @@ insert-good r rs t f g = record {
 
 pub keep-relations-good : (p : Relation → Bool) (rs : List Relation) → GoodRelations rs → GoodRelations (keep p rs)
 keep-relations-good p rs g = record {
-  few = omega (arith, keep-length p rs);
+  few = omega (arith, keep-no-longer p rs);
   order = two-keep precedes p rs (g .order);
   each = every-keep relation-ok p rs (g .each);
 }
