@@ -1,0 +1,1 @@
+// The central machine on bytes: an edit on a sheet, an edit on a division.
