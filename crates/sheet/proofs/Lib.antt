@@ -1,0 +1,3 @@
+pub mod ShelfLaws
+pub mod FindLaws
+pub mod PutLaws
