@@ -1,1 +1,3 @@
+pub mod AreaLaws
 pub mod PageLaws
+pub mod SheetLaws

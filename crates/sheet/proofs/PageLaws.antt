@@ -189,6 +189,10 @@ pub blank-back : decode-page (zeros 512) ≡ empty
 unfolding decode-page visits-of relations-of visit-records relation-records records-of empty
 blank-back = refl
 
+pub empty-coded : Coded empty
+unfolding empty every
+empty-coded = record { visits = omega arith; relations = omega arith; links = tt }
+
 -- a good table has a page
 
 in-linked : (n : Network) (s : Station) (v : Visit) → T (every (in-good n s) (ins v)) → T (in-coded (v .inward))
