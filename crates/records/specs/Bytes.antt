@@ -3,8 +3,9 @@
 use Prim.Native.Nat.{ℕ, _+_, _*_, _-_, _/_, _%_}
 use mathlib.Core.Bool.{Bool, true, false}
 use mathlib.Core.List.{List, [], _∷_, _++_}
-use lib.Dec.{eqb}
+use lib.Dec.{leb, eqb}
 use lib.ListN.{length, getD, take, drop, replicate}
+use Rattle.base.specs.Choice.{if_then_else_}
 use Rattle.base.specs.Lists.{every}
 
 abbrev pub zeros : ℕ → List ℕ
@@ -36,18 +37,27 @@ chunk i b = take 16 (drop (16 * i) b)
 unfoldable pub splice : ℕ → List ℕ → List ℕ → List ℕ
 splice at new b = take at b ++ (new ++ drop (at + length new) b)
 
--- room for one record at the front of a part: all else one record on, the part's last 16 bytes lost; the front is left as it was
-unfoldable pub roomed : List ℕ → List ℕ
-roomed b = take 16 b ++ take (length b - 16) b
+-- the first bytes with all the others written over them, where they are as many
+unfoldable pub overwritten : List ℕ → List ℕ → List ℕ
+overwritten b new = if eqb (length b) (length new) then new else b
 
--- the front record taken out of a part: all else one record up, zeros behind
+-- room for one record at the front of a part: all else one record on, the part's last 16 bytes lost; the front is left as it was.
+-- A part that is shorter than one record is left as it was
+unfoldable pub roomed : List ℕ → List ℕ
+roomed b = if leb 16 (length b) then take 16 b ++ take (length b - 16) b else b
+
+-- how many whole records that moves
+abbrev pub records-behind : List ℕ → ℕ
+records-behind b = (length b - 16) / 16
+
+-- the front record taken out of a part: all else one record up, zeros behind; a part that is shorter than one record is left as it was
 unfoldable pub closed : List ℕ → List ℕ
-closed b = drop 16 b ++ zeros 16
+closed b = if leb 16 (length b) then drop 16 b ++ zeros 16 else b
 
 unfoldable pub blank : List ℕ → Bool
 blank b = every (eqb 0) b
 
 -- The key ring of this module: `unfolding opened` opens every definition above.
 unfoldable pub opened : Unit {0}
-unfolding splice roomed closed blank
+unfolding splice overwritten roomed closed blank
 opened = tt

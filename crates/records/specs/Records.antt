@@ -1,8 +1,8 @@
 -- Records of 16 bytes: a visit with its train, and a relation. docs/LAYOUT.md has the layout to the byte. Assumes nothing.
 use Prim.Native.Nat.{ℕ, _+_, _*_, _/_, _%_}
-use mathlib.Core.Bool.{Bool, true, false}
+use mathlib.Core.Bool.{Bool, true, false, _&&_}
 use mathlib.Core.List.{List, [], _∷_, _++_}
-use lib.Dec.{eqb}
+use lib.Dec.{ltb, eqb}
 use lib.ListN.{getD}
 use Rattle.base.specs.Choice.{if_then_else_}
 use Rattle.timetable.specs.Tables.{Entry}
@@ -11,23 +11,23 @@ use Rattle.records.specs.Bytes.{low, high, word, flag, occurred}
 
 -- links: a station of 0 is no link
 
-unfoldable pub in-station : InLink → ℕ
+abbrev pub in-station : InLink → ℕ
 in-station InLink.Nothing = 0
 in-station (InLink.From i) = i .station .0
 
-unfoldable pub in-line : InLink → ℕ
+abbrev pub in-line : InLink → ℕ
 in-line InLink.Nothing = 0
 in-line (InLink.From i) = i .line .0
 
-unfoldable pub out-station : OutLink → ℕ
+abbrev pub out-station : OutLink → ℕ
 out-station OutLink.Nothing = 0
 out-station (OutLink.To o) = o .station .0
 
-unfoldable pub out-line : OutLink → ℕ
+abbrev pub out-line : OutLink → ℕ
 out-line OutLink.Nothing = 0
 out-line (OutLink.To o) = o .line .0
 
-unfoldable pub out-run : OutLink → ℕ
+abbrev pub out-run : OutLink → ℕ
 out-run OutLink.Nothing = 0
 out-run (OutLink.To o) = o .run
 
@@ -36,6 +36,18 @@ in-link s l = if eqb s 0 then InLink.Nothing else InLink.From (record { station 
 
 unfoldable pub out-link : ℕ → ℕ → ℕ → OutLink
 out-link s l r = if eqb s 0 then OutLink.Nothing else OutLink.To (record { station = record { 0 = s }; line = record { 0 = l }; run = r })
+
+-- a link that is there names a station, so that it has bytes of its own
+unfoldable pub named-in : InLink → Bool
+named-in InLink.Nothing = true
+named-in (InLink.From i) = ltb 0 (i .station .0)
+
+unfoldable pub named-out : OutLink → Bool
+named-out OutLink.Nothing = true
+named-out (OutLink.To o) = ltb 0 (o .station .0)
+
+unfoldable pub named : Visit → Bool
+named v = named-in (v .inward) && named-out (v .outward)
 
 -- a visit: train(2) track(1) arrival(2) arrived(1) departure(2) departed(1) in: station(1) line(1) out: station(1) line(1) run(1), two zeros
 unfoldable pub visit-bytes : Train → Visit → List ℕ
@@ -88,6 +100,6 @@ decode-relation b =
 
 -- The key ring of this module: `unfolding opened` opens every definition above.
 unfoldable pub opened : Unit {0}
-unfolding in-station in-line out-station out-line out-run in-link out-link visit-bytes encode-entry decode-visit decode-train decode-entry
+unfolding in-link out-link named-in named-out named visit-bytes encode-entry decode-visit decode-train decode-entry
     relation-bytes encode-relation decode-trains decode-relation
 opened = tt
