@@ -1,15 +1,15 @@
 -- A page and its table: a table within the limits, no link of which has station 0, has a page of 512 bytes, and that page is read back as the table. So a good
 -- page is that of its table and of no other. Each record is read back by itself; the records of a shelf by induction. Assumes nothing.
-use Prim.Native.Nat.{ℕ, zero, suc, _+_, _*_, _-_, _/_, _%_, _≤_, _<_, min}
+use Prim.Native.Nat.{ℕ, zero, suc, _+_, _*_, _-_, _≤_, min}
 use mathlib.Core.Path.{_≡_, refl, sym, _∙_, ap, ap₂}
 use mathlib.Core.Bool.{Bool, true, false, _&&_}
 use mathlib.Core.List.{List, [], _∷_, _++_, map, flatMap, append-assoc, append-nil}
 use native.Mathlib.Nat.{min-eq-left}
 use native.Mathlib.Omega.{arith}
-use lib.Dec.{T, ltb, leb, eqb, ltb→lt, leb→le}
+use lib.Dec.{T, ltb, leb→le}
 use lib.ListN.{length, getD, take, drop, replicate, length-append, length-replicate}
 use lib.Seq.{take-at, drop-at, drop-drop}
-use borrow.Author.Tests.{ne-eqb, lt-ltb}
+use borrow.Author.Tests.{lt-ltb}
 use Rattle.base.specs.Lists.{every, same}
 use Rattle.base.proofs.Tests.{true-T, and-l, and-r, both}
 use Rattle.base.proofs.Counts.{every-true}
@@ -20,88 +20,15 @@ use Rattle.timetable.specs.Tables.{Entry, Table, empty}
 use Rattle.timetable.specs.Visits.{ins, outs}
 use Rattle.timetable.specs.Good.{in-good, out-good, links-good, values-good, visit-good, entry-good, table-good}
 use Rattle.timetable.proofs.TableLaws.{GoodTable, table-facts, visit-facts}
-use Rattle.records.specs.Bytes.{zeros, flag, occurred}
-use Rattle.records.specs.Records.{in-station, in-line, out-station, out-line, out-run, in-link, out-link, visit-bytes, encode-entry, decode-visit, decode-train, decode-entry}
-use Rattle.records.specs.Records.{relation-bytes, encode-relation, decode-trains, decode-relation}
+use Rattle.records.specs.Bytes.{zeros}
+use Rattle.records.specs.Records.{named-in, named-out, named, encode-entry, decode-entry, encode-relation, decode-relation}
+use Rattle.records.proofs.RecordLaws.{entry-length, relation-length, entry-back, relation-back}
 use Rattle.sheet.specs.Types.{Station, Visit, InLink, OutLink, Relation, Connection, Disconnection, Dependency, Network}
 use Rattle.sheet.specs.Pages.{shelf, encode-page, records-of, visit-records, relation-records, visits-of, relations-of, decode-page, good-page}
 
--- a record read back
-
-word-back : (n : ℕ) → n % 256 + 256 * (n / 256) ≡ n
-word-back n = omega arith
-
-flag-back : (b : Bool) → occurred (flag b) ≡ b
-flag-back true = refl
-flag-back false = refl
-
--- no link, or one whose station is not 0: a link of station 0 would be read as none
-unfoldable pub in-coded : InLink → Bool
-in-coded InLink.Nothing = true
-in-coded (InLink.From i) = ltb 0 (i .station .0)
-
-unfoldable pub out-coded : OutLink → Bool
-out-coded OutLink.Nothing = true
-out-coded (OutLink.To o) = ltb 0 (o .station .0)
-
-unfoldable pub linked : Entry → Bool
-linked e = in-coded (e .visit .inward) && out-coded (e .visit .outward)
-
-in-back : (l : InLink) → T (in-coded l) → in-link (in-station l) (in-line l) ≡ l
-unfolding in-coded in-link in-station in-line
-in-back InLink.Nothing t = refl
-in-back (InLink.From i) t = rw (ne-eqb (i .station .0) 0 (λ e. omega (arith, ltb→lt 0 (i .station .0) t)))
-
-out-back : (l : OutLink) → T (out-coded l) → out-link (out-station l) (out-line l) (out-run l) ≡ l
-unfolding out-coded out-link out-station out-line out-run
-out-back OutLink.Nothing t = refl
-out-back (OutLink.To o) t = rw (ne-eqb (o .station .0) 0 (λ e. omega (arith, ltb→lt 0 (o .station .0) t)))
-
-pub entry-length : (e : Entry) → length (encode-entry e) ≡ 16
-unfolding encode-entry visit-bytes
-entry-length e = refl
-
-pub relation-length : (r : Relation) → length (encode-relation r) ≡ 16
-unfolding encode-relation relation-bytes
-relation-length (Connection i ts) = refl
-relation-length (Disconnection i ts) = refl
-relation-length (Dependency i p) = refl
-
-pub entry-back : (e : Entry) → T (linked e) → decode-entry (encode-entry e) ≡ e
-unfolding linked encode-entry visit-bytes decode-entry decode-train decode-visit
-entry-back e t =
-    let v = e .visit in
-    λ i. record {
-      train = record { 0 = word-back (e .train .0) i };
-      visit = record {
-        track = v .track;
-        arrival = record { 0 = word-back (v .arrival .0) i };
-        arrived = flag-back (v .arrived) i;
-        departure = record { 0 = word-back (v .departure .0) i };
-        departed = flag-back (v .departed) i;
-        inward = in-back (v .inward) (and-l (in-coded (v .inward)) (out-coded (v .outward)) t) i;
-        outward = out-back (v .outward) (and-r (in-coded (v .inward)) (out-coded (v .outward)) t) i;
-      };
-    }
-
-pub relation-back : (r : Relation) → decode-relation (encode-relation r) ≡ r
-unfolding encode-relation relation-bytes decode-relation decode-trains
-relation-back (Connection i ts) =
-    λ k. Connection i (record {
-      a = record { 0 = word-back (ts .a .0) k };
-      b = record { 0 = word-back (ts .b .0) k };
-      c = record { 0 = word-back (ts .c .0) k };
-      d = record { 0 = word-back (ts .d .0) k };
-    })
-relation-back (Disconnection i ts) =
-    λ k. Disconnection i (record {
-      a = record { 0 = word-back (ts .a .0) k };
-      b = record { 0 = word-back (ts .b .0) k };
-      c = record { 0 = word-back (ts .c .0) k };
-      d = record { 0 = word-back (ts .d .0) k };
-    })
-relation-back (Dependency i p) =
-    λ k. Dependency i (record { arriver = record { 0 = word-back (p .arriver .0) k }; departer = record { 0 = word-back (p .departer .0) k } })
+-- no link of the entry's visit has station 0
+abbrev pub linked : Entry → Bool
+linked e = named (e .visit)
 
 -- a shelf: records of 16 bytes
 
@@ -195,28 +122,28 @@ empty-coded = record { visits = omega arith; relations = omega arith; links = tt
 
 -- a good table has a page
 
-in-linked : (n : Network) (s : Station) (v : Visit) → T (every (in-good n s) (ins v)) → T (in-coded (v .inward))
-unfolding ins in-coded every in-good
+in-linked : (n : Network) (s : Station) (v : Visit) → T (every (in-good n s) (ins v)) → T (named-in (v .inward))
+unfolding ins named-in every in-good
 in-linked n s v t = go (v .inward) t
   where
-    go : (l : InLink) → T (every (in-good n s) (elim l [ InLink.Nothing ↦ [] | InLink.From i ↦ i ∷ [] ])) → T (in-coded l)
+    go : (l : InLink) → T (every (in-good n s) (elim l [ InLink.Nothing ↦ [] | InLink.From i ↦ i ∷ [] ])) → T (named-in l)
     go InLink.Nothing u = tt
     go (InLink.From i) u = true-T (ltb 0 (i .station .0)) (lt-ltb 0 (i .station .0) (leb→le 1 (i .station .0) (search parts)))
 
-out-linked : (n : Network) (s : Station) (v : Visit) → T (every (out-good n s) (outs v)) → T (out-coded (v .outward))
-unfolding outs out-coded every out-good
+out-linked : (n : Network) (s : Station) (v : Visit) → T (every (out-good n s) (outs v)) → T (named-out (v .outward))
+unfolding outs named-out every out-good
 out-linked n s v t = go (v .outward) t
   where
-    go : (l : OutLink) → T (every (out-good n s) (elim l [ OutLink.Nothing ↦ [] | OutLink.To o ↦ o ∷ [] ])) → T (out-coded l)
+    go : (l : OutLink) → T (every (out-good n s) (elim l [ OutLink.Nothing ↦ [] | OutLink.To o ↦ o ∷ [] ])) → T (named-out l)
     go OutLink.Nothing u = tt
     go (OutLink.To o) u = true-T (ltb 0 (o .station .0)) (lt-ltb 0 (o .station .0) (leb→le 1 (o .station .0) (search parts)))
 
 module _ (n : Network) (s : Station) where
   entry-linked : (e : Entry) → T (entry-good n s e) → T (linked e)
-  unfolding entry-good linked
+  unfolding entry-good named
   entry-linked e t =
       let g = visit-facts n s (e .visit) (search parts) in
-      both (in-coded (e .visit .inward)) (out-coded (e .visit .outward)) (in-linked n s (e .visit) (g .inward)) (out-linked n s (e .visit) (g .outward))
+      both (named-in (e .visit .inward)) (named-out (e .visit .outward)) (in-linked n s (e .visit) (g .inward)) (out-linked n s (e .visit) (g .outward))
 
   pub good-coded : (tab : Table) → T (table-good n s tab) → Coded tab
   good-coded tab t =
