@@ -1,3 +1,4 @@
 pub mod AreaLaws
 pub mod PageLaws
 pub mod SheetLaws
+pub mod CopyLaws

@@ -86,7 +86,7 @@ station-low k t = leb→le 1 (k .0) (and-l (leb 1 (k .0)) (leb (k .0) 16) t)
 pub station-high : (k : Station) → T (station-ok k) → k .0 ≤ 16
 station-high k t = leb→le (k .0) 16 (and-r (leb 1 (k .0)) (leb (k .0) 16) t)
 
-abbrev mk : ℕ → Station
+abbrev pub mk : ℕ → Station
 mk k = record { 0 = k }
 
 abbrev pub area-number : ℕ → Bool
@@ -117,6 +117,10 @@ station-here k t =
 station-index : (k : Station) → T (station-ok k) → k .0 - 1 < length sixteen
 unfolding sixteen
 station-index k t = omega (arith, station-low k t, station-high k t)
+
+sixteen-long : (i : ℕ) → i < 16 → i < length sixteen
+unfolding sixteen
+sixteen-long i h = h
 
 pub area-here : (a : ℕ) → T (area-number a) → getD six (a - 1) 0 ≡ a
 area-here a t =
@@ -152,7 +156,11 @@ pub pages-whole : (sheet : List ℕ) → length sheet ≡ 8192 → flatMap (page
 unfolding flatMap page-at sixteen
 pages-whole sheet e = row-whole 512 16 0 sheet ∙ take-all 8192 sheet (omega arith)
 
--- the page of a station in a row of pages
+-- the page at an index, and of a station, in a row of pages
+pub page-row : (f : Station → List ℕ) → ((k : Station) → T (station-ok k) → length (f k) ≡ 512) → (i : ℕ) → i < 16
+    → take 512 (drop (512 * i) (flatMap f sixteen)) ≡ f (mk (i + 1))
+page-row f wide i h = row-part 512 f station-ok wide sixteen i (mk 0) all-stations (sixteen-long i h) ∙ ap f (station-at i h)
+
 pub page-in : (f : Station → List ℕ) → ((k : Station) → T (station-ok k) → length (f k) ≡ 512) → (k : Station) → T (station-ok k) → page-at (flatMap f sixteen) k ≡ f k
 unfolding page-at
 page-in f wide k t = row-part 512 f station-ok wide sixteen (k .0 - 1) (mk 0) all-stations (station-index k t) ∙ ap f (station-here k t)
@@ -176,6 +184,10 @@ sheet-size division a e t =
 pub sheets-whole : (division : List ℕ) → length division ≡ 49152 → flatMap (sheet-at division) six ≡ division
 unfolding flatMap sheet-at
 sheets-whole division e = row-whole 8192 6 0 division ∙ take-all 49152 division (omega arith)
+
+pub sheet-row : (f : ℕ → List ℕ) → ((a : ℕ) → T (area-number a) → length (f a) ≡ 8192) → (i : ℕ) → i < 6
+    → take 8192 (drop (8192 * i) (flatMap f six)) ≡ f (i + 1)
+sheet-row f wide i h = row-part 8192 f area-number wide six i 0 all-areas h ∙ ap f (area-at i h)
 
 pub sheet-in : (f : ℕ → List ℕ) → ((a : ℕ) → T (area-number a) → length (f a) ≡ 8192) → (a : ℕ) → T (area-number a) → sheet-at (flatMap f six) a ≡ f a
 unfolding sheet-at

@@ -2,3 +2,4 @@ pub mod Types
 pub mod Pages
 pub mod Changes
 pub mod Sheets
+pub mod Copies
