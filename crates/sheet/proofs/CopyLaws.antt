@@ -118,7 +118,7 @@ spread-divided n sheet = refl
 
 -- merging
 
-drop-take : (x y : ℕ) (l : List ℕ) → drop x (take (x + y) l) ≡ take y (drop x l)
+pub drop-take : (x y : ℕ) (l : List ℕ) → drop x (take (x + y) l) ≡ take y (drop x l)
 drop-take zero y l = rw (zero-add y)
 drop-take (suc x) y [] = rw (take-nil (suc x + y), drop-nil (suc x), take-nil y)
 drop-take (suc x) y (a ∷ l) = rw (suc-add x y) (drop-take x y l)

@@ -2,3 +2,4 @@ pub mod AreaLaws
 pub mod PageLaws
 pub mod SheetLaws
 pub mod CopyLaws
+pub mod PassLaws

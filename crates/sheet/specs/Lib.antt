@@ -3,3 +3,4 @@ pub mod Pages
 pub mod Changes
 pub mod Sheets
 pub mod Copies
+pub mod Passes
