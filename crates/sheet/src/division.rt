@@ -1,0 +1,134 @@
+// "A division is 49,152 bytes, six sheets by area." Dividing and merging copy pages: no record is read.
+ghost use mathlib.Core.Path.{_≡_};
+ghost use mathlib.Core.Bool.{Bool};
+ghost use Prim.Native.Nat.{_+_, _≤_, _<_};
+ghost use lib.Dec.{T};
+ghost use lib.ListN.{length};
+ghost use Rattle.base.specs.Lists.{every};
+ghost use Rattle.sheet.specs.Sheets.{area-part};
+ghost use Rattle.sheet.specs.Copies.{kept-page, collected-page, spread, spread-all, collected, areas-in, areas-high};
+use railway::network::Network;
+use railway::sorts::Area;
+use railway::sorts::Station;
+use records::bytes;
+
+// "One call gives back the part of the division that is one area's sheet, or an empty part on 5 or 3."
+pub fn area_sheet(division: &[u8], a: Area) -> &[u8]
+    ensures { λ r. ⌜ now r ≡ area-part (now (division .entry)) a ⌝ }
+{
+    if division.len() == 49152 {
+        if a.valid() {
+            let at = 8192 * (bytes::size(a.0) - 1);
+            let end = at + 8192;
+            return &division[at..end];
+        }
+        return &division[0..0];
+    }
+    &division[0..0]
+}
+
+pub fn area_sheet_mut(division: &mut [u8], a: Area) -> &mut [u8]
+    ensures { λ r. ⌜ now r ≡ area-part (now (division .entry)) a ⌝ }
+{
+    if division.len() == 49152 {
+        if a.valid() {
+            let at = 8192 * (bytes::size(a.0) - 1);
+            let end = at + 8192;
+            return &mut division[at..end];
+        }
+        return &mut division[0..0];
+    }
+    &mut division[0..0]
+}
+
+// A page copied, or zeros.
+fn keep_page(page: &mut [u8], from: &[u8], kept: bool)
+    requires { ⌜ (length (now page) ≡ 512) × (length (now from) ≡ 512) ⌝ }
+    ensures { λ _. ⌜ now (page .exit) ≡ kept-page kept (now (from .entry)) ⌝ }
+{
+    if kept {
+        bytes::copy(page, from);
+        return;
+    }
+    bytes::clear(page);
+}
+
+// The sheet of area a: the pages of its stations, zeros for every other.
+fn fill(part: &mut [u8], sheet: &[u8], areas: [u8; 16], a: u8)
+    requires { ⌜ (length (now part) ≡ 8192) × (length (now sheet) ≡ 8192) ⌝ }
+    ensures { λ _. ⌜ now (part .exit) ≡ spread areas (now (sheet .entry)) a ⌝ }
+{
+    let mut i: usize = 0;
+    while i < 16 {
+        let at = 512 * i;
+        let end = at + 512;
+        keep_page(&mut part[at..end], &sheet[at..end], a == areas[i]);
+        i += 1;
+    }
+}
+
+fn fill_all(division: &mut [u8], sheet: &[u8], areas: [u8; 16])
+    requires { ⌜ (length (now division) ≡ 49152) × (length (now sheet) ≡ 8192) ⌝ }
+    ensures { λ _. ⌜ now (division .exit) ≡ spread-all areas (now (sheet .entry)) ⌝ }
+{
+    let mut i: usize = 0;
+    let mut a: u8 = 1;
+    while i < 6 {
+        let at = 8192 * i;
+        let end = at + 8192;
+        fill(&mut division[at..end], sheet, areas, a);
+        i += 1;
+        a += 1;
+    }
+}
+
+// The page of the station at index i in the sheet of area a; zeros where there is no area.
+fn collect_page(page: &mut [u8], division: &[u8], i: usize, a: u8)
+    requires { ⌜ (length (now page) ≡ 512) × (length (now division) ≡ 49152) × (i < 16) × (a ≤ 6) ⌝ }
+    ensures { λ _. ⌜ now (page .exit) ≡ collected-page (now (division .entry)) i a ⌝ }
+{
+    if a == 0 {
+        bytes::clear(page);
+        return;
+    }
+    let at = 8192 * (bytes::size(a) - 1) + 512 * i;
+    let end = at + 512;
+    bytes::copy(page, &division[at..end]);
+}
+
+fn collect(sheet: &mut [u8], division: &[u8], areas: [u8; 16])
+    requires { ⌜ (length (now sheet) ≡ 8192) × (length (now division) ≡ 49152) × T (areas-high areas) ⌝ }
+    ensures { λ _. ⌜ now (sheet .exit) ≡ collected areas (now (division .entry)) ⌝ }
+{
+    let mut i: usize = 0;
+    while i < 16 {
+        let at = 512 * i;
+        let end = at + 512;
+        collect_page(&mut sheet[at..end], division, i, areas[i]);
+        i += 1;
+    }
+}
+
+// The area of each station from 1 to 16.
+fn areas(network: Network) -> [u8; 16]
+    ensures { λ r. ⌜ r ≡ areas-in network ⌝ }
+{
+    [
+        network.area_of(Station(1)),
+        network.area_of(Station(2)),
+        network.area_of(Station(3)),
+        network.area_of(Station(4)),
+        network.area_of(Station(5)),
+        network.area_of(Station(6)),
+        network.area_of(Station(7)),
+        network.area_of(Station(8)),
+        network.area_of(Station(9)),
+        network.area_of(Station(10)),
+        network.area_of(Station(11)),
+        network.area_of(Station(12)),
+        network.area_of(Station(13)),
+        network.area_of(Station(14)),
+        network.area_of(Station(15)),
+        network.area_of(Station(16)),
+    ]
+}
