@@ -8,8 +8,8 @@ use Rattle.timetable.specs.Visits.{with-in, with-out, planned, amended, arrived
 use Rattle.timetable.specs.Tables.{visit-of}
 use Rattle.timetable.specs.Machine.{Action, Meaning, local, throughout, meaning}
 use Rattle.sheet.specs.Changes.{table-in, page-add-visit, page-write-visit, page-remove-visit, page-add-relation, page-remove-relation, page-lose-train}
-use Rattle.machine.specs.Types.{Train, Visit, InLink, OutLink, Edit, Place, Prepend, Append, DeleteFirst, DeleteLast, Amend}
-use Rattle.machine.specs.Types.{ReportArrival, ReportDeparture, AddRelation, RemoveRelation, DeleteTrain}
+use Rattle.edits.specs.Types.{Train, Visit, InLink, OutLink, Edit, Place, Prepend, Append, DeleteFirst, DeleteLast, Amend}
+use Rattle.edits.specs.Types.{ReportArrival, ReportDeparture, AddRelation, RemoveRelation, DeleteTrain}
 
 -- 8 to 12 or 0, by what the two pages hold
 unfoldable pub refuses-on : Meaning → List ℕ → List ℕ → ℕ

@@ -1,0 +1,1 @@
+// An edit on the pages of its two stations.
