@@ -1,11 +1,12 @@
 -- An edit on the pages of its two stations, whatever their bytes: what it is refused with, and what it leaves of each. On good pages these are the refusal and
 -- the tables of the central machine (proofs/). Assumes nothing.
 use Prim.Native.Nat.{ℕ}
-use mathlib.Core.Bool.{Bool, true, false}
+use mathlib.Core.Bool.{Bool, true, false, not}
 use mathlib.Core.List.{List}
 use mathlib.Core.Option.{Option, none, some}
 use Rattle.timetable.specs.Visits.{with-in, with-out, planned, amended, arrived-at, departed-at, from, onward}
-use Rattle.timetable.specs.Tables.{visit-of}
+use Rattle.base.specs.Choice.{_if_else_}
+use Rattle.timetable.specs.Tables.{visit-of, has-visit}
 use Rattle.timetable.specs.Machine.{Action, Meaning, local, throughout, meaning}
 use Rattle.sheet.specs.Changes.{table-in, page-add-visit, page-write-visit, page-remove-visit, page-add-relation, page-remove-relation, page-lose-train}
 use Rattle.edits.specs.Types.{Train, Visit, InLink, OutLink, Edit, Place, Prepend, Append, DeleteFirst, DeleteLast, Amend}
@@ -15,6 +16,10 @@ use Rattle.edits.specs.Types.{ReportArrival, ReportDeparture, AddRelatio
 unfoldable pub refuses-on : Meaning → List ℕ → List ℕ → ℕ
 refuses-on (local a) here there = a .refuses (table-in here) (table-in there)
 refuses-on (throughout t) here there = 0
+
+-- 9 where the page has no visit of the train: edits 7 and 8
+unfoldable pub missing-visit : Train → List ℕ → ℕ
+missing-visit t page = 9 if not (has-visit t (table-in page)) else 0
 
 -- the train's visit changed on the page, if it is there
 unfoldable pub page-changed : Train → (Visit → Visit) → Option Visit → List ℕ → List ℕ
@@ -58,5 +63,5 @@ there-page (DeleteTrain c) page = page
 
 -- The key ring of this module: `unfolding opened` opens every definition above.
 unfoldable pub opened : Unit {0}
-unfolding refuses-on page-changed page-change page-without here-page there-page
+unfolding refuses-on missing-visit page-changed page-change page-without here-page there-page
 opened = tt

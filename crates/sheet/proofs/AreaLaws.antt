@@ -10,8 +10,7 @@ use lib.Dec.{T, ltb, leb, eqb, leb→le, eqb→eq}
 use borrow.Author.Tests.{lt-ltb}
 use Rattle.base.specs.Choice.{if_then_else_, _if_else_}
 use Rattle.base.specs.Lists.{any, every, first, within}
-use Rattle.base.proofs.Tests.{and-l, and-r, or-cases, eqb-turned}
-use Rattle.base.proofs.Sorted.{every-head, every-tail}
+use Rattle.base.proofs.Tests.{and-l, and-r, or-cases, eqb-turned, every-head, every-tail}
 use Rattle.railway.specs.Ranges.{same-station, station-ok, area-ok}
 use Rattle.railway.specs.Networks.{network-refusal, network-in-range, stations-in-range, stations-rise, station-rows, station-row-ok, stations-of, row-area}
 use Rattle.railway.specs.Networks.{line-rows, ends-listed, lines-joined, listed, station-row, area-of}

@@ -14,8 +14,7 @@ use lib.Seq.{take-at, take-add, take-all, take-take, take-nil, drop-nil, drop-dr
 use borrow.Author.Tests.{eq-eqb, ne-eqb, lt-ltb}
 use Rattle.base.specs.Choice.{if_then_else_}
 use Rattle.base.specs.Lists.{every, within}
-use Rattle.base.proofs.Tests.{true-T, and-l, and-r, both}
-use Rattle.base.proofs.Sorted.{every-head, every-tail}
+use Rattle.base.proofs.Tests.{true-T, and-l, and-r, both, every-head, every-tail}
 use Rattle.railway.specs.Ranges.{station-ok, area-ok}
 use Rattle.railway.specs.Networks.{network-refusal, area-of}
 use Rattle.timetable.specs.Groups.{in-group}

@@ -11,9 +11,8 @@ use lib.ListN.{length, getD, take, drop, replicate, length-append, length-replic
 use lib.Seq.{take-at, drop-at, drop-drop}
 use borrow.Author.Tests.{lt-ltb}
 use Rattle.base.specs.Lists.{every, same}
-use Rattle.base.proofs.Tests.{true-T, and-l, and-r, both}
-use Rattle.base.proofs.Counts.{every-true}
-use Rattle.base.proofs.Sorted.{parts, every-head, every-tail, every-cons, every-weaker, same-equal, same-refl}
+use Rattle.base.proofs.Sorted.{same-equal, same-refl}
+use Rattle.base.proofs.Tests.{true-T, and-l, and-r, both, every-true, parts, every-head, every-tail, every-cons, every-weaker}
 use Rattle.railway.specs.Ranges.{station-ok, line-ok, run-ok}
 use Rattle.railway.specs.Networks.{listed, runs}
 use Rattle.timetable.specs.Tables.{Entry, Table, empty}

@@ -11,9 +11,8 @@ use lib.ListN.{length, getD, take, drop, take-append-drop, length-append, length
 use lib.Seq.{drop-cons, drop-drop, drop-at, take-at, take-all, take-take, length-take-le, drop-append-add}
 use borrow.Author.Tests.{eq-eqb, ne-eqb}
 use Rattle.base.specs.Lists.{every, each-two, same}
-use Rattle.base.proofs.Tests.{true-T, and-l, and-r, both, or-l, or-r, or-cases}
-use Rattle.base.proofs.Sorted.{parts, smaller-across, every-head, every-tail, every-cons, every-weaker, every-map, two-head, two-tail, two-cons, two-step, two-map, same-equal, same-refl}
-use Rattle.base.proofs.Counts.{every-true, every-both, each-two-weaker}
+use Rattle.base.proofs.Sorted.{smaller-across, two-head, two-tail, two-cons, two-step, two-map, same-equal, same-refl, two-weaker}
+use Rattle.base.proofs.Tests.{true-T, and-l, and-r, both, or-l, or-r, or-cases, parts, every-head, every-tail, every-cons, every-weaker, every-map, every-true, every-both}
 use Rattle.railway.specs.Relations.{relation-ok, precedes}
 use Rattle.timetable.specs.Tables.{Entry, Table}
 use Rattle.timetable.specs.Good.{entry-good, table-good}
@@ -193,7 +192,7 @@ module _ {A : Type 0} (encode : A → List ℕ) (decode : List ℕ → A) (ok : 
     all-order : T (each-two (λ r q. before (decode r) (decode q)) (map encode xs))
     all-order =
         rw (two-map (λ r q. before (decode r) (decode q)) encode xs)
-        (each-two-weaker before (λ x y. before (decode (encode x)) (decode (encode y))) coded (λ x y u v w. rw (back x u, back y v) w) xs c order)
+        (two-weaker before (λ x y. before (decode (encode x)) (decode (encode y))) coded (λ x y u v w. rw (back x u, back y v) w) xs c order)
 
     chunk-is : (j : ℕ) → j < length xs → chunk j (shelf encode m xs) ≡ getD (map encode xs) j []
     unfolding shelf
