@@ -1,3 +1,5 @@
 pub mod ShelfLaws
 pub mod FindLaws
 pub mod PutLaws
+pub mod FlatLaws
+pub mod ChangeLaws
