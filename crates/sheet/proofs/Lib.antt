@@ -3,3 +3,4 @@ pub mod FindLaws
 pub mod PutLaws
 pub mod FlatLaws
 pub mod ChangeLaws
+pub mod LossLaws
