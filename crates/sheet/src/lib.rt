@@ -1,2 +1,3 @@
 // Pages and sheets: a station's page of 512 bytes, changed by one record at a time; whether a page, a sheet and a division are good; dividing and merging.
 pub mod division; // an area's part of a division, dividing and merging
+pub mod test; // whether a page, a sheet and a division are good
