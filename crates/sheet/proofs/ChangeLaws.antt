@@ -13,9 +13,10 @@ use lib.Seq.{take-at, drop-at, length-take-le, set-append-left}
 use borrow.Author.Tests.{ltb-true, ltb-false, lt-ltb, le-ltb, eqb-true, ne-eqb, eq-eqb}
 use Rattle.base.specs.Choice.{if_then_else_, _if_else_}
 use Rattle.base.specs.Lists.{any, every, keep, count, each-two, same, below}
-use Rattle.base.proofs.Tests.{T-true, T-false, true-T, by-value}
+use Rattle.base.proofs.Counts.{keep-every}
 use Rattle.base.proofs.Lengths.{length-keep}
-use Rattle.base.proofs.Sorted.{every-head, every-tail, every-weaker, keep-every, two-head, two-tail, smaller, same-equal, below-irreflexive}
+use Rattle.base.proofs.Sorted.{two-head, two-tail, smaller, same-equal, below-itself}
+use Rattle.base.proofs.Tests.{T-true, T-false, true-T, by-value, every-head, every-tail, every-weaker}
 use Rattle.railway.specs.Ranges.{same-train}
 use Rattle.railway.specs.Relations.{key, precedes, same-relation}
 use Rattle.timetable.specs.Tables.{Entry, Table, enter, add-visit, change-entry, change-visit, has-relation, insert, add-relation, drop-relation, lose-all}
@@ -324,7 +325,7 @@ module _ (q : Relation) (tab : Table) (fit : Fitting tab) where
   alone x y e o = T-false (same (key q) (key y)) (λ t.
       let left = same-equal (key q) (key x) (true-T (same (key q) (key x)) e) in
       let right = same-equal (key q) (key y) t in
-      below-irreflexive (key x) (rw (sym right ∙ left) at o))
+      below-itself (key x) (rw (sym right ∙ left) at o))
 
   pub remove-relation-page : T (each-two precedes (tab .relations)) → page-remove-relation q (encode-page tab) ≡ encode-page (drop-relation q tab)
   unfolding page-remove-relation drop-relation

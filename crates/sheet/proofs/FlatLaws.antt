@@ -12,7 +12,9 @@ use lib.Seq.{take-at, drop-at, drop-drop, length-take-le, split-at}
 use borrow.Author.Tests.{le-leb}
 use Rattle.base.specs.Choice.{if_then_else_}
 use Rattle.base.specs.Lists.{every, keep, each-two}
-use Rattle.base.proofs.Sorted.{every-weaker, keep-every, two-head, two-tail}
+use Rattle.base.proofs.Counts.{keep-every}
+use Rattle.base.proofs.Sorted.{two-head, two-tail}
+use Rattle.base.proofs.Tests.{every-weaker}
 use Rattle.records.specs.Bytes.{zeros, splice, closed}
 use Rattle.sheet.specs.Pages.{shelf, records-of}
 use Rattle.sheet.specs.Changes.{index-of, put-in, take-out}

@@ -11,7 +11,7 @@ use lib.ListN.{length, getD}
 use borrow.Author.Tests.{lt-ltb, le-ltb, ne-eqb}
 use Rattle.base.specs.Choice.{if_then_else_}
 use Rattle.base.specs.Lists.{any, every, keep}
-use Rattle.base.proofs.Sorted.{every-head, every-tail, every-keep}
+use Rattle.base.proofs.Tests.{every-head, every-tail, every-keep}
 use Rattle.railway.specs.Ranges.{same-train}
 use Rattle.railway.specs.Relations.{present, used}
 use Rattle.railway.specs.declared.relation.Trains.{Trains}
