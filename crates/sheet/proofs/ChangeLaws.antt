@@ -286,7 +286,7 @@ module _ (t : Train) (tab : Table) (fit : Fitting tab) where
 
 -- relations
 
-insert-cut : (q : Relation) (rs : List Relation) → any (same-relation q) rs ≡ false
+pub insert-cut : (q : Relation) (rs : List Relation) → any (same-relation q) rs ≡ false
     → let i = index-of (λ b. precedes q (decode-relation b)) (map encode-relation rs) in insert q rs ≡ take i rs ++ (q ∷ drop i rs)
 unfolding insert index-of any
 insert-cut q [] n = refl
@@ -344,7 +344,7 @@ module _ (q : Relation) (tab : Table) (fit : Fitting tab) where
 
 -- the table read back
 
-relations-read : (rs : List Relation) → map decode-relation (map encode-relation rs) ≡ rs
+pub relations-read : (rs : List Relation) → map decode-relation (map encode-relation rs) ≡ rs
 relations-read [] = refl
 relations-read (r ∷ rs) = λ i. relation-back r i ∷ relations-read rs i
 

@@ -4,3 +4,4 @@ pub mod PutLaws
 pub mod FlatLaws
 pub mod ChangeLaws
 pub mod LossLaws
+pub mod AnewLaws

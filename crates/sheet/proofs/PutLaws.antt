@@ -44,6 +44,16 @@ put-whole b new y from i n many h room e =
     lent-whole b y from (16 * i) k (ap length is ∙ length-append new (take m (drop at b)) ∙ omega arith)
     ∙ ap (λ (z : List ℕ). take from b ++ splice (16 * i) z (drop from b)) (is ∙ rw (← drop-drop (16 * i) from b))
 
+-- the same where the shelf is all there is
+pub put-part : (b new y : List ℕ) (i n : ℕ) → length new ≡ 16 → i ≤ n → 16 * n + 16 ≤ length b
+    → y ≡ fronted new (take (16 * n + 16 - 16 * i) (drop (16 * i) b))
+    → take (16 * i) b ++ (y ++ drop (16 * n + 16 - 16 * i) (drop (16 * i) b)) ≡ put-in n i new b
+put-part b new y i n many h room e =
+    let at : 16 * i ≡ 0 + 16 * i = omega arith in
+    let k : 16 * n + 16 - 16 * i ≡ 0 + 16 * n + 16 - (0 + 16 * i) = omega arith in
+    (λ j. take (at j) b ++ (y ++ drop (k j) (drop (at j) b)))
+    ∙ put-whole b new y 0 i n many h (omega arith) (e ∙ (λ j. fronted new (take (k j) (drop (at j) b))))
+
 -- the front record taken out of the part
 pub take-whole : (b y : List ℕ) (from i n : ℕ) → i < n → from + 16 * n ≤ length b
     → y ≡ closed (take (from + 16 * n - (from + 16 * i)) (drop (from + 16 * i) b))
