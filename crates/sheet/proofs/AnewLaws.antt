@@ -1,6 +1,6 @@
 -- The relations anew: a relation put on a shelf of six is the list's `insert`, where the list is in order, and from the last record to the first this gives
 -- the list without the train. Assumes nothing.
-use Prim.Native.Nat.{ℕ, zero, suc, _+_, _*_, _-_, _≤_, _<_, min}
+use Prim.Native.Nat.{ℕ, _+_, _*_, _-_, _≤_, _<_, min}
 use mathlib.Core.Path.{_≡_, refl, sym, ap, _∙_}
 use mathlib.Core.Bool.{Bool, true, false, _||_}
 use mathlib.Core.List.{List, [], _∷_, _++_, map, flatMap, append-nil}
@@ -11,8 +11,8 @@ use lib.ListN.{length, getD, set, take, drop, length-append, length-drop, length
 use lib.Seq.{length-take-le}
 use borrow.Author.Tests.{eq-eqb}
 use Rattle.base.specs.Choice.{if_then_else_}
-use Rattle.base.specs.Lists.{any, every, each-two, same, below}
-use Rattle.base.proofs.Tests.{T-true, T-false, true-T, by-value}
+use Rattle.base.specs.Lists.{any, every, each-two, same}
+use Rattle.base.proofs.Tests.{T-false, true-T, by-value}
 use Rattle.base.proofs.Lengths.{drop-next}
 use Rattle.base.proofs.Sorted.{every-head, every-tail, two-head, two-tail, same-equal, below-irreflexive, below-trans}
 use Rattle.railway.specs.Relations.{key, precedes, same-relation}

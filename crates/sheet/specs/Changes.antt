@@ -1,8 +1,8 @@
 -- What the functions on a page answer and do to its bytes, whatever they are. A record is put in, taken out or written over on a shelf, the visits' at byte 32
 -- or the relations' at byte 416, and the count in byte 0 or 1 follows. What is no page of 512 bytes, or counts more records than there is room for, is left
 -- as it was. On the page of a good table they do what the functions on tables do (proofs/ChangeLaws.antt). Assumes nothing.
-use Prim.Native.Nat.{ℕ, zero, suc, _+_, _*_, _-_, min}
-use mathlib.Core.Bool.{Bool, true, false, not, _&&_}
+use Prim.Native.Nat.{ℕ, suc, _+_, _*_, _-_, min}
+use mathlib.Core.Bool.{Bool, not, _&&_}
 use mathlib.Core.List.{List, [], _∷_, _++_}
 use mathlib.Core.Option.{Option, none, some}
 use lib.Dec.{ltb, leb, eqb}

@@ -8,7 +8,6 @@ use mathlib.Core.Bool.{true, false}
 use lib.ListN.{length}
 use denote.Ref.{now}
 use borrow.Author.Tests.{lt-ltb, le-ltb}
-use Rattle.records.specs.Records.{encode-relation}
 use Rattle.records.proofs.RecordLaws.{relation-length}
 use Rattle.sheet.specs.Changes.{put-in, is-shelved, shelved, shelved-count}
 use Rattle.sheet.proofs.PutLaws.{put-part}

@@ -1,6 +1,6 @@
 -- `sheet::page::shelve_left` meets its contract, case by case. Assumes nothing.
 use borrow.Author.Needs.{needs}
-use mathlib.Core.Path.{_≡_, sym, _∙_}
+use mathlib.Core.Path.{sym, _∙_}
 use Rattle.sheet.specs.Changes.{shelved-left, left-count}
 use Rattle.sheet.proofs.page.shelve_left.Statement.{statement}
 use Rattle.sheet.proofs.page.shelve_left.Tie as tie

@@ -1,18 +1,15 @@
 -- `sheet::page::shelve_rest` meets its contract. The loop's invariant: the part holds what is left of the relations from index k on. Assumes nothing.
 use borrow.Author.Needs.{needs}
 use native.Mathlib.Omega.{arith}
-use Prim.Native.Nat.{ℕ, _*_, _-_, _≤_}
-use mathlib.Core.Path.{_≡_, refl, sym, ap, _∙_}
-use mathlib.Core.List.{List}
+use Prim.Native.Nat.{ℕ, _≤_}
+use mathlib.Core.Path.{_≡_, sym, ap, _∙_}
 use lib.ListN.{length}
 use denote.Ref.{now}
 use Rattle.timetable.specs.Tables.{lose}
 use Rattle.records.specs.Records.{encode-relation, decode-relation}
-use Rattle.records.proofs.RecordLaws.{relation-length}
 use Rattle.sheet.specs.Types.{Relation}
 use Rattle.sheet.specs.Pages.{shelf}
 use Rattle.sheet.specs.Changes.{left}
-use Rattle.sheet.proofs.FlatLaws.{shelf-length}
 use Rattle.sheet.proofs.AnewLaws.{rest-from, rest-few, rest-none, anew-list, anew-many, empty-shelf}
 use Rattle.sheet.proofs.page.shelve_rest.Statement.{statement}
 use Rattle.sheet.proofs.page.shelve_rest.Tie as tie
