@@ -9,3 +9,4 @@ pub mod PassLaws
 pub mod FlatLaws
 pub mod ChangeLaws
 pub mod LossLaws
+pub mod AnewLaws
