@@ -3,3 +3,4 @@ pub mod PageLaws
 pub mod SheetLaws
 pub mod CopyLaws
 pub mod PassLaws
+pub mod CallLaws
