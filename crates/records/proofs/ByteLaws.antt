@@ -10,10 +10,10 @@ use native.Mathlib.Omega.{arith}
 use lib.Dec.{eqb}
 use lib.ListN.{length, take, drop, getD, set, drop-of-length-le, length-take, length-drop, length-replicate, getD-replicate, List·getD-append, List·getD-eq-default}
 use lib.Seq.{take-at, drop-at, drop-drop, drop-cons, getD-take, getD-drop, getD-append-add, length-take-le, take-length, take-all, paste, paste-suc}
-use borrow.Author.Tests.{eq-eqb, ne-eqb}
+use borrow.Author.Tests.{le-leb, eq-eqb, ne-eqb}
 use Rattle.base.specs.Lists.{every}
 use Rattle.base.proofs.Lengths.{every-next}
-use Rattle.records.specs.Bytes.{zeros, word, splice, blank}
+use Rattle.records.specs.Bytes.{zeros, word, splice, overwritten, roomed, fronted, blank}
 
 -- past the end
 
@@ -119,6 +119,16 @@ pub moved-start : (l : List ℕ) → l ≡ moved l (length l)
 moved-start l =
     let e : length l - length l ≡ 0 = omega arith in
     sym (rw (take-length l, e, append-nil l))
+
+-- a record written over the front of a part that was moved on
+pub front-put : (p new x y : List ℕ) → length new ≡ 16 → 16 ≤ length p → x ≡ roomed p → y ≡ overwritten (take 16 x) new → y ++ drop 16 x ≡ fronted new p
+unfolding roomed overwritten fronted
+front-put p new x y m h e f =
+    let room : x ≡ take 16 p ++ take (length p - 16) p = e ∙ rw (le-leb 16 (length p) h) in
+    let short : length (take 16 p) ≡ 16 = length-take-le 16 p h in
+    let front : take 16 x ≡ take 16 p = rw (room) (take-at (take 16 p) (take (length p - 16) p) 16 short) in
+    let over : y ≡ new = f ∙ rw (front, eq-eqb (length (take 16 p)) (length new) (omega arith)) in
+    rw (over, room, le-leb 16 (length p) h, drop-at (take 16 p) (take (length p - 16) p) 16 short)
 
 -- a part that is lent
 

@@ -46,6 +46,10 @@ overwritten b new = if eqb (length b) (length new) then new else b
 unfoldable pub roomed : List ℕ → List ℕ
 roomed b = if leb 16 (length b) then take 16 b ++ take (length b - 16) b else b
 
+-- and a record written there
+unfoldable pub fronted : List ℕ → List ℕ → List ℕ
+fronted r b = if leb 16 (length b) then r ++ take (length b - 16) b else b
+
 -- how many whole records that moves
 abbrev pub records-behind : List ℕ → ℕ
 records-behind b = (length b - 16) / 16
@@ -59,5 +63,5 @@ blank b = every (eqb 0) b
 
 -- The key ring of this module: `unfolding opened` opens every definition above.
 unfoldable pub opened : Unit {0}
-unfolding splice overwritten roomed closed blank
+unfolding splice overwritten roomed fronted closed blank
 opened = tt

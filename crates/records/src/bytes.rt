@@ -1,8 +1,8 @@
 // Bytes, numbers of two bytes, and what is done to a part of a page whatever its bytes mean.
 ghost use mathlib.Core.Path.{_≡_};
 ghost use Prim.Native.Nat.{_<_};
-ghost use lib.ListN.{length, getD};
-ghost use Rattle.records.specs.Bytes.{zeros, low, high, word, flag, occurred, overwritten, roomed, records-behind, closed, blank};
+ghost use lib.ListN.{length, getD, take, drop};
+ghost use Rattle.records.specs.Bytes.{zeros, low, high, word, flag, occurred, overwritten, roomed, fronted, records-behind, closed, blank};
 
 fn wide(x: u8) -> u16
     ensures { λ r. ⌜ (r ≡ x) × (r < 256) ⌝ }
@@ -25,6 +25,20 @@ pub fn byte_at(b: &[u8], at: usize) -> u8
         return b[at];
     }
     0
+}
+
+// The record from a place on, shorter or empty where the bytes end.
+pub fn record_at(b: &[u8], at: usize) -> &[u8]
+    ensures { λ r. ⌜ now r ≡ take 16 (drop at (now (b .entry))) ⌝ }
+{
+    let n = b.len();
+    if n <= at {
+        return &b[0..0];
+    }
+    if n - at < 16 {
+        return &b[at..n];
+    }
+    &b[at..at + 16]
 }
 
 // The number in the two bytes from a place on, low byte first.
@@ -104,6 +118,18 @@ pub fn make_room(part: &mut [u8]) -> usize
         i -= 1;
     }
     (n - 16) / 16
+}
+
+// Puts a record in at the front of a part, and answers how many records it moved.
+pub fn put_front(part: &mut [u8], new: [u8; 16]) -> usize
+    ensures { λ r. ⌜ (r ≡ records-behind (now (part .entry))) × (now (part .exit) ≡ fronted new (now (part .entry))) ⌝ }
+{
+    if part.len() < 16 {
+        return 0;
+    }
+    let moved = make_room(part);
+    copy(&mut part[0..16], &new);
+    moved
 }
 
 // Writes zeros over a part.

@@ -1,7 +1,7 @@
 -- Dividing and merging as calls: what is answered, and what the lent bytes are afterwards, after each test of the code. Assumes nothing.
 use Prim.Native.Nat.{ℕ}
-use mathlib.Core.Path.{_≡_, refl, sym, _∙_, ap}
-use mathlib.Core.Bool.{Bool, true, false, not, _&&_}
+use mathlib.Core.Path.{_≡_, sym, _∙_, ap}
+use mathlib.Core.Bool.{true, false, not}
 use mathlib.Core.List.{List}
 use native.Mathlib.Omega.{arith}
 use lib.Dec.{eqb}
@@ -10,9 +10,9 @@ use borrow.Author.Tests.{eq-eqb, ne-eqb}
 use Rattle.base.specs.Choice.{if_then_else_, _if_else_}
 use Rattle.railway.specs.Networks.{network-refusal, listed}
 use Rattle.sheet.specs.Types.{Network}
-use Rattle.sheet.specs.Sheets.{good-sheet, good-division, divided, merged, divide-refusal, after-divide, merge-refusal, after-merge}
+use Rattle.sheet.specs.Sheets.{good-sheet, good-division, divide-refusal, after-divide, merge-refusal, after-merge}
 use Rattle.sheet.specs.Copies.{areas-in, spread-all, collected}
-use Rattle.sheet.specs.Passes.{over-area, sheet-passes, division-passes}
+use Rattle.sheet.specs.Passes.{sheet-passes, division-passes}
 use Rattle.sheet.proofs.CopyLaws.{spread-divided, collected-merged}
 use Rattle.sheet.proofs.PassLaws.{over-all}
 

@@ -1,3 +1,9 @@
+pub mod ShelfLaws
+pub mod FindLaws
+pub mod PutLaws
+pub mod FlatLaws
+pub mod ChangeLaws
+pub mod LossLaws
 pub mod AreaLaws
 pub mod PageLaws
 pub mod SheetLaws

@@ -1,18 +1,24 @@
 -- What the functions on a page answer and do to its bytes, whatever they are. A record is put in, taken out or written over on a shelf, the visits' at byte 32
 -- or the relations' at byte 416, and the count in byte 0 or 1 follows. What is no page of 512 bytes, or counts more records than there is room for, is left
--- as it was. On the page of a good table they do what the functions on tables do (proofs/PageLaws.antt). Assumes nothing.
-use Prim.Native.Nat.{ℕ, zero, suc, _+_, _*_, _-_}
-use mathlib.Core.Bool.{Bool, true, false, _&&_}
+-- as it was. On the page of a good table they do what the functions on tables do (proofs/ChangeLaws.antt). Assumes nothing.
+use Prim.Native.Nat.{ℕ, zero, suc, _+_, _*_, _-_, min}
+use mathlib.Core.Bool.{Bool, true, false, not, _&&_}
 use mathlib.Core.List.{List, [], _∷_, _++_}
+use mathlib.Core.Option.{Option, none, some}
 use lib.Dec.{ltb, leb, eqb}
 use lib.ListN.{length, getD, set, take, drop}
 use Rattle.base.specs.Choice.{if_then_else_}
-use Rattle.railway.specs.Relations.{precedes, same-relation}
+use Rattle.railway.specs.Ranges.{same-train}
+use Rattle.railway.specs.Relations.{present, precedes, same-relation}
 use Rattle.timetable.specs.Tables.{Table, empty, lose-all}
 use Rattle.records.specs.Bytes.{word, splice, closed}
 use Rattle.records.specs.Records.{visit-bytes, encode-relation, decode-relation}
 use Rattle.sheet.specs.Types.{Train, Visit, Relation}
-use Rattle.sheet.specs.Pages.{shelf, records-of, relations-of, decode-page}
+use Rattle.railway.specs.declared.relation.Trains.{Trains}
+use Rattle.sheet.specs.declared.loss.Left.{Left}
+use Rattle.sheet.specs.declared.page.Found.{Found}
+use Rattle.sheet.specs.declared.page.VisitFound.{VisitFound}
+use Rattle.sheet.specs.Pages.{shelf, visit-records, relation-records, relations-of, decode-page}
 
 -- the table that a page holds; none where it is no page
 unfoldable pub table-in : List ℕ → Table
@@ -22,6 +28,10 @@ table-in page = if eqb (length page) 512 then decode-page page else empty
 unfoldable pub index-of : (List ℕ → Bool) → List (List ℕ) → ℕ
 index-of f [] = 0
 index-of f (r ∷ rs) = if f r then 0 else suc (index-of f rs)
+
+-- the index where one was found among n
+unfoldable pub found : ℕ → ℕ → Found
+found i n = if ltb i n then Found.At i else Found.Nothing
 
 -- on a part with n records in use
 
@@ -49,10 +59,18 @@ counts-to h k page = eqb (length page) 512 && leb (getD page h 0) k
 
 -- the first visit record of the train, and the first of a train above it
 unfoldable pub train-index : Train → List ℕ → ℕ
-train-index t page = index-of (λ r. eqb (word r 0) (t .0)) (records-of (getD page 0 0) (drop 32 page))
+train-index t page = index-of (λ r. eqb (word r 0) (t .0)) (visit-records page)
 
 unfoldable pub train-place : Train → List ℕ → ℕ
-train-place t page = index-of (λ r. ltb (t .0) (word r 0)) (records-of (getD page 0 0) (drop 32 page))
+train-place t page = index-of (λ r. ltb (t .0) (word r 0)) (visit-records page)
+
+unfoldable pub train-found : Train → List ℕ → Found
+train-found t page = if eqb (length page) 512 then found (train-index t page) (min (getD page 0 0) 24) else Found.Nothing
+
+-- a visit, if there is one, as an answer
+unfoldable pub visit-answer : Option Visit → VisitFound
+visit-answer none = VisitFound.Nothing
+visit-answer (some v) = VisitFound.Is v
 
 unfoldable pub page-add-visit : Train → Visit → List ℕ → List ℕ
 page-add-visit t v page = if counts-to 0 23 page then with-record 0 32 (train-place t page) (visit-bytes t v) page else page
@@ -77,10 +95,10 @@ page-remove-visit t page =
 -- relations
 
 unfoldable pub relation-index : Relation → List ℕ → ℕ
-relation-index q page = index-of (λ r. same-relation q (decode-relation r)) (records-of (getD page 1 0) (drop 416 page))
+relation-index q page = index-of (λ r. same-relation q (decode-relation r)) (relation-records page)
 
 unfoldable pub relation-place : Relation → List ℕ → ℕ
-relation-place q page = index-of (λ r. precedes q (decode-relation r)) (records-of (getD page 1 0) (drop 416 page))
+relation-place q page = index-of (λ r. precedes q (decode-relation r)) (relation-records page)
 
 unfoldable pub page-add-relation : Relation → List ℕ → List ℕ
 page-add-relation q page = if counts-to 1 5 page then with-record 1 416 (relation-place q page) (encode-relation q) page else page
@@ -91,6 +109,15 @@ page-remove-relation q page =
     then without-record 1 416 (relation-index q page) page
     else page
 
+-- the trains of four places, one more place put before them: not where it holds no train, or the one that is taken out
+unfoldable pub shifted : Train → Train → Trains → Trains
+shifted t x ts = if present x && not (same-train t x) then record { a = x; b = ts .a; c = ts .b; d = ts .c } else ts
+
+-- what is left of a relation, as an answer
+unfoldable pub left : Option Relation → Left
+left none = Left.Nothing
+left (some r) = Left.Is r
+
 -- the relations anew, the train taken out of them
 unfoldable pub page-lose-train : Train → List ℕ → List ℕ
 page-lose-train t page =
@@ -100,6 +127,6 @@ page-lose-train t page =
 
 -- The key ring of this module: `unfolding opened` opens every definition above.
 unfoldable pub opened : Unit {0}
-unfolding table-in index-of put-in take-out with-record without-record counts-to train-index train-place page-add-visit moved-by-visit page-write-visit
-    page-remove-visit relation-index relation-place page-add-relation page-remove-relation page-lose-train
+unfolding table-in index-of found train-found visit-answer put-in take-out with-record without-record counts-to train-index train-place page-add-visit moved-by-visit page-write-visit
+    page-remove-visit relation-index relation-place page-add-relation page-remove-relation shifted left page-lose-train
 opened = tt

@@ -1,10 +1,8 @@
 // "A division is 49,152 bytes, six sheets by area." Dividing and merging copy pages: no record is read.
 ghost use mathlib.Core.Path.{_≡_};
-ghost use mathlib.Core.Bool.{Bool};
-ghost use Prim.Native.Nat.{_+_, _≤_, _<_};
+ghost use Prim.Native.Nat.{_≤_, _<_};
 ghost use lib.Dec.{T};
 ghost use lib.ListN.{length};
-ghost use Rattle.base.specs.Lists.{every};
 ghost use Rattle.sheet.specs.Sheets.{area-part, divide-refusal, after-divide, merge-refusal, after-merge};
 ghost use Rattle.sheet.specs.Copies.{kept-page, collected-page, spread, spread-all, collected, areas-in, areas-high};
 use crate::test;

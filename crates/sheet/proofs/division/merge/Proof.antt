@@ -1,5 +1,5 @@
 -- `sheet::division::merge` meets its contract: the tests that led to each return decide. Assumes nothing.
-use mathlib.Core.Path.{sym, _∙_, ap}
+use mathlib.Core.Path.{sym, _∙_}
 use lib.Dec.{T}
 use denote.Ref.{now}
 use Rattle.sheet.specs.Copies.{areas-high}
