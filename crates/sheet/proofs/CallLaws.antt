@@ -14,7 +14,7 @@ use Rattle.sheet.specs.Sheets.{good-sheet, good-division, divide-refusal
 use Rattle.sheet.specs.Copies.{areas-in, spread-all, collected}
 use Rattle.sheet.specs.Passes.{sheet-passes, division-passes}
 use Rattle.sheet.proofs.CopyLaws.{spread-divided, collected-merged}
-use Rattle.sheet.proofs.PassLaws.{over-all}
+use Rattle.sheet.proofs.PassLaws.{whole-test}
 
 module _ (n : Network) (sheet division : List ℕ) where
   -- the answer and the division afterwards
@@ -45,8 +45,7 @@ module _ (n : Network) (sheet division : List ℕ) where
 
       module _ (good : network-refusal n ≡ 0) where
         passed : divide-refusal n sheet division ≡ (6 if not (sheet-passes n 0 sheet) else 0)
-        unfolding sheet-passes
-        passed = tested ∙ rw (good, eq-eqb (length sheet) 8192 size, over-all n)
+        passed = tested ∙ rw (good, ← whole-test n sheet size)
 
         pub divide-bad-sheet : sheet-passes n 0 sheet ≡ false → Divides 6 division
         divide-bad-sheet e = divide-refused 6 (passed ∙ rw e) (λ z. absurd (omega arith))

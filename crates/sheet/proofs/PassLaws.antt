@@ -493,6 +493,16 @@ pub over-own : (n : Network) (a : ℕ) → 0 < a → over-area n a ≡ (λ k. li
 unfolding over-area in-group
 over-own n a h = fun-ext λ k. rw (ne-eqb a 0 (λ e. omega arith), lt-ltb 0 a h)
 
+-- the test of a sheet of 8,192 bytes: of all listed stations, or of one area's
+pub whole-test : (n : Network) (sheet : List ℕ) → length sheet ≡ 8192 → sheet-passes n 0 sheet ≡ good-sheet n (listed n) sheet
+unfolding sheet-passes
+whole-test n sheet size = rw (eq-eqb (length sheet) 8192 size, over-all n)
+
+pub area-test : (n : Network) (a : ℕ) (sheet : List ℕ) → 0 < a → length sheet ≡ 8192
+    → sheet-passes n a sheet ≡ good-sheet n (λ k. listed n k && in-group (area-of n) a k) sheet
+unfolding sheet-passes
+area-test n a sheet h size = rw (eq-eqb (length sheet) 8192 size, over-own n a h)
+
 pub place-over : (n : Network) (a : ℕ) (k : Station) (page : List ℕ) (o : Bool) → o ≡ over-area n a k → o ≡ true → good-page n k page ≡ place-passes n a k page
 unfolding place-passes
 place-over n a k page o p e = rw (← p, e)
