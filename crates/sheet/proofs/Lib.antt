@@ -10,3 +10,4 @@ pub mod FlatLaws
 pub mod ChangeLaws
 pub mod LossLaws
 pub mod AnewLaws
+pub mod CallLaws
