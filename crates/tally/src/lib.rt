@@ -109,3 +109,12 @@ pub fn raised(y: Tally, e: Edit, a: Answer) -> Raise
         tally: next,
     }
 }
+
+// The lent tally is raised; the answer is the refusal number or 0.
+pub fn raise_tally(y: &mut Tally, e: Edit, a: Answer) -> u8
+    ensures { λ r. ⌜ (r ≡ raise-refusal (now (y .entry)) a) × (now (y .exit) ≡ raise (now (y .entry)) e a) ⌝ }
+{
+    let end = raised(*y, e, a);
+    *y = end.tally;
+    end.refusal
+}
