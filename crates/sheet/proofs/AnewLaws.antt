@@ -12,9 +12,9 @@ use lib.Seq.{length-take-le}
 use borrow.Author.Tests.{eq-eqb}
 use Rattle.base.specs.Choice.{if_then_else_}
 use Rattle.base.specs.Lists.{any, every, each-two, same}
-use Rattle.base.proofs.Tests.{T-false, true-T, by-value}
 use Rattle.base.proofs.Lengths.{drop-next}
-use Rattle.base.proofs.Sorted.{every-head, every-tail, two-head, two-tail, same-equal, below-irreflexive, below-trans}
+use Rattle.base.proofs.Sorted.{two-head, two-tail, same-equal, below-itself, below-trans}
+use Rattle.base.proofs.Tests.{T-false, true-T, by-value, every-head, every-tail}
 use Rattle.railway.specs.Relations.{key, precedes, same-relation}
 use Rattle.timetable.specs.Tables.{insert, insert-if, lose, lose-all}
 use Rattle.timetable.proofs.TableLaws.{lose-all-length, lose-all-order}
@@ -36,13 +36,13 @@ unfolding any every precedes same-relation
 not-among q x [] t o = refl
 not-among q x (y ∷ ys) t o =
     let other : same (key q) (key y) ≡ false = T-false (same (key q) (key y)) (λ s.
-    below-irreflexive (key q) (below-trans (key q) (key x) (key q) t (rw (same-equal (key q) (key y) s) (every-head (precedes x) y ys o)))) in
+    below-itself (key q) (below-trans (key q) (key x) (key q) t (rw (same-equal (key q) (key y) s) (every-head (precedes x) y ys o)))) in
     rw (other, not-among q x ys t (every-tail (precedes x) y ys o))
 
 -- and it is no other than itself
 itself : (q x : Relation) → T (precedes q x) → same-relation q x ≡ true → ⊥
 unfolding precedes same-relation
-itself q x t e = below-irreflexive (key q) (rw (sym (same-equal (key q) (key x) (true-T (same (key q) (key x)) e))) at t)
+itself q x t e = below-itself (key q) (rw (sym (same-equal (key q) (key x) (true-T (same (key q) (key x)) e))) at t)
 
 -- a relation that is there stays one
 insert-there : (q : Relation) (rs : List Relation) → T (each-two precedes rs) → any (same-relation q) rs ≡ true → insert q rs ≡ rs

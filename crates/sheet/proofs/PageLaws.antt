@@ -15,9 +15,6 @@ use Rattle.base.proofs.Sorted.{same-equal, same-refl}
 use Rattle.base.proofs.Tests.{true-T, and-l, and-r, both, every-true, parts, every-head, every-tail, every-cons, every-weaker}
 use Rattle.railway.specs.Ranges.{station-ok, line-ok, run-ok}
 use Rattle.railway.specs.Networks.{listed, runs}
-use Rattle.base.proofs.Tests.{true-T, and-l, and-r, both}
-use Rattle.base.proofs.Counts.{every-true}
-use Rattle.base.proofs.Sorted.{parts, every-head, every-tail, every-weaker, same-equal, same-refl}
 use Rattle.timetable.specs.Tables.{Entry, Table, empty}
 use Rattle.timetable.specs.Visits.{ins, outs}
 use Rattle.timetable.specs.Good.{in-good, out-good, entry-good, table-good}

@@ -14,9 +14,6 @@ use Rattle.base.specs.Lists.{every, each-two, same}
 use Rattle.base.proofs.Lengths.{every-next}
 use Rattle.base.proofs.Sorted.{smaller-across, two-head, two-tail, two-cons, two-step, two-map, same-equal, same-refl, two-weaker}
 use Rattle.base.proofs.Tests.{true-T, and-l, and-r, both, or-l, or-r, or-cases, parts, every-head, every-tail, every-cons, every-weaker, every-map, every-true, every-both, T-false}
-use Rattle.base.proofs.Tests.{true-T, T-false, and-l, and-r, both, or-r, or-cases}
-use Rattle.base.proofs.Sorted.{parts, smaller-across, every-head, every-tail, every-weaker, every-map, two-head, two-tail, two-step, two-map, same-equal, same-refl}
-use Rattle.base.proofs.Counts.{every-true, every-both, each-two-weaker}
 use Rattle.railway.specs.Ranges.{train-ok}
 use Rattle.railway.specs.Networks.{listed, area-of}
 use Rattle.railway.specs.Relations.{relation-ok, precedes}

@@ -13,8 +13,6 @@ use borrow.Author.Tests.{ltb-true, eq-eqb}
 use Rattle.base.specs.Choice.{if_then_else_}
 use Rattle.base.specs.Lists.{every, within}
 use Rattle.base.proofs.Tests.{by-value, T-true, true-T, not-T-false, and-l, and-r, both, every-head, every-tail, every-cons, every-weaker}
-use Rattle.base.proofs.Tests.{by-value, T-true, true-T, not-T-false, and-l, and-r, both}
-use Rattle.base.proofs.Sorted.{every-head, every-tail, every-weaker}
 use Rattle.railway.specs.Ranges.{station-ok}
 use Rattle.railway.specs.Networks.{network-refusal, listed, area-of}
 use Rattle.timetable.specs.Tables.{empty}
