@@ -10,3 +10,4 @@ pub mod SheetLaws
 pub mod CopyLaws
 pub mod PassLaws
 pub mod CallLaws
+pub mod AnewLaws

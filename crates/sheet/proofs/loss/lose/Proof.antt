@@ -1,13 +1,12 @@
 -- `sheet::loss::lose` meets its contract, case by case: each return rewrites with the tests that led there. Assumes nothing.
 use borrow.Author.Needs.{needs}
-use mathlib.Core.Path.{_≡_, sym, ap, _∙_}
+use mathlib.Core.Path.{sym, _∙_}
 use mathlib.Core.Bool.{not}
 use borrow.Author.Tests.{eq-eqb, ne-eqb}
 use Rattle.base.specs.Lists.{keep}
 use Rattle.railway.specs.Ranges.{same-train}
 use Rattle.railway.specs.Relations.{used}
-use Rattle.railway.specs.declared.relation.Trains.{Trains}
-use Rattle.timetable.specs.Tables.{packed, fewer, lose}
+use Rattle.timetable.specs.Tables.{lose}
 use Rattle.sheet.specs.Types.{Connection, Disconnection}
 use Rattle.sheet.specs.Changes.{left}
 use Rattle.sheet.proofs.LossLaws.{fewer-second, kept-present}
