@@ -1,6 +1,9 @@
 pub mod ShelfLaws
 pub mod FindLaws
 pub mod PutLaws
+pub mod FlatLaws
+pub mod ChangeLaws
+pub mod LossLaws
 pub mod AreaLaws
 pub mod PageLaws
 pub mod SheetLaws
@@ -11,3 +14,4 @@ pub mod ChangeLaws
 pub mod LossLaws
 pub mod AnewLaws
 pub mod CallLaws
+pub mod AnewLaws
