@@ -3,13 +3,10 @@ ghost use mathlib.Core.Path.{_≡_};
 ghost use Rattle.timetable.specs.Visits.{with-in, with-out, amended, arrived-at, departed-at};
 ghost use Rattle.edits.specs.Types.{Place, Prepend, Append};
 ghost use Rattle.edits.specs.Pairs.{page-change, page-without, here-page, there-page};
-use railway::edit::Edit;
-use railway::edit::Extension;
-use railway::edit::Plan;
+use railway::edit::{Edit, Extension, Plan};
 use railway::minute::Minute;
 use railway::sorts::Train;
-use railway::visit::InLink;
-use railway::visit::OutLink;
+use railway::visit::{InLink, OutLink};
 use sheet::page;
 use sheet::page::VisitFound;
 
@@ -73,6 +70,14 @@ fn report_departure(page: &mut [u8], t: Train, time: Minute)
     }
 }
 
+// The train's visit and the train in relations are taken out.
+pub fn take_out(page: &mut [u8], t: Train)
+    ensures { λ _. ⌜ now (page .exit) ≡ page-without t (now (page .entry)) ⌝ }
+{
+    page::remove_visit(page, t);
+    page::lose_train(page, t);
+}
+
 fn prepend(page: &mut [u8], x: Extension)
     ensures { λ _. ⌜ now (page .exit) ≡ here-page (Prepend x) (now (page .entry)) ⌝ }
 {
@@ -88,7 +93,10 @@ fn append(page: &mut [u8], x: Extension)
     ensures { λ _. ⌜ now (page .exit) ≡ here-page (Append x) (now (page .entry)) ⌝ }
 {
     let p = x.plan;
-    let v = visits::linked_in(visits::link_from(x.other, x.line), visits::plan_visit(p));
+    let v = visits::linked_in(
+        visits::link_from(x.other, x.line),
+        visits::plan_visit(p),
+    );
     page::add_visit(page, p.train, v);
 }
 
@@ -96,6 +104,31 @@ fn place(page: &mut [u8], p: Plan)
     ensures { λ _. ⌜ now (page .exit) ≡ here-page (Place p) (now (page .entry)) ⌝ }
 {
     page::add_visit(page, p.train, visits::plan_visit(p));
+}
+
+// The page of s afterwards.
+pub fn change_here(page: &mut [u8], e: Edit)
+    ensures { λ _. ⌜ now (page .exit) ≡ here-page e (now (page .entry)) ⌝ }
+{
+    match e {
+        Edit::Place(p) => place(page, p),
+        Edit::Prepend(x) => prepend(page, x),
+        Edit::Append(x) => append(page, x),
+        Edit::DeleteFirst(d) => take_out(page, d.train),
+        Edit::DeleteLast(d) => take_out(page, d.train),
+        Edit::Amend(p) => amend(page, p),
+        Edit::ReportArrival(r) => report_arrival(page, r.train, r.time),
+        Edit::ReportDeparture(r) => report_departure(page, r.train, r.time),
+        Edit::AddRelation(r) => {
+            let relation = r.relation;
+            page::add_relation(page, relation)
+        }
+        Edit::RemoveRelation(r) => {
+            let relation = r.relation;
+            page::remove_relation(page, relation)
+        }
+        Edit::DeleteTrain(c) => take_out(page, c.train),
+    }
 }
 
 // The page of p afterwards.

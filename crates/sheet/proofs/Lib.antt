@@ -9,9 +9,5 @@ pub mod PageLaws
 pub mod SheetLaws
 pub mod CopyLaws
 pub mod PassLaws
-pub mod FlatLaws
-pub mod ChangeLaws
-pub mod LossLaws
 pub mod AnewLaws
 pub mod CallLaws
-pub mod AnewLaws
