@@ -118,3 +118,12 @@ pub fn raise_tally(y: &mut Tally, e: Edit, a: Answer) -> u8
     *y = end.tally;
     end.refusal
 }
+
+// The same for a caller that has the tally by value: it is lent for the raise and handed back, so that the caller lends nothing itself.
+pub fn raise_own(y: Tally, e: Edit, a: Answer) -> Raise
+    ensures { λ r. ⌜ (r .refusal ≡ raise-refusal y a) × (r .tally ≡ raise y e a) ⌝ }
+{
+    let mut tally = y;
+    let refusal = raise_tally(&mut tally, e, a);
+    Raise { refusal, tally }
+}
