@@ -3,10 +3,13 @@ ghost use mathlib.Core.Path.{_≡_};
 ghost use Rattle.timetable.specs.Visits.{with-in, with-out, amended, arrived-at, departed-at};
 ghost use Rattle.edits.specs.Types.{Place, Prepend, Append};
 ghost use Rattle.edits.specs.Pairs.{page-change, page-without, here-page, there-page};
-use railway::edit::{Edit, Extension, Plan};
+use railway::edit::Edit;
+use railway::edit::Extension;
+use railway::edit::Plan;
 use railway::minute::Minute;
 use railway::sorts::Train;
-use railway::visit::{InLink, OutLink};
+use railway::visit::InLink;
+use railway::visit::OutLink;
 use sheet::page;
 use sheet::page::VisitFound;
 
@@ -93,10 +96,7 @@ fn append(page: &mut [u8], x: Extension)
     ensures { λ _. ⌜ now (page .exit) ≡ here-page (Append x) (now (page .entry)) ⌝ }
 {
     let p = x.plan;
-    let v = visits::linked_in(
-        visits::link_from(x.other, x.line),
-        visits::plan_visit(p),
-    );
+    let v = visits::linked_in(visits::link_from(x.other, x.line), visits::plan_visit(p));
     page::add_visit(page, p.train, v);
 }
 
