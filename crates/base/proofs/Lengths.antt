@@ -43,6 +43,7 @@ module _ {A : Type 0} where
   pub every-next : (f : A → Bool) (l : List A) (i : ℕ) (d : A) → i < length l → every f (drop i l) ≡ (f (getD l i d) && every f (drop (i + 1) l))
   unfolding every
   every-next f l i d h = rw (drop-next l i d h)
+
 -- two lists of numbers compared from an index on: decided there, equal there, or at the end of both
 module _ (a b : List ℕ) (i : ℕ) where
   module _ (h : i < length a) (k : i < length b) where
