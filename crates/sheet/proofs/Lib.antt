@@ -6,3 +6,6 @@ pub mod PageLaws
 pub mod SheetLaws
 pub mod CopyLaws
 pub mod PassLaws
+pub mod FlatLaws
+pub mod ChangeLaws
+pub mod LossLaws

@@ -1,31 +1,38 @@
 -- The tests that the code makes decide what is good. A shelf passes just where it is that of the list that is read from it, each element of which passes and comes after
 -- the one before: indexes are turned into a list of records, neighbours into each two. A page passes just where it is good. Assumes nothing.
 use Prim.Native.Nat.{ℕ, zero, suc, _+_, _*_, _-_, _≤_, _<_, min}
-use mathlib.Core.Path.{_≡_, refl, sym, _∙_, ap, ap₂}
+use mathlib.Core.Path.{_≡_, refl, sym, _∙_, ap, ap₂, fun-ext}
 use mathlib.Core.Bool.{Bool, true, false, _&&_, _||_}
 use mathlib.Core.List.{List, [], _∷_, _++_, map, flatMap, append-assoc}
-use native.Mathlib.Nat.{min-eq-left, zero-add}
+use native.Mathlib.Nat.{min-eq-left, zero-add, sub-zero, add-sub-cancel-left}
 use native.Mathlib.Omega.{arith}
 use lib.Dec.{T, ltb, leb, eqb, leb→le, le→leb, eqb→eq}
-use lib.ListN.{length, getD, take, drop, take-append-drop, length-append, length-drop, length-map, length-replicate}
+use lib.ListN.{length, getD, take, drop, take-append-drop, length-append, length-drop, length-map, drop-of-length-le, length-replicate}
 use lib.Seq.{drop-cons, drop-drop, drop-at, take-at, take-all, take-take, length-take-le, drop-append-add}
-use borrow.Author.Tests.{eq-eqb, ne-eqb}
+use borrow.Author.Tests.{lt-ltb, le-leb, lt-leb, eq-eqb, ne-eqb}
 use Rattle.base.specs.Lists.{every, each-two, same}
+use Rattle.base.proofs.Lengths.{every-next}
 use Rattle.base.proofs.Sorted.{smaller-across, two-head, two-tail, two-cons, two-step, two-map, same-equal, same-refl, two-weaker}
-use Rattle.base.proofs.Tests.{true-T, and-l, and-r, both, or-l, or-r, or-cases, parts, every-head, every-tail, every-cons, every-weaker, every-map, every-true, every-both}
+use Rattle.base.proofs.Tests.{true-T, and-l, and-r, both, or-l, or-r, or-cases, parts, every-head, every-tail, every-cons, every-weaker, every-map, every-true, every-both, T-false}
+use Rattle.railway.specs.Ranges.{train-ok}
+use Rattle.railway.specs.Networks.{listed, area-of}
 use Rattle.railway.specs.Relations.{relation-ok, precedes}
 use Rattle.timetable.specs.Tables.{Entry, Table}
-use Rattle.timetable.specs.Good.{entry-good, table-good}
+use Rattle.timetable.specs.Good.{in-good, out-good, links-good, values-good, visit-good, entry-good, table-good}
+use Rattle.timetable.specs.Groups.{in-group}
+use Rattle.timetable.specs.Visits.{ins, outs}
 use Rattle.timetable.proofs.TableLaws.{number, precedes-across, table-facts, table-fits}
 use Rattle.records.specs.Bytes.{zeros, chunk, blank}
-use Rattle.records.specs.Records.{encode-entry, decode-entry, encode-relation, decode-relation}
+use Rattle.records.specs.Records.{decode-train, decode-visit, visit-bytes, encode-entry, decode-entry, encode-relation, decode-relation}
 use Rattle.records.proofs.RecordLaws.{entry-length, relation-length, entry-back, relation-back}
-use Rattle.sheet.specs.Types.{Station, Relation, Network}
+use Rattle.sheet.specs.Types.{Station, Train, Visit, InLink, OutLink, Relation, Network}
 use Rattle.sheet.specs.Pages.{shelf, encode-page, records-of, visit-records, relation-records, visits-of, relations-of, decode-page, good-page}
-use Rattle.sheet.specs.Passes.{earlier, record-passes, comes-after, each-index, records-pass, shelf-passes, visits-pass, relations-pass, content-passes, page-passes}
+use Rattle.sheet.specs.Sheets.{sixteen, six, page-at, good-sheet, sheet-at, good-division}
+use Rattle.sheet.specs.Passes.{over-area, place-passes, sheet-passes, division-passes}
+use Rattle.sheet.specs.Passes.{visit-run, relation-run, in-passes, out-passes, visit-passes, relation-passes, train-after, relation-after, earlier, record-passes, comes-after, each-index, records-pass, shelf-passes, visits-pass, relations-pass, content-passes, page-passes}
 use Rattle.sheet.proofs.PageLaws.{linked, Coded, records-length, records-are, shelf-length, page-length, relations-behind, good-coded, good-bytes, good-table}
-use Rattle.sheet.proofs.CopyLaws.{drop-take}
-use Rattle.sheet.proofs.SheetLaws.{blank-zeros, zeros-blank}
+use Rattle.sheet.proofs.CopyLaws.{drop-take, part-size}
+use Rattle.sheet.proofs.SheetLaws.{mk, station-at, sixteen-long, area-at, blank-zeros, zeros-blank}
 
 -- two tests that follow from each other are one
 pub same-test : (a b : Bool) → (T a → T b) → (T b → T a) → a ≡ b
@@ -355,3 +362,230 @@ page-test n s page = same-test (page-passes n s page) (good-page n s page) sound
 
     complete : T (good-page n s page) → T (page-passes n s page)
     complete t = rw (good-bytes n s page t) (encoded-passes n s (decode-page page) (good-table n s page t))
+
+-- what the code's tests say, one by one
+
+pub same-not : (a b : List ℕ) → ¬ (length a ≡ length b) → same a b ≡ false
+same-not a b d = T-false (same a b) (λ t. d (ap length (same-equal a b t)))
+
+pub links-pass : (n : Network) (s : Station) (v : Visit) → links-good n s v ≡ (in-passes n s (v .inward) && out-passes n s (v .outward))
+unfolding links-good ins outs in-passes out-passes every
+links-pass n s v = ap₂ (λ (a b : Bool). a && b) (into (v .inward)) (onto (v .outward))
+  where
+    and-true : (b : Bool) → (b && true) ≡ b
+    and-true true = refl
+    and-true false = refl
+
+    into : (l : InLink) → every (in-good n s) (elim l [ InLink.Nothing ↦ [] | InLink.From i ↦ i ∷ [] ]) ≡ in-passes n s l
+    into InLink.Nothing = refl
+    into (InLink.From i) = and-true (in-good n s i)
+
+    onto : (l : OutLink) → every (out-good n s) (elim l [ OutLink.Nothing ↦ [] | OutLink.To o ↦ o ∷ [] ]) ≡ out-passes n s l
+    onto OutLink.Nothing = refl
+    onto (OutLink.To o) = and-true (out-good n s o)
+
+-- the part of 16 bytes from a place on, as the code cuts it
+pub cut-chunk : (b : List ℕ) (i : ℕ) → take (16 * i + 16 - 16 * i) (drop (16 * i) b) ≡ chunk i b
+cut-chunk b i = rw (add-sub-cancel-left (16 * i) 16)
+
+module _ (b : List ℕ) (i : ℕ) where
+  pub train-first : i ≡ 0 → true ≡ train-after b i
+  unfolding train-after comes-after
+  train-first e = rw e
+
+  pub relation-first : i ≡ 0 → true ≡ relation-after b i
+  unfolding relation-after comes-after
+  relation-first e = rw e
+
+  pub train-next : ¬ (i ≡ 0) → (t u : Train) → t ≡ decode-train (take (16 * (i - 1) + 16 - 16 * (i - 1)) (drop (16 * (i - 1)) b))
+      → u ≡ decode-train (take (16 * i + 16 - 16 * i) (drop (16 * i) b)) → ltb (t .0) (u .0) ≡ train-after b i
+  unfolding train-after comes-after decode-entry
+  train-next d t u p q = rw (ne-eqb i 0 d, p, q, cut-chunk b (i - 1), cut-chunk b i)
+
+  pub relation-next : ¬ (i ≡ 0) → (r q : Relation) → r ≡ decode-relation (take (16 * (i - 1) + 16 - 16 * (i - 1)) (drop (16 * (i - 1)) b))
+      → q ≡ decode-relation (take (16 * i + 16 - 16 * i) (drop (16 * i) b)) → precedes r q ≡ relation-after b i
+  unfolding relation-after comes-after
+  relation-next d r q p v = rw (ne-eqb i 0 d, p, v, cut-chunk b (i - 1), cut-chunk b i)
+
+-- the tests that the code makes one after the other, joined
+
+pub visit-tests : (n : Network) (s : Station) (v : Visit) (a b c : Bool) → a ≡ values-good n s v → b ≡ in-passes n s (v .inward) → c ≡ out-passes n s (v .outward)
+    → (a && (b && c)) ≡ visit-good n s v
+unfolding visit-good
+visit-tests n s v a b c p q r = rw (p, q, r, links-pass n s v)
+
+pub visit-record-tests : (n : Network) (s : Station) (r own : List ℕ) (t : Train) (v : Visit) → t ≡ decode-train r → v ≡ decode-visit r → own ≡ visit-bytes t v
+    → (a b c : Bool) → a ≡ same r own → b ≡ train-ok t → c ≡ visit-good n s v → (a && (b && c)) ≡ visit-passes n s r
+unfolding visit-passes record-passes encode-entry decode-entry entry-good
+visit-record-tests n s r own t v e f o a b c p q w = rw (p, q, w, o, e, f)
+
+pub relation-record-tests : (r own : List ℕ) (q : Relation) → q ≡ decode-relation r → own ≡ encode-relation q
+    → (a b : Bool) → a ≡ same r own → b ≡ relation-ok q → (a && b) ≡ relation-passes r
+unfolding relation-passes record-passes
+relation-record-tests r own q e o a b p w = rw (p, w, o, e)
+
+-- indexes from i on, below n, that pass two tests
+
+unfoldable pub all-from : (ℕ → Bool) → (ℕ → Bool) → ℕ → ℕ → Bool
+all-from f g n i = each-index (λ j. f j && g j) (n - i) i
+
+module _ (f g : ℕ → Bool) (n i : ℕ) where
+  from-next : i < n → all-from f g n i ≡ ((f i && g i) && all-from f g n (i + 1))
+  unfolding all-from each-index
+  from-next h = let e : n - i ≡ suc (n - (i + 1)) = omega arith in ap (λ (k : ℕ). each-index (λ j. f j && g j) k i) e
+
+  pub from-first-not : i < n → f i ≡ false → all-from f g n i ≡ false
+  from-first-not h p = from-next h ∙ rw p
+
+  pub from-second-not : i < n → f i ≡ true → g i ≡ false → all-from f g n i ≡ false
+  from-second-not h p q = from-next h ∙ rw (p, q)
+
+  pub from-on : i < n → f i ≡ true → g i ≡ true → all-from f g n i ≡ all-from f g n (i + 1)
+  from-on h p q = from-next h ∙ rw (p, q)
+
+  pub from-end : n ≤ i → all-from f g n i ≡ true
+  unfolding all-from each-index
+  from-end h = let e : n - i ≡ 0 = omega arith in ap (λ (k : ℕ). each-index (λ j. f j && g j) k i) e
+
+pub visit-run-start : (n : Network) (s : Station) (k : ℕ) (b : List ℕ) → visit-run n s k b ≡ all-from (λ j. visit-passes n s (chunk j b)) (train-after b) k 0
+unfolding visit-run records-pass all-from visit-passes train-after
+visit-run-start n s k b = rw (sub-zero k)
+
+pub relation-run-start : (k : ℕ) (b : List ℕ) → relation-run k b ≡ all-from (λ j. relation-passes (chunk j b)) (relation-after b) k 0
+unfolding relation-run records-pass all-from relation-passes relation-after
+relation-run-start k b = rw (sub-zero k)
+
+-- shelves
+
+rest-is : (b : List ℕ) (k : ℕ) → take (length b - 16 * k) (drop (16 * k) b) ≡ drop (16 * k) b
+rest-is b k = take-all (length b - 16 * k) (drop (16 * k) b) (omega (arith, length-drop (16 * k) b))
+
+pub visits-tests : (n : Network) (s : Station) (k : ℕ) (b : List ℕ) (x y : Bool) → x ≡ visit-run n s k b → y ≡ blank (take (length b - 16 * k) (drop (16 * k) b))
+    → (x && y) ≡ visits-pass n s k b
+unfolding visits-pass shelf-passes visit-run
+visits-tests n s k b x y p q = rw (p, q, rest-is b k)
+
+pub relations-tests : (k : ℕ) (b : List ℕ) (x y : Bool) → x ≡ relation-run k b → y ≡ blank (take (length b - 16 * k) (drop (16 * k) b))
+    → (x && y) ≡ relations-pass k b
+unfolding relations-pass shelf-passes relation-run
+relations-tests k b x y p q = rw (p, q, rest-is b k)
+
+-- a page
+
+module _ (n : Network) (s : Station) (page : List ℕ) where
+  pub page-short : ¬ (length page ≡ 512) → false ≡ good-page n s page
+  unfolding page-passes
+  page-short d = rw (ne-eqb (length page) 512 d) at (page-test n s page)
+
+  module _ (size : length page ≡ 512) (k m : ℕ) (p : k ≡ getD page 0 0) (q : m ≡ getD page 1 0) where
+    pub page-many : 24 < k → false ≡ good-page n s page
+    unfolding page-passes
+    page-many h = rw (eq-eqb (length page) 512 size, ← p, lt-leb k 24 h) at (page-test n s page)
+
+    pub page-related : k ≤ 24 → 6 < m → false ≡ good-page n s page
+    unfolding page-passes
+    page-related h g = rw (eq-eqb (length page) 512 size, ← p, ← q, le-leb k 24 h, lt-leb m 6 g) at (page-test n s page)
+
+    pub page-tests : k ≤ 24 → m ≤ 6 → (x y z : Bool) → x ≡ blank (take 30 (drop 2 page)) → y ≡ visits-pass n s k (take 384 (drop 32 page))
+        → z ≡ relations-pass m (take 96 (drop 416 page)) → (x && (y && z)) ≡ good-page n s page
+    unfolding page-passes content-passes
+    page-tests h g x y z a b c =
+        rw (a, b, c) (rw (eq-eqb (length page) 512 size, ← p, ← q, le-leb k 24 h, le-leb m 6 g) at (page-test n s page))
+
+-- sheets
+
+pub over-all : (n : Network) → over-area n 0 ≡ listed n
+unfolding over-area
+over-all n = fun-ext λ k. go (listed n k)
+  where
+    go : (b : Bool) → (b && true) ≡ b
+    go true = refl
+    go false = refl
+
+pub over-own : (n : Network) (a : ℕ) → 0 < a → over-area n a ≡ (λ k. listed n k && in-group (area-of n) a k)
+unfolding over-area in-group
+over-own n a h = fun-ext λ k. rw (ne-eqb a 0 (λ e. omega arith), lt-ltb 0 a h)
+
+pub place-over : (n : Network) (a : ℕ) (k : Station) (page : List ℕ) (o : Bool) → o ≡ over-area n a k → o ≡ true → good-page n k page ≡ place-passes n a k page
+unfolding place-passes
+place-over n a k page o p e = rw (← p, e)
+
+pub place-bare : (n : Network) (a : ℕ) (k : Station) (page : List ℕ) (o : Bool) → o ≡ over-area n a k → o ≡ false → blank page ≡ place-passes n a k page
+unfolding place-passes
+place-bare n a k page o p e = rw (← p, e)
+
+-- the pages of a sheet from an index on
+unfoldable pub places-from : Network → ℕ → List ℕ → ℕ → Bool
+places-from n a sheet i = every (λ k. place-passes n a k (page-at sheet k)) (drop i sixteen)
+
+module _ (n : Network) (a : ℕ) (sheet : List ℕ) where
+  pub sheet-short : ¬ (length sheet ≡ 8192) → false ≡ sheet-passes n a sheet
+  unfolding sheet-passes
+  sheet-short d = rw (ne-eqb (length sheet) 8192 d)
+
+  pub places-start : length sheet ≡ 8192 → sheet-passes n a sheet ≡ places-from n a sheet 0
+  unfolding sheet-passes places-from place-passes good-sheet
+  places-start size = rw (eq-eqb (length sheet) 8192 size)
+
+  module _ (i k : ℕ) (e : k ≡ i + 1) where
+    places-next : i < 16 → places-from n a sheet i ≡ (place-passes n a (mk k) (take (512 * i + 512 - 512 * i) (drop (512 * i) sheet)) && places-from n a sheet (i + 1))
+    unfolding places-from page-at
+    places-next h =
+        let f : Station → Bool = λ j. place-passes n a j (page-at sheet j) in
+        let z : i + 1 - 1 ≡ i = omega arith in
+        every-next f sixteen i (mk 0) (sixteen-long i h)
+        ∙ ap (λ (j : Station). f j && every f (drop (i + 1) sixteen)) (station-at i h)
+        ∙ ap (λ (j : ℕ). place-passes n a (mk (i + 1)) (take 512 (drop (512 * j) sheet)) && every f (drop (i + 1) sixteen)) z
+        ∙ rw (e, add-sub-cancel-left (512 * i) 512)
+
+    pub places-not : i < 16 → place-passes n a (mk k) (take (512 * i + 512 - 512 * i) (drop (512 * i) sheet)) ≡ false → places-from n a sheet i ≡ false
+    places-not h p = places-next h ∙ rw p
+
+    pub places-on : i < 16 → place-passes n a (mk k) (take (512 * i + 512 - 512 * i) (drop (512 * i) sheet)) ≡ true
+        → places-from n a sheet i ≡ places-from n a sheet (i + 1)
+    places-on h p = places-next h ∙ rw p
+
+  pub places-end : (i : ℕ) → 16 ≤ i → places-from n a sheet i ≡ true
+  unfolding places-from every sixteen
+  places-end i h = rw (drop-of-length-le sixteen {i = i} h)
+
+-- the sheets of a division from an index on
+unfoldable pub sheets-from : Network → List ℕ → ℕ → Bool
+sheets-from n division i = every (λ a. good-sheet n (λ k. listed n k && in-group (area-of n) a k) (sheet-at division a)) (drop i six)
+
+module _ (n : Network) (division : List ℕ) where
+  pub division-short : ¬ (length division ≡ 49152) → false ≡ division-passes n division
+  unfolding division-passes
+  division-short d = rw (ne-eqb (length division) 49152 d)
+
+  module _ (size : length division ≡ 49152) where
+    pub sheets-start : division-passes n division ≡ sheets-from n division 0
+    unfolding division-passes sheets-from good-division
+    sheets-start = rw (eq-eqb (length division) 49152 size)
+
+    module _ (i a : ℕ) (e : a ≡ i + 1) where
+      sheets-next : i < 6 → sheets-from n division i
+          ≡ (sheet-passes n a (take (8192 * i + 8192 - 8192 * i) (drop (8192 * i) division)) && sheets-from n division (i + 1))
+      unfolding sheets-from sheet-at sheet-passes
+      sheets-next h =
+          let f : ℕ → Bool = λ b. good-sheet n (λ k. listed n k && in-group (area-of n) b k) (sheet-at division b) in
+          let part = take (8192 * i + 8192 - 8192 * i) (drop (8192 * i) division) in
+          let z : i + 1 - 1 ≡ i = omega arith in
+          let l : length part ≡ 8192 = part-size division (8192 * i) 8192 (omega arith) in
+          let c : take 8192 (drop (8192 * i) division) ≡ part = sym (rw (add-sub-cancel-left (8192 * i) 8192)) in
+          every-next f six i 0 h
+          ∙ ap (λ (b : ℕ). f b && every f (drop (i + 1) six)) (area-at i h ∙ sym e)
+          ∙ ap (λ (j : ℕ). good-sheet n (λ k. listed n k && in-group (area-of n) a k) (take 8192 (drop (8192 * j) division)) && every f (drop (i + 1) six)) (ap (λ (b : ℕ). b - 1) e ∙ z)
+          ∙ ap (λ (b : List ℕ). good-sheet n (λ k. listed n k && in-group (area-of n) a k) b && every f (drop (i + 1) six)) c
+          ∙ sym (rw (eq-eqb (length part) 8192 l, over-own n a (omega arith)))
+
+      pub sheets-not : i < 6 → sheet-passes n a (take (8192 * i + 8192 - 8192 * i) (drop (8192 * i) division)) ≡ false → sheets-from n division i ≡ false
+      sheets-not h p = sheets-next h ∙ rw p
+
+      pub sheets-on : i < 6 → sheet-passes n a (take (8192 * i + 8192 - 8192 * i) (drop (8192 * i) division)) ≡ true
+          → sheets-from n division i ≡ sheets-from n division (i + 1)
+      sheets-on h p = sheets-next h ∙ rw p
+
+  pub sheets-end : (i : ℕ) → 6 ≤ i → sheets-from n division i ≡ true
+  unfolding sheets-from every
+  sheets-end i h = rw (drop-of-length-le six {i = i} h)

@@ -117,7 +117,7 @@ station-index : (k : Station) → T (station-ok k) → k .0 - 1 < length sixteen
 unfolding sixteen
 station-index k t = omega (arith, station-low k t, station-high k t)
 
-sixteen-long : (i : ℕ) → i < 16 → i < length sixteen
+pub sixteen-long : (i : ℕ) → i < 16 → i < length sixteen
 unfolding sixteen
 sixteen-long i h = h
 

@@ -10,7 +10,6 @@ use Rattle.base.specs.Lists.{same}
 use Rattle.railway.specs.Networks.{listed, area-of}
 use Rattle.railway.specs.Relations.{relation-ok, precedes}
 use Rattle.timetable.specs.Good.{in-good, out-good, entry-good}
-use Rattle.timetable.specs.Groups.{in-group}
 use Rattle.timetable.specs.Tables.{Entry}
 use Rattle.records.specs.Bytes.{chunk, blank}
 use Rattle.records.specs.Records.{encode-entry, decode-entry, encode-relation, decode-relation}
@@ -61,6 +60,18 @@ visit-passes n s r = record-passes encode-entry decode-entry (entry-good n s) r
 unfoldable pub relation-passes : List ℕ → Bool
 relation-passes r = record-passes encode-relation decode-relation relation-ok r
 
+unfoldable pub train-after : List ℕ → ℕ → Bool
+train-after b i = comes-after decode-entry earlier b i
+
+unfoldable pub relation-after : List ℕ → ℕ → Bool
+relation-after b i = comes-after decode-relation precedes b i
+
+unfoldable pub visit-run : Network → Station → ℕ → List ℕ → Bool
+visit-run n s k b = records-pass encode-entry decode-entry (entry-good n s) earlier k b
+
+unfoldable pub relation-run : ℕ → List ℕ → Bool
+relation-run k b = records-pass encode-relation decode-relation relation-ok precedes k b
+
 unfoldable pub visits-pass : Network → Station → ℕ → List ℕ → Bool
 visits-pass n s k b = shelf-passes encode-entry decode-entry (entry-good n s) earlier k b
 
@@ -82,7 +93,11 @@ page-passes n s page = eqb (length page) 512 && (leb (getD page 0 0) 24 && (leb 
 
 -- the stations of a sheet by its area's number: 0 for all that are listed
 unfoldable pub over-area : Network → ℕ → Station → Bool
-over-area n a k = if eqb a 0 then listed n k else listed n k && in-group (area-of n) a k
+over-area n a k = listed n k && (eqb a 0 || eqb a (area-of n k))
+
+-- the page of such a station is good, any other is zeros
+unfoldable pub place-passes : Network → ℕ → Station → List ℕ → Bool
+place-passes n a k page = if over-area n a k then good-page n k page else blank page
 
 -- what is no sheet or division does not pass
 unfoldable pub sheet-passes : Network → ℕ → List ℕ → Bool
@@ -93,6 +108,6 @@ division-passes n division = eqb (length division) 49152 && good-division n divi
 
 -- The key ring of this module: `unfolding opened` opens every definition above.
 unfoldable pub opened : Unit {0}
-unfolding in-passes out-passes record-passes comes-after each-index records-pass shelf-passes visit-passes relation-passes visits-pass relations-pass
-    content-passes page-passes over-area sheet-passes division-passes
+unfolding in-passes out-passes record-passes comes-after each-index records-pass shelf-passes visit-passes relation-passes train-after relation-after visit-run relation-run
+    visits-pass relations-pass content-passes page-passes over-area place-passes sheet-passes division-passes
 opened = tt
