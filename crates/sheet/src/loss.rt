@@ -51,7 +51,12 @@ fn put_before(rest: Trains, place: Train, train: Train) -> Trains
     let c = rest.c;
     if 0 < place.0 {
         if train.0 != place.0 {
-            return Trains { a: place, b: a, c: b, d: c };
+            return Trains {
+                a: place,
+                b: a,
+                c: b,
+                d: c,
+            };
         }
     }
     rest
