@@ -1,6 +1,7 @@
 -- What a look-up's answer says of the visit that was looked for. Assumes nothing.
 use Prim.Native.Nat.{ℕ}
 use mathlib.Core.Path.{_≡_, refl, sym, _∙_}
+use mathlib.Core.List.{List}
 use mathlib.Core.Option.{Option, none, some}
 use native.Mathlib.Omega.{arith}
 use mathlib.Core.Bool.{true, false}
@@ -8,7 +9,8 @@ use Rattle.railway.specs.declared.sorts.Train.{Train}
 use Rattle.railway.specs.declared.visit.Visit.{Visit}
 use Rattle.timetable.specs.Tables.{Table, visit-of, has-visit}
 use Rattle.sheet.specs.declared.page.VisitFound.{VisitFound}
-use Rattle.sheet.specs.Changes.{visit-answer}
+use Rattle.sheet.specs.Changes.{visit-answer, table-in, page-write-visit}
+use Rattle.edits.specs.Pairs.{page-change, page-changed}
 
 pub found-some : (o : Option Visit) (r : VisitFound) (v : Visit) → r ≡ visit-answer o → r ≡ VisitFound.Is v → o ≡ some v
 unfolding visit-answer
@@ -28,3 +30,13 @@ there-some t tab v e = rw e
 pub there-none : (t : Train) (tab : Table) → visit-of t tab ≡ none → has-visit t tab ≡ false
 unfolding has-visit
 there-none t tab e = rw e
+
+-- and what changing its visit makes of a page
+module _ (t : Train) (f : Visit → Visit) (page : List ℕ) where
+  pub change-none : visit-of t (table-in page) ≡ none → page-change t f page ≡ page
+  unfolding page-change page-changed
+  change-none e = rw e
+
+  pub change-some : (v : Visit) → visit-of t (table-in page) ≡ some v → page-change t f page ≡ page-write-visit t (f v) page
+  unfolding page-change page-changed
+  change-some v e = rw e

@@ -1,9 +1,9 @@
 -- Laws of lists of bytes that are moved, copied or cleared one by one: what a loop has left at each turn, and what it leaves at the end. A part that is
 -- lent is stated as the whole by `part-back`. Assumes nothing.
 use mathlib.Core.Path.{_≡_, refl, sym, ap, _∙_}
-use mathlib.Core.Bool.{Bool, true, false, _&&_}
+use mathlib.Core.Bool.{true, false}
 use mathlib.Core.List.{List, [], _∷_, _++_, append-nil}
-use Prim.Native.Nat.{ℕ, zero, suc, _+_, _-_, _*_, _≤_, _<_}
+use Prim.Native.Nat.{ℕ, zero, suc, _+_, _-_, _≤_, _<_}
 use native.Mathlib.Nat.{zero-add, le-of-suc-le-suc, not-suc-le-zero, add-sub-cancel-left}
 use native.Mathlib.Numerals.{add-one}
 use native.Mathlib.Omega.{arith}
@@ -13,7 +13,7 @@ use lib.Seq.{take-at, drop-at, drop-drop, drop-cons, getD-take, getD-drop, getD-
 use borrow.Author.Tests.{le-leb, eq-eqb, ne-eqb}
 use Rattle.base.specs.Lists.{every}
 use Rattle.base.proofs.Lengths.{every-next}
-use Rattle.records.specs.Bytes.{zeros, word, splice, overwritten, roomed, fronted, blank}
+use Rattle.records.specs.Bytes.{zeros, word, splice, overwritten, roomed, fronted}
 
 -- past the end
 

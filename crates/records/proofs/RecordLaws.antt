@@ -1,17 +1,17 @@
 -- Records read back: both kinds have 16 bytes, and reading what was written gives it again, for a visit where its links name stations. A number of two bytes
 -- is its low byte and 256 times its high byte, and a case of each enum computes. Assumes nothing.
-use Prim.Native.Nat.{ℕ, _+_, _*_, _/_, _%_, _<_}
+use Prim.Native.Nat.{ℕ, _+_, _*_}
 use mathlib.Core.Path.{_≡_, refl}
 use mathlib.Core.Bool.{Bool, true, false}
-use mathlib.Core.List.{List, [], _∷_, _++_}
+use mathlib.Core.List.{List, _++_}
 use native.Mathlib.Omega.{arith}
-use lib.Dec.{T, ltb, eqb, ltb→lt}
+use lib.Dec.{T, ltb→lt}
 use lib.ListN.{length, take, drop}
 use borrow.Author.Tests.{ne-eqb}
 use Rattle.base.proofs.Tests.{and-l, and-r}
 use Rattle.timetable.specs.Tables.{Entry}
-use Rattle.records.specs.Types.{Train, InLink, OutLink, Visit, Trains, Relation, Connection, Disconnection, Dependency}
-use Rattle.records.specs.Bytes.{low, high, word, flag, occurred}
+use Rattle.records.specs.Types.{Train, InLink, OutLink, Visit, Relation, Connection, Disconnection, Dependency}
+use Rattle.records.specs.Bytes.{low, high, flag, occurred}
 use Rattle.records.specs.Records.{in-station, in-line, out-station, out-line, out-run, in-link, out-link, named-in, named-out, named}
 use Rattle.records.specs.Records.{visit-bytes, encode-entry, decode-visit, decode-train, decode-entry, relation-bytes, encode-relation, decode-trains, decode-relation}
 

@@ -1,26 +1,25 @@
 -- On the page of a table the functions on pages do what the functions on tables do: a record is found where the list has it, and the shelf with it put in,
 -- taken out or written over is the shelf of the list so changed. Assumes nothing.
 use Prim.Native.Nat.{ℕ, suc, _+_, _*_, _-_, _≤_, _<_, min}
-use mathlib.Core.Path.{_≡_, refl, sym, ap, ap₂, _∙_}
-use mathlib.Core.Bool.{Bool, true, false, not, _&&_, _||_}
-use mathlib.Core.List.{List, [], _∷_, _++_, map, flatMap, append-assoc, append-nil}
-use native.Mathlib.Nat.{not-suc-le-zero}
-use native.Mathlib.Numerals.{add-one}
+use mathlib.Core.Path.{_≡_, refl, sym, ap, _∙_}
+use mathlib.Core.Bool.{Bool, true, false, not, _||_}
+use mathlib.Core.List.{List, [], _∷_, _++_, map, append-assoc, append-nil}
 use native.Mathlib.Omega.{arith}
-use lib.Dec.{T, ltb, leb, eqb, ltb→lt, lt→ltb}
+use lib.Dec.{T, ltb, eqb, ltb→lt, lt→ltb}
 use lib.ListN.{length, getD, set, take, drop, length-append, length-drop, length-map}
-use lib.Seq.{take-at, drop-at, length-take-le, set-append-left}
-use borrow.Author.Tests.{ltb-true, ltb-false, lt-ltb, le-ltb, eqb-true, ne-eqb, eq-eqb}
+use lib.Seq.{take-at, drop-at, length-take-le}
+use borrow.Author.Tests.{ltb-true, ltb-false, eqb-true, ne-eqb}
 use Rattle.base.specs.Choice.{if_then_else_, _if_else_}
 use Rattle.base.specs.Lists.{any, every, keep, count, each-two, same, below}
 use Rattle.base.proofs.Counts.{keep-every}
 use Rattle.base.proofs.Lengths.{length-keep}
 use Rattle.base.proofs.Sorted.{two-head, two-tail, smaller, same-equal, below-itself}
-use Rattle.base.proofs.Tests.{T-true, T-false, true-T, by-value, every-head, every-tail, every-weaker}
+use Rattle.base.proofs.Tests.{T-false, true-T, by-value, T-true, every-head, every-tail, every-weaker}
+use Rattle.base.specs.Lists.{any, every, keep, count, each-two, same}
 use Rattle.railway.specs.Ranges.{same-train}
 use Rattle.railway.specs.Relations.{key, precedes, same-relation}
 use Rattle.timetable.specs.Tables.{Entry, Table, enter, add-visit, change-entry, change-visit, has-relation, insert, add-relation, drop-relation, lose-all}
-use Rattle.timetable.proofs.TableLaws.{number, enter-length}
+use Rattle.timetable.proofs.TableLaws.{number}
 use Rattle.records.specs.Bytes.{zeros, word, splice}
 use Rattle.records.specs.Records.{named, visit-bytes, encode-entry, decode-entry, encode-relation, decode-relation}
 use Rattle.records.proofs.RecordLaws.{entry-length, relation-length, word-back, relation-back, entry-back}
@@ -287,7 +286,7 @@ module _ (t : Train) (tab : Table) (fit : Fitting tab) where
 
 -- relations
 
-insert-cut : (q : Relation) (rs : List Relation) → any (same-relation q) rs ≡ false
+pub insert-cut : (q : Relation) (rs : List Relation) → any (same-relation q) rs ≡ false
     → let i = index-of (λ b. precedes q (decode-relation b)) (map encode-relation rs) in insert q rs ≡ take i rs ++ (q ∷ drop i rs)
 unfolding insert index-of any
 insert-cut q [] n = refl
@@ -345,7 +344,7 @@ module _ (q : Relation) (tab : Table) (fit : Fitting tab) where
 
 -- the table read back
 
-relations-read : (rs : List Relation) → map decode-relation (map encode-relation rs) ≡ rs
+pub relations-read : (rs : List Relation) → map decode-relation (map encode-relation rs) ≡ rs
 relations-read [] = refl
 relations-read (r ∷ rs) = λ i. relation-back r i ∷ relations-read rs i
 

@@ -2,17 +2,16 @@
 -- or `merged`. Assumes nothing.
 use Prim.Native.Nat.{ℕ, zero, suc, _+_, _*_, _-_, _≤_, _<_}
 use mathlib.Core.Path.{_≡_, refl, sym, _∙_, ap, ap₂}
-use mathlib.Core.Bool.{Bool, true, false, _&&_}
+use mathlib.Core.Bool.{Bool, true, false}
 use mathlib.Core.List.{List, [], _∷_, _++_, map, flatMap}
 use native.Mathlib.Nat.{add-sub-cancel-left, zero-add, suc-add}
 use mathlib.Core.Logic.{by-cases}
 use native.Mathlib.Decide.{ℕ-discrete}
 use native.Mathlib.Omega.{arith}
-use lib.Dec.{T, ltb, leb, eqb, leb→le, le→leb}
-use lib.ListN.{length, getD, take, drop, length-append, length-take, length-drop, length-replicate}
+use lib.Dec.{T, leb, eqb, leb→le, le→leb}
+use lib.ListN.{length, getD, take, drop, length-append, length-drop, length-replicate}
 use lib.Seq.{take-at, take-add, take-all, take-take, take-nil, drop-nil, drop-drop, take-append-add, length-take-le}
 use borrow.Author.Tests.{eq-eqb, ne-eqb, lt-ltb}
-use Rattle.base.specs.Choice.{if_then_else_}
 use Rattle.base.specs.Lists.{every, within}
 use Rattle.base.proofs.Tests.{true-T, and-l, and-r, both, every-head, every-tail}
 use Rattle.railway.specs.Ranges.{station-ok, area-ok}
@@ -20,10 +19,10 @@ use Rattle.railway.specs.Networks.{network-refusal, area-of}
 use Rattle.timetable.specs.Groups.{in-group}
 use Rattle.records.specs.Bytes.{zeros, overwritten}
 use Rattle.sheet.specs.Types.{Station, Area, Network}
-use Rattle.sheet.specs.Sheets.{sixteen, six, page-at, sheet-at, area-part, divided, merged}
+use Rattle.sheet.specs.Sheets.{sixteen, page-at, sheet-at, area-part, divided, merged}
 use Rattle.sheet.specs.Copies.{kept-page, areas-in, areas-high, spread, spread-all, collected-page, collected}
 use Rattle.sheet.proofs.AreaLaws.{area-high}
-use Rattle.sheet.proofs.SheetLaws.{mk, area-number, station-low, station-high, page-size, sheet-size, page-row, sheet-row, row-size, division-size}
+use Rattle.sheet.proofs.SheetLaws.{mk, station-low, station-high, page-size, page-row, sheet-row, row-size, division-size}
 
 -- an area's part
 

@@ -1,11 +1,13 @@
 pub mod ShelfLaws
 pub mod FindLaws
 pub mod PutLaws
+pub mod FlatLaws
+pub mod ChangeLaws
+pub mod LossLaws
 pub mod AreaLaws
 pub mod PageLaws
 pub mod SheetLaws
 pub mod CopyLaws
 pub mod PassLaws
-pub mod FlatLaws
-pub mod ChangeLaws
-pub mod LossLaws
+pub mod AnewLaws
+pub mod CallLaws

@@ -1,14 +1,14 @@
 -- A train taken out of the four places of a connection or disconnection: place by place from the last, and the second place tells whether two are left.
 -- Each law goes by cases of the tests of one place. Assumes nothing.
-use Prim.Native.Nat.{ℕ, suc, _≤_, _<_}
+use Prim.Native.Nat.{suc, _<_}
 use mathlib.Core.Path.{_≡_, refl, sym, ap, _∙_}
 use mathlib.Core.Bool.{Bool, true, false, not, _&&_, _||_}
 use mathlib.Core.List.{List, [], _∷_}
-use mathlib.Core.Option.{Option, none, some}
+use mathlib.Core.Option.{none, some}
 use native.Mathlib.Omega.{arith}
 use lib.Dec.{T, ltb, eqb, ltb→lt}
-use lib.ListN.{length, getD}
-use borrow.Author.Tests.{lt-ltb, le-ltb, ne-eqb}
+use lib.ListN.{length}
+use borrow.Author.Tests.{le-ltb, ne-eqb}
 use Rattle.base.specs.Choice.{if_then_else_}
 use Rattle.base.specs.Lists.{any, every, keep}
 use Rattle.base.proofs.Tests.{every-head, every-tail, every-keep}
@@ -85,7 +85,7 @@ second (x ∷ y ∷ us) p =
     let there : 0 < y .0 = ltb→lt 0 (y .0) (every-head present y us (every-tail present x (y ∷ us) p)) in
     le-ltb (suc (suc (length us))) 2 (omega arith) ∙ sym (ne-eqb (y .0) 0 (λ e. omega arith))
 
-pub fewer-second : (make : Trains → Relation) (us : List Train) → T (every present us)
+fewer-second : (make : Trains → Relation) (us : List Train) → T (every present us)
     → fewer make us ≡ (if eqb (packed us .b .0) 0 then none else some (make (packed us)))
 unfolding fewer
 fewer-second make us p = rw (second us p)
@@ -99,6 +99,13 @@ present-kept (x ∷ xs) = go (present x) refl (present-kept xs)
     go true e ih = rw e ih
     go false e ih = ih
 
-pub kept-present : (q : Train → Bool) (ts : Trains) → T (every present (keep q (used ts)))
+kept-present : (q : Train → Bool) (ts : Trains) → T (every present (keep q (used ts)))
 unfolding used
 kept-present q ts = every-keep present q (keep present (ts .a ∷ ts .b ∷ ts .c ∷ ts .d ∷ [])) (present-kept (ts .a ∷ ts .b ∷ ts .c ∷ ts .d ∷ []))
+
+-- what is left of a group, from the trains that stay
+pub fewer-rest : (make : Trains → Relation) (t : Train) (ts us : Trains) → us ≡ packed (keep (λ u. not (same-train t u)) (used ts))
+    → fewer make (keep (λ u. not (same-train t u)) (used ts)) ≡ (if eqb (us .b .0) 0 then none else some (make us))
+fewer-rest make t ts us e =
+    let q : Train → Bool = λ u. not (same-train t u) in
+    rw e (fewer-second make (keep q (used ts)) (kept-present q ts))

@@ -1,14 +1,14 @@
 -- A page and its table: a table within the limits, no link of which has station 0, has a page of 512 bytes, and that page is read back as the table. So a good
 -- page is that of its table and of no other. Each record is read back by itself; the records of a shelf by induction. Assumes nothing.
-use Prim.Native.Nat.{ℕ, zero, suc, _+_, _*_, _-_, _≤_, min}
+use Prim.Native.Nat.{ℕ, _*_, _-_, _≤_, min}
 use mathlib.Core.Path.{_≡_, refl, sym, _∙_, ap, ap₂}
-use mathlib.Core.Bool.{Bool, true, false, _&&_}
+use mathlib.Core.Bool.{Bool, true}
 use mathlib.Core.List.{List, [], _∷_, _++_, map, flatMap, append-assoc, append-nil}
 use native.Mathlib.Nat.{min-eq-left}
 use native.Mathlib.Omega.{arith}
 use lib.Dec.{T, ltb, leb→le}
-use lib.ListN.{length, getD, take, drop, replicate, length-append, length-replicate}
-use lib.Seq.{take-at, drop-at, drop-drop}
+use lib.ListN.{length, drop, length-append}
+use lib.Seq.{drop-at, drop-drop}
 use borrow.Author.Tests.{lt-ltb}
 use Rattle.base.specs.Lists.{every, same}
 use Rattle.base.proofs.Sorted.{same-equal, same-refl}
@@ -17,13 +17,14 @@ use Rattle.railway.specs.Ranges.{station-ok, line-ok, run-ok}
 use Rattle.railway.specs.Networks.{listed, runs}
 use Rattle.timetable.specs.Tables.{Entry, Table, empty}
 use Rattle.timetable.specs.Visits.{ins, outs}
-use Rattle.timetable.specs.Good.{in-good, out-good, links-good, values-good, visit-good, entry-good, table-good}
-use Rattle.timetable.proofs.TableLaws.{GoodTable, table-facts, visit-facts}
+use Rattle.timetable.specs.Good.{in-good, out-good, entry-good, table-good}
+use Rattle.timetable.proofs.TableLaws.{table-facts, visit-facts}
 use Rattle.records.specs.Bytes.{zeros}
 use Rattle.records.specs.Records.{named-in, named-out, named, encode-entry, decode-entry, encode-relation, decode-relation}
 use Rattle.records.proofs.RecordLaws.{entry-length, relation-length, entry-back, relation-back}
-use Rattle.sheet.specs.Types.{Station, Visit, InLink, OutLink, Relation, Connection, Disconnection, Dependency, Network}
+use Rattle.sheet.specs.Types.{Station, Visit, InLink, OutLink, Relation, Network}
 use Rattle.sheet.specs.Pages.{shelf, encode-page, records-of, visit-records, relation-records, visits-of, relations-of, decode-page, good-page}
+use Rattle.sheet.proofs.FlatLaws.{shelf-length, records-flat}
 
 -- no link of the entry's visit has station 0
 abbrev pub linked : Entry → Bool
@@ -31,39 +32,18 @@ linked e = named (e .visit)
 
 -- a shelf: records of 16 bytes
 
-module _ {A : Type 0} (encode : A → List ℕ) (wide : (x : A) → length (encode x) ≡ 16) where
-  pub records-length : (xs : List A) → length (flatMap encode xs) ≡ 16 * length xs
-  unfolding flatMap
-  records-length [] = refl
-  records-length (x ∷ xs) = length-append (encode x) (flatMap encode xs) ∙ omega (arith, wide x, records-length xs)
+module _ {A : Type 0} (encode : A → List ℕ) (wide : (x : A) → length (encode x) ≡ 16) (decode : List ℕ → A) (ok : A → Bool)
+    (back : (x : A) → T (ok x) → decode (encode x) ≡ x) where
+  pub map-back : (xs : List A) → T (every ok xs) → map decode (map encode xs) ≡ xs
+  map-back [] t = refl
+  map-back (x ∷ xs) t = ap₂ (λ y ys. y ∷ ys) (back x (every-head ok x xs t)) (map-back xs (every-tail ok x xs t))
 
-  pub shelf-length : (k : ℕ) (xs : List A) → length xs ≤ k → length (shelf encode k xs) ≡ 16 * k
+  pub shelf-back : (k : ℕ) (xs : List A) (q : List ℕ) → length xs ≤ k → T (every ok xs) → map decode (records-of (min (length xs) k) (shelf encode k xs ++ q)) ≡ xs
   unfolding shelf
-  shelf-length k xs h =
-      length-append (flatMap encode xs) (zeros (16 * (k - length xs)))
-      ∙ omega (arith, records-length xs, length-replicate {A = ℕ} (16 * (k - length xs)) 0)
-
-  -- the records, one by one
-  pub records-are : (xs : List A) (q : List ℕ) → records-of (length xs) (flatMap encode xs ++ q) ≡ map encode xs
-  unfolding flatMap records-of
-  records-are [] q = refl
-  records-are (x ∷ xs) q =
-      let e : (encode x ++ flatMap encode xs) ++ q ≡ encode x ++ (flatMap encode xs ++ q) = append-assoc (encode x) (flatMap encode xs) q in
-      ap (λ (b : List ℕ). take 16 b ∷ records-of (length xs) (drop 16 b)) e
-      ∙ ap₂ (λ (r b : List ℕ). r ∷ records-of (length xs) b) (take-at (encode x) (flatMap encode xs ++ q) 16 (wide x)) (drop-at (encode x) (flatMap encode xs ++ q) 16 (wide x))
-      ∙ ap (λ (rs : List (List ℕ)). encode x ∷ rs) (records-are xs q)
-
-  module _ (decode : List ℕ → A) (ok : A → Bool) (back : (x : A) → T (ok x) → decode (encode x) ≡ x) where
-    pub map-back : (xs : List A) → T (every ok xs) → map decode (map encode xs) ≡ xs
-    map-back [] t = refl
-    map-back (x ∷ xs) t = ap₂ (λ y ys. y ∷ ys) (back x (every-head ok x xs t)) (map-back xs (every-tail ok x xs t))
-
-    pub shelf-back : (k : ℕ) (xs : List A) (q : List ℕ) → length xs ≤ k → T (every ok xs) → map decode (records-of (min (length xs) k) (shelf encode k xs ++ q)) ≡ xs
-    unfolding shelf
-    shelf-back k xs q h t =
-        ap₂ (λ n b. map decode (records-of n b)) (min-eq-left h) (append-assoc (flatMap encode xs) (zeros (16 * (k - length xs))) q)
-        ∙ ap (map decode) (records-are xs (zeros (16 * (k - length xs)) ++ q))
-        ∙ map-back xs t
+  shelf-back k xs q h t =
+      ap₂ (λ n b. map decode (records-of n b)) (min-eq-left h) (append-assoc (flatMap encode xs) (zeros (16 * (k - length xs))) q)
+      ∙ ap (map decode) (records-flat encode wide xs (zeros (16 * (k - length xs)) ++ q))
+      ∙ map-back xs t
 
 -- a page
 
@@ -73,7 +53,8 @@ pub record Coded (tab : Table) : Type 0 where
   pub relations : length (tab .relations) ≤ 6
   pub links : T (every linked (tab .visits))
 
-always : Relation → Bool
+-- a test that every relation passes
+unfoldable pub always : Relation → Bool
 always r = true
 
 module _ (tab : Table) (c : Coded tab) where

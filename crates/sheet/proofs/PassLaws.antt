@@ -7,8 +7,8 @@ use mathlib.Core.List.{List, [], _∷_, _++_, map, flatMap, append-assoc}
 use native.Mathlib.Nat.{min-eq-left, zero-add, sub-zero, add-sub-cancel-left}
 use native.Mathlib.Omega.{arith}
 use lib.Dec.{T, ltb, leb, eqb, leb→le, le→leb, eqb→eq}
-use lib.ListN.{length, getD, take, drop, take-append-drop, length-append, length-drop, length-map, drop-of-length-le, length-replicate}
-use lib.Seq.{drop-cons, drop-drop, drop-at, take-at, take-all, take-take, length-take-le, drop-append-add}
+use lib.ListN.{length, getD, take, drop, take-append-drop, length-drop, length-map, drop-of-length-le}
+use lib.Seq.{drop-cons, drop-drop, drop-at, take-at, take-all, take-take, length-take-le}
 use borrow.Author.Tests.{lt-ltb, le-leb, lt-leb, eq-eqb, ne-eqb}
 use Rattle.base.specs.Lists.{every, each-two, same}
 use Rattle.base.proofs.Lengths.{every-next}
@@ -30,7 +30,9 @@ use Rattle.sheet.specs.Pages.{shelf, encode-page, records-of, visit-reco
 use Rattle.sheet.specs.Sheets.{sixteen, six, page-at, good-sheet, sheet-at, good-division}
 use Rattle.sheet.specs.Passes.{over-area, place-passes, sheet-passes, division-passes}
 use Rattle.sheet.specs.Passes.{visit-run, relation-run, in-passes, out-passes, visit-passes, relation-passes, train-after, relation-after, earlier, record-passes, comes-after, each-index, records-pass, shelf-passes, visits-pass, relations-pass, content-passes, page-passes}
-use Rattle.sheet.proofs.PageLaws.{linked, Coded, records-length, records-are, shelf-length, page-length, relations-behind, good-coded, good-bytes, good-table}
+use Rattle.sheet.proofs.ShelfLaws.{length-records, record-there}
+use Rattle.sheet.proofs.FlatLaws.{flat-length, shelf-length, records-flat}
+use Rattle.sheet.proofs.PageLaws.{linked, always, Coded, page-length, relations-behind, good-coded, good-bytes, good-table}
 use Rattle.sheet.proofs.CopyLaws.{drop-take, part-size}
 use Rattle.sheet.proofs.SheetLaws.{mk, station-at, sixteen-long, area-at, blank-zeros, zeros-blank}
 
@@ -86,19 +88,6 @@ module _ {A : Type 0} (d : A) where
 
 -- records
 
-pub records-count : (k : ℕ) (b : List ℕ) → length (records-of k b) ≡ k
-unfolding records-of
-records-count zero b = refl
-records-count (suc k) b = ap suc (records-count k (drop 16 b))
-
-record-at : (k : ℕ) (b : List ℕ) (i : ℕ) → i < k → getD (records-of k b) i [] ≡ chunk i b
-unfolding records-of
-record-at zero b i h = absurd (omega arith)
-record-at (suc k) b zero h = refl
-record-at (suc k) b (suc i) h =
-    let e : 16 * suc i ≡ 16 + 16 * i = omega arith in
-    record-at k (drop 16 b) i (omega arith) ∙ ap (take 16) (drop-drop (16 * i) 16 b) ∙ ap (λ (j : ℕ). take 16 (drop j b)) (sym e)
-
 -- what is cut off behind the records does not matter
 pub records-cut : (k m : ℕ) (b : List ℕ) → k ≤ m → records-of k (take (16 * m) b) ≡ records-of k b
 unfolding records-of
@@ -148,8 +137,8 @@ module _ {A : Type 0} (encode : A → List ℕ) (decode : List ℕ → A) (ok : 
       where
         one : (j : ℕ) → j < length (records-of k b) → T (passes (getD (records-of k b) j []))
         one j h =
-            let l : j < k = omega (arith, records-count k b) in
-            rw (record-at k b j l) (and-l (passes (chunk j b)) (comes-after decode before b j) (both-tests j l))
+            let l : j < k = omega (arith, length-records k b) in
+            rw (record-there k b j l) (and-l (passes (chunk j b)) (comes-after decode before b j) (both-tests j l))
 
     in-order : T (each-two (λ r q. before (decode r) (decode q)) (records-of k b))
     unfolding comes-after
@@ -157,11 +146,11 @@ module _ {A : Type 0} (encode : A → List ℕ) (decode : List ℕ → A) (ok : 
       where
         one : (j : ℕ) → suc j < length (records-of k b) → T (before (decode (getD (records-of k b) j [])) (decode (getD (records-of k b) (suc j) [])))
         one j h =
-            let l : suc j < k = omega (arith, records-count k b) in
+            let l : suc j < k = omega (arith, length-records k b) in
             let e : suc j - 1 ≡ j = omega arith in
             let u : T (eqb (suc j) 0 || before (decode (chunk (suc j - 1) b)) (decode (chunk (suc j) b))) =
             and-r (passes (chunk (suc j) b)) (comes-after decode before b (suc j)) (both-tests (suc j) l) in
-            rw (record-at k b j (omega arith), record-at k b (suc j) l)
+            rw (record-there k b j (omega arith), record-there k b (suc j) l)
             (or-cases (eqb (suc j) 0) (before (decode (chunk (suc j - 1) b)) (decode (chunk (suc j) b))) u
             (λ z. absurd (omega (arith, eqb→eq (suc j) 0 z))) (λ v. rw e at v))
 
@@ -173,7 +162,7 @@ module _ {A : Type 0} (encode : A → List ℕ) (decode : List ℕ → A) (ok : 
       let rs = records-of k b in
       let own : List ℕ → Bool = λ r. same r (encode (decode r)) in
       let all = each-passes k b u in
-      let n : length (map decode rs) ≡ k = length-map rs decode ∙ records-count k b in
+      let n : length (map decode rs) ≡ k = length-map rs decode ∙ length-records k b in
       let e : length (drop (16 * k) b) ≡ 16 * (m - length (map decode rs)) = length-drop (16 * k) b ∙ omega arith in
       record {
         bytes =
@@ -204,8 +193,8 @@ module _ {A : Type 0} (encode : A → List ℕ) (decode : List ℕ → A) (ok : 
     chunk-is : (j : ℕ) → j < length xs → chunk j (shelf encode m xs) ≡ getD (map encode xs) j []
     unfolding shelf
     chunk-is j h =
-        sym (record-at (length xs) (shelf encode m xs) j h)
-        ∙ ap (λ (rs : List (List ℕ)). getD rs j []) (records-are encode wide xs (zeros (16 * (m - length xs))))
+        sym (record-there (length xs) (shelf encode m xs) j h)
+        ∙ ap (λ (rs : List (List ℕ)). getD rs j []) (records-flat encode wide xs (zeros (16 * (m - length xs))))
 
     after-is : (j : ℕ) → j < length xs → T (comes-after decode before (shelf encode m xs) j)
     unfolding comes-after
@@ -222,7 +211,7 @@ module _ {A : Type 0} (encode : A → List ℕ) (decode : List ℕ → A) (ok : 
     shelf-out =
         both (records-pass encode decode ok before (length xs) (shelf encode m xs)) (blank (drop (16 * length xs) (shelf encode m xs)))
         (test-index (λ i. passes (chunk i (shelf encode m xs)) && comes-after decode before (shelf encode m xs) i) (length xs) 0 one)
-        (rw (drop-at (flatMap encode xs) (zeros (16 * (m - length xs))) (16 * length xs) (records-length encode wide xs)) (zeros-blank (16 * (m - length xs))))
+        (rw (drop-at (flatMap encode xs) (zeros (16 * (m - length xs))) (16 * length xs) (flat-length encode wide xs)) (zeros-blank (16 * (m - length xs))))
       where
         one : (j : ℕ) → j < length xs → T (passes (chunk (0 + j) (shelf encode m xs)) && comes-after decode before (shelf encode m xs) (0 + j))
         one j h =
@@ -266,11 +255,11 @@ module _ (n : Network) (s : Station) (page : List ℕ) (size : length page ≡ 5
 
   entries-count : length entries ≡ getD page 0 0
   unfolding entries
-  entries-count = length-map (records-of (getD page 0 0) visit-part) decode-entry ∙ records-count (getD page 0 0) visit-part
+  entries-count = length-map (records-of (getD page 0 0) visit-part) decode-entry ∙ length-records (getD page 0 0) visit-part
 
   relations-count : length kept-relations ≡ getD page 1 0
   unfolding kept-relations
-  relations-count = length-map (records-of (getD page 1 0) relation-part) decode-relation ∙ records-count (getD page 1 0) relation-part
+  relations-count = length-map (records-of (getD page 1 0) relation-part) decode-relation ∙ length-records (getD page 1 0) relation-part
 
   table-is : decode-page page ≡ record { visits = entries; relations = kept-relations }
   unfolding decode-page visits-of relations-of visit-records relation-records entries kept-relations
@@ -310,9 +299,6 @@ module _ (n : Network) (s : Station) (page : List ℕ) (size : length page ≡ 5
       (rw table-is table-passes)
 
 -- the page of a good table passes
-
-always : Relation → Bool
-always r = true
 
 module _ (n : Network) (s : Station) (tab : Table) (t : T (table-good n s tab)) where
   coded : Coded tab
@@ -505,6 +491,16 @@ over-all n = fun-ext λ k. go (listed n k)
 pub over-own : (n : Network) (a : ℕ) → 0 < a → over-area n a ≡ (λ k. listed n k && in-group (area-of n) a k)
 unfolding over-area in-group
 over-own n a h = fun-ext λ k. rw (ne-eqb a 0 (λ e. omega arith), lt-ltb 0 a h)
+
+-- the test of a sheet of 8,192 bytes: of all listed stations, or of one area's
+pub whole-test : (n : Network) (sheet : List ℕ) → length sheet ≡ 8192 → sheet-passes n 0 sheet ≡ good-sheet n (listed n) sheet
+unfolding sheet-passes
+whole-test n sheet size = rw (eq-eqb (length sheet) 8192 size, over-all n)
+
+pub area-test : (n : Network) (a : ℕ) (sheet : List ℕ) → 0 < a → length sheet ≡ 8192
+    → sheet-passes n a sheet ≡ good-sheet n (λ k. listed n k && in-group (area-of n) a k) sheet
+unfolding sheet-passes
+area-test n a sheet h size = rw (eq-eqb (length sheet) 8192 size, over-own n a h)
 
 pub place-over : (n : Network) (a : ℕ) (k : Station) (page : List ℕ) (o : Bool) → o ≡ over-area n a k → o ≡ true → good-page n k page ≡ place-passes n a k page
 unfolding place-passes

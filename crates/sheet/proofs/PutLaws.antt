@@ -1,9 +1,9 @@
 -- A record put in or taken out on a shelf of a page: what a callee that was lent the part from the record's place on left there, said of the shelf and of the
 -- page. Both sides are the bytes before the place, the new ones, and the bytes behind. Assumes nothing.
 use Prim.Native.Nat.{ℕ, _+_, _*_, _-_, _≤_, _<_}
-use mathlib.Core.Path.{_≡_, refl, sym, ap, _∙_}
-use mathlib.Core.Bool.{Bool, true, false}
-use mathlib.Core.List.{List, [], _∷_, _++_, append-assoc}
+use mathlib.Core.Path.{_≡_, sym, ap, _∙_}
+use mathlib.Core.Bool.{true, false}
+use mathlib.Core.List.{List, _++_, append-assoc}
 use native.Mathlib.Nat.{add-assoc}
 use native.Mathlib.Omega.{arith}
 use lib.ListN.{length, getD, set, take, drop, length-append, length-drop, length-replicate}
@@ -43,6 +43,16 @@ put-whole b new y from i n many h room e =
     e ∙ rw (le-leb 16 (length (take k (drop at b))) (omega arith), part, less, take-take m k (drop at b) (omega arith)) in
     lent-whole b y from (16 * i) k (ap length is ∙ length-append new (take m (drop at b)) ∙ omega arith)
     ∙ ap (λ (z : List ℕ). take from b ++ splice (16 * i) z (drop from b)) (is ∙ rw (← drop-drop (16 * i) from b))
+
+-- the same where the shelf is all there is
+pub put-part : (b new y : List ℕ) (i n : ℕ) → length new ≡ 16 → i ≤ n → 16 * n + 16 ≤ length b
+    → y ≡ fronted new (take (16 * n + 16 - 16 * i) (drop (16 * i) b))
+    → take (16 * i) b ++ (y ++ drop (16 * n + 16 - 16 * i) (drop (16 * i) b)) ≡ put-in n i new b
+put-part b new y i n many h room e =
+    let at : 16 * i ≡ 0 + 16 * i = omega arith in
+    let k : 16 * n + 16 - 16 * i ≡ 0 + 16 * n + 16 - (0 + 16 * i) = omega arith in
+    (λ j. take (at j) b ++ (y ++ drop (k j) (drop (at j) b)))
+    ∙ put-whole b new y 0 i n many h (omega arith) (e ∙ (λ j. fronted new (take (k j) (drop (at j) b))))
 
 -- the front record taken out of the part
 pub take-whole : (b y : List ℕ) (from i n : ℕ) → i < n → from + 16 * n ≤ length b

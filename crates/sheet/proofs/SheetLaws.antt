@@ -4,18 +4,18 @@
 use Prim.Native.Nat.{ℕ, zero, suc, _+_, _*_, _-_, _≤_, _<_}
 use mathlib.Core.Path.{_≡_, refl, sym, _∙_, ap, ap₂, fun-ext}
 use mathlib.Core.Bool.{Bool, true, false, not, _&&_}
-use mathlib.Core.List.{List, [], _∷_, _++_, map, flatMap}
+use mathlib.Core.List.{List, [], _∷_, _++_, flatMap}
 use native.Mathlib.Omega.{arith}
 use lib.Dec.{T, ltb, leb, eqb, leb→le, le→leb, eqb→eq}
-use lib.ListN.{length, getD, take, drop, length-append, length-take, length-drop, length-replicate, List·getD-map}
+use lib.ListN.{length, getD, take, drop, length-append, length-drop, length-replicate, List·getD-map}
 use lib.Seq.{take-at, take-add, take-all, drop-drop, drop-append-add, length-take-le}
-use borrow.Author.Tests.{ltb-true, ltb-false, eqb-true, eq-eqb}
+use borrow.Author.Tests.{ltb-true, eq-eqb}
 use Rattle.base.specs.Choice.{if_then_else_}
 use Rattle.base.specs.Lists.{every, within}
 use Rattle.base.proofs.Tests.{by-value, T-true, true-T, not-T-false, and-l, and-r, both, every-head, every-tail, every-cons, every-weaker}
 use Rattle.railway.specs.Ranges.{station-ok}
 use Rattle.railway.specs.Networks.{network-refusal, listed, area-of}
-use Rattle.timetable.specs.Tables.{Table, empty}
+use Rattle.timetable.specs.Tables.{empty}
 use Rattle.timetable.specs.Machine.{Timetable}
 use Rattle.timetable.specs.Groups.{in-group, divide, merge}
 use Rattle.timetable.specs.Good.{Good, table-good}

@@ -1,8 +1,8 @@
 -- What the functions on a page answer and do to its bytes, whatever they are. A record is put in, taken out or written over on a shelf, the visits' at byte 32
 -- or the relations' at byte 416, and the count in byte 0 or 1 follows. What is no page of 512 bytes, or counts more records than there is room for, is left
 -- as it was. On the page of a good table they do what the functions on tables do (proofs/ChangeLaws.antt). Assumes nothing.
-use Prim.Native.Nat.{ℕ, zero, suc, _+_, _*_, _-_, min}
-use mathlib.Core.Bool.{Bool, true, false, not, _&&_}
+use Prim.Native.Nat.{ℕ, suc, _+_, _*_, _-_, min}
+use mathlib.Core.Bool.{Bool, not, _&&_}
 use mathlib.Core.List.{List, [], _∷_, _++_}
 use mathlib.Core.Option.{Option, none, some}
 use lib.Dec.{ltb, leb, eqb}
@@ -18,7 +18,7 @@ use Rattle.railway.specs.declared.relation.Trains.{Trains}
 use Rattle.sheet.specs.declared.loss.Left.{Left}
 use Rattle.sheet.specs.declared.page.Found.{Found}
 use Rattle.sheet.specs.declared.page.VisitFound.{VisitFound}
-use Rattle.sheet.specs.Pages.{shelf, visit-records, relation-records, relations-of, decode-page}
+use Rattle.sheet.specs.Pages.{shelf, records-of, visit-records, relation-records, relations-of, decode-page}
 
 -- the table that a page holds; none where it is no page
 unfoldable pub table-in : List ℕ → Table
@@ -118,6 +118,28 @@ unfoldable pub left : Option Relation → Left
 left none = Left.Nothing
 left (some r) = Left.Is r
 
+-- on a part with n relation records in order: the relation put in its place, where one that is there already stays one, and how many there are then
+
+unfoldable pub is-shelved : Relation → ℕ → List ℕ → Bool
+is-shelved q n b = ltb (index-of (λ r. same-relation q (decode-relation r)) (records-of n b)) n
+
+unfoldable pub shelved : Relation → ℕ → List ℕ → List ℕ
+shelved q n b =
+    if is-shelved q n b then b
+    else put-in n (index-of (λ r. precedes q (decode-relation r)) (records-of n b)) (encode-relation q) b
+
+unfoldable pub shelved-count : Relation → ℕ → List ℕ → ℕ
+shelved-count q n b = if is-shelved q n b then n else n + 1
+
+-- the same of what is left of a relation
+unfoldable pub shelved-left : Left → ℕ → List ℕ → List ℕ
+shelved-left Left.Nothing n b = b
+shelved-left (Left.Is q) n b = shelved q n b
+
+unfoldable pub left-count : Left → ℕ → List ℕ → ℕ
+left-count Left.Nothing n b = n
+left-count (Left.Is q) n b = shelved-count q n b
+
 -- the relations anew, the train taken out of them
 unfoldable pub page-lose-train : Train → List ℕ → List ℕ
 page-lose-train t page =
@@ -128,5 +150,5 @@ page-lose-train t page =
 -- The key ring of this module: `unfolding opened` opens every definition above.
 unfoldable pub opened : Unit {0}
 unfolding table-in index-of found train-found visit-answer put-in take-out with-record without-record counts-to train-index train-place page-add-visit moved-by-visit page-write-visit
-    page-remove-visit relation-index relation-place page-add-relation page-remove-relation shifted left page-lose-train
+    page-remove-visit relation-index relation-place page-add-relation page-remove-relation shifted left is-shelved shelved shelved-count shelved-left left-count page-lose-train
 opened = tt

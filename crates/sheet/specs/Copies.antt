@@ -1,10 +1,10 @@
 -- Dividing and merging as copies of pages, by the list of the areas of stations 1 to 16: what the functions that copy do. On the areas of a network they are `divided` and
 -- `merged` (proofs/CopyLaws.antt). Assumes nothing.
-use Prim.Native.Nat.{ℕ, _+_, _*_, _-_}
-use mathlib.Core.Bool.{Bool, true, false, _&&_}
-use mathlib.Core.List.{List, [], _∷_, map, flatMap}
+use Prim.Native.Nat.{ℕ, _+_, _-_}
+use mathlib.Core.Bool.{Bool}
+use mathlib.Core.List.{List, map, flatMap}
 use lib.Dec.{ltb, leb, eqb}
-use lib.ListN.{getD, take, drop}
+use lib.ListN.{getD}
 use Rattle.base.specs.Choice.{if_then_else_}
 use Rattle.base.specs.Lists.{every}
 use Rattle.railway.specs.Networks.{area-of}

@@ -4,3 +4,4 @@ pub mod Changes
 pub mod Sheets
 pub mod Copies
 pub mod Passes
+pub mod Layout

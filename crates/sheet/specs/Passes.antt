@@ -1,7 +1,7 @@
 -- Whether a page, a sheet and a division are good, as the code tests it: record by record, page by page. A record is read, written anew and compared, so that a test never
 -- names a byte's meaning. proofs/PassLaws.antt has that these tests are `good-page`, `good-sheet` and `good-division`. Assumes nothing.
 use Prim.Native.Nat.{ℕ, zero, suc, _+_, _*_, _-_}
-use mathlib.Core.Bool.{Bool, true, false, _&&_, _||_}
+use mathlib.Core.Bool.{Bool, true, _&&_, _||_}
 use mathlib.Core.List.{List}
 use lib.Dec.{ltb, leb, eqb}
 use lib.ListN.{length, getD, take, drop}
@@ -13,7 +13,7 @@ use Rattle.timetable.specs.Good.{in-good, out-good, entry-good}
 use Rattle.timetable.specs.Tables.{Entry}
 use Rattle.records.specs.Bytes.{chunk, blank}
 use Rattle.records.specs.Records.{encode-entry, decode-entry, encode-relation, decode-relation}
-use Rattle.sheet.specs.Types.{Station, InLink, OutLink, Relation, Network}
+use Rattle.sheet.specs.Types.{Station, InLink, OutLink, Network}
 use Rattle.sheet.specs.Pages.{good-page}
 use Rattle.sheet.specs.Sheets.{good-sheet, good-division}
 

@@ -1,12 +1,11 @@
 // "A division is 49,152 bytes, six sheets by area." Dividing and merging copy pages: no record is read.
 ghost use mathlib.Core.Path.{_≡_};
-ghost use mathlib.Core.Bool.{Bool};
-ghost use Prim.Native.Nat.{_+_, _≤_, _<_};
+ghost use Prim.Native.Nat.{_≤_, _<_};
 ghost use lib.Dec.{T};
 ghost use lib.ListN.{length};
-ghost use Rattle.base.specs.Lists.{every};
-ghost use Rattle.sheet.specs.Sheets.{area-part};
+ghost use Rattle.sheet.specs.Sheets.{area-part, divide-refusal, after-divide, merge-refusal, after-merge};
 ghost use Rattle.sheet.specs.Copies.{kept-page, collected-page, spread, spread-all, collected, areas-in, areas-high};
+use crate::test;
 use railway::network::Network;
 use railway::sorts::Area;
 use railway::sorts::Station;
@@ -131,4 +130,46 @@ fn areas(network: Network) -> [u8; 16]
         network.area_of(Station(15)),
         network.area_of(Station(16)),
     ]
+}
+
+// "Dividing puts each station's entries in its area's sheet": 5, 3, 4 or 6, and the division is left as it was; else 0.
+pub fn divide(sheet: &[u8], division: &mut [u8], network: Network) -> u8
+    ensures { λ r. ⌜ (r ≡ divide-refusal network (now (sheet .entry)) (now (division .entry))) × (now (division .exit) ≡ after-divide network (now (sheet .entry)) (now (division .entry))) ⌝ }
+{
+    if sheet.len() != 8192 {
+        return 5;
+    }
+    if division.len() != 49152 {
+        return 5;
+    }
+    let refused = network.refusal();
+    if refused != 0 {
+        return refused;
+    }
+    if test::good_sheet(sheet, network, 0) {
+        fill_all(division, sheet, areas(network));
+        return 0;
+    }
+    6
+}
+
+// "merging collects them"
+pub fn merge(division: &[u8], sheet: &mut [u8], network: Network) -> u8
+    ensures { λ r. ⌜ (r ≡ merge-refusal network (now (division .entry)) (now (sheet .entry))) × (now (sheet .exit) ≡ after-merge network (now (division .entry)) (now (sheet .entry))) ⌝ }
+{
+    if division.len() != 49152 {
+        return 5;
+    }
+    if sheet.len() != 8192 {
+        return 5;
+    }
+    let refused = network.refusal();
+    if refused != 0 {
+        return refused;
+    }
+    if test::good_division(division, network) {
+        collect(sheet, division, areas(network));
+        return 0;
+    }
+    6
 }

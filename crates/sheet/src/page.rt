@@ -1,16 +1,20 @@
 // A station's page: finding a visit or a relation, and changing the page by one record. What is no page of 512 bytes, or counts more records than there is
 // room for, is left as it was.
+ghost use mathlib.Core.List.{map};
 ghost use mathlib.Core.Path.{_≡_};
 ghost use Prim.Native.Nat.{_+_, _*_, _-_, _<_, _≤_};
 ghost use lib.Dec.{eqb, ltb};
 ghost use lib.ListN.{length, getD};
 ghost use Rattle.railway.specs.Relations.{precedes, same-relation};
-ghost use Rattle.timetable.specs.Tables.{visit-of, has-relation};
-ghost use Rattle.records.specs.Bytes.{word};
-ghost use Rattle.records.specs.Records.{decode-relation};
-ghost use Rattle.sheet.specs.Pages.{records-of};
+ghost use Rattle.timetable.specs.Tables.{visit-of, has-relation, lose-all};
+ghost use Rattle.records.specs.Bytes.{zeros, word};
+ghost use Rattle.records.specs.Records.{encode-relation, decode-relation};
+ghost use Rattle.sheet.specs.Pages.{shelf, records-of};
 ghost use Rattle.sheet.specs.Changes.{table-in, index-of, with-record, without-record, train-found, visit-answer, page-add-visit, moved-by-visit};
 ghost use Rattle.sheet.specs.Changes.{page-write-visit, page-remove-visit, page-add-relation, page-remove-relation};
+ghost use Rattle.sheet.specs.Changes.{shelved, shelved-count, shelved-left, left-count, page-lose-train};
+use crate::loss;
+use crate::loss::Left;
 use railway::relation::Relation;
 use railway::sorts::Train;
 use railway::visit::Visit;
@@ -265,4 +269,64 @@ pub fn remove_relation(page: &mut [u8], relation: Relation)
     if i < n {
         take_out(page, 1, 416, i);
     }
+}
+
+// Puts a relation in its place among the n that a part holds, unless it is there, and answers how many there are then.
+fn shelve(part: &mut [u8], n: usize, relation: Relation) -> usize
+    requires { ⌜ (length (now part) ≡ 96) × (n < 6) ⌝ }
+    ensures { λ r. ⌜ (r ≡ shelved-count relation n (now (part .entry))) × (now (part .exit) ≡ shelved relation n (now (part .entry))) ⌝ }
+{
+    let there = relation_index(part, n, relation);
+    if there < n {
+        return n;
+    }
+    let i = relation_place(part, n, relation);
+    let at = 16 * i;
+    let end = 16 * n + 16;
+    bytes::put_front(&mut part[at..end], record::relation_record(relation));
+    n + 1
+}
+
+// The same of what is left of a relation.
+fn shelve_left(part: &mut [u8], n: usize, rest: Left) -> usize
+    requires { ⌜ (length (now part) ≡ 96) × (n < 6) ⌝ }
+    ensures { λ r. ⌜ (r ≡ left-count rest n (now (part .entry))) × (now (part .exit) ≡ shelved-left rest n (now (part .entry))) ⌝ }
+{
+    match rest {
+        Left::Is(q) => shelve(part, n, q),
+        Left::Nothing => n,
+    }
+}
+
+// Writes what is left of n relations without the train into an empty part, and answers how many there are.
+fn shelve_rest(part: &mut [u8], from: &[u8], n: usize, train: Train) -> usize
+    requires { ⌜ (now part ≡ zeros 96) × (n ≤ 6) ⌝ }
+    ensures { λ r. ⌜ (r ≡ length (lose-all train (map decode-relation (records-of n (now (from .entry)))))) × (now (part .exit) ≡ shelf encode-relation 6 (lose-all train (map decode-relation (records-of n (now (from .entry)))))) ⌝ }
+{
+    let mut m = 0;
+    let mut k = n;
+    while 0 < k {
+        let r = record::relation_in(bytes::record_at(from, 16 * (k - 1)));
+        let rest = loss::lose(r, train);
+        m = shelve_left(part, m, rest);
+        k -= 1;
+    }
+    m
+}
+
+// Takes the train out of all relations: they are written anew, in order, and those that become equal are one.
+pub fn lose_train(page: &mut [u8], train: Train)
+    ensures { λ _. ⌜ now (page .exit) ≡ page-lose-train train (now (page .entry)) ⌝ }
+{
+    if page.len() != 512 {
+        return;
+    }
+    let n = bytes::size(page[1]);
+    if 6 < n {
+        return;
+    }
+    let mut part = [0u8; 96];
+    let m = shelve_rest(&mut part, &page[416..512], n, train);
+    bytes::copy(&mut page[416..512], &part);
+    page[1] = m as u8;
 }

@@ -7,7 +7,7 @@ ghost use Rattle.base.specs.Lists.{same};
 ghost use Rattle.timetable.specs.Good.{values-good, visit-good};
 ghost use Rattle.sheet.specs.Pages.{good-page};
 ghost use Rattle.sheet.specs.Passes.{in-passes, out-passes, visit-passes, relation-passes, train-after, relation-after, visit-run, relation-run};
-ghost use Rattle.sheet.specs.Passes.{visits-pass, relations-pass, page-passes, over-area, place-passes, sheet-passes, division-passes};
+ghost use Rattle.sheet.specs.Passes.{visits-pass, relations-pass, over-area, place-passes, sheet-passes, division-passes};
 use railway::network::Network;
 use railway::sorts::Station;
 use railway::visit;

@@ -1,7 +1,6 @@
 -- `records::bytes::put_front` meets its contract: room is made, and the record is written over the first 16 bytes. Assumes nothing.
 use native.Mathlib.Omega.{arith}
 use borrow.Author.Needs.{needs}
-use mathlib.Core.Path.{_≡_, refl}
 use lib.ListN.{length}
 use denote.Ref.{now}
 use borrow.Author.Tests.{lt-leb}

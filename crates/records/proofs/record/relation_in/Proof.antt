@@ -23,7 +23,9 @@ trains-in-requires-2 c κs = search needs
 
 returns-2 : tie.Need-returns-2
 unfolding decode-relation
-returns-2 c = simp (← c .before .before .before .before .byte-at .ensures, ne-eqb _ _ (c .before .before .if1 .left), eq-eqb _ _ (c .before .if2 .taken), c .trains-in2 .ensures, c .before .before .before .byte-at2 .ensures)
+returns-2 c =
+    let kind = c .before .before .before .before .byte-at .ensures in
+    simp (← kind, ne-eqb _ _ (c .before .before .if1 .left), eq-eqb _ _ (c .before .if2 .taken), c .trains-in2 .ensures, c .before .before .before .byte-at2 .ensures)
 
 word-at-requires : tie.Need-word-at-requires
 word-at-requires c κs = search needs
@@ -33,7 +35,10 @@ word-at-requires-2 c κs = search needs
 
 returns-3 : tie.Need-returns-3
 unfolding decode-relation
-returns-3 c = simp (← c .before .before .before .before .before .byte-at .ensures, ne-eqb _ _ (c .before .before .before .if1 .left), ne-eqb _ _ (c .before .before .if2 .left), ← c .word-at2 .ensures, ← c .before .word-at .ensures, ← c .before .before .before .before .byte-at2 .ensures)
+returns-3 c =
+    let interval = c .before .before .before .before .byte-at2 .ensures in
+    let kind = c .before .before .before .before .before .byte-at .ensures in
+    simp (← kind, ne-eqb _ _ (c .before .before .before .if1 .left), ne-eqb _ _ (c .before .before .if2 .left), ← c .word-at2 .ensures, ← c .before .word-at .ensures, ← interval)
 
 pub relation-in-spec : {M : Type 1} → statement M
 relation-in-spec =

@@ -4,7 +4,7 @@ use Prim.Native.Nat.{_*_, _-_, _≤_}
 use mathlib.Core.Path.{_≡_, refl, sym, _∙_}
 use native.Mathlib.Nat.{add-sub-cancel-left}
 use native.Mathlib.Omega.{arith}
-use lib.ListN.{length, take, drop, length-take, length-drop}
+use lib.ListN.{length, take, drop}
 use denote.Ref.{now}
 use Rattle.sheet.specs.Copies.{spread}
 use Rattle.sheet.proofs.CopyLaws.{filled-next, filled-length, part-size, filled, spread-size, spread-page}

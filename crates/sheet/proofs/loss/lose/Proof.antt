@@ -1,16 +1,11 @@
 -- `sheet::loss::lose` meets its contract, case by case: each return rewrites with the tests that led there. Assumes nothing.
 use borrow.Author.Needs.{needs}
-use mathlib.Core.Path.{_≡_, sym, ap, _∙_}
-use mathlib.Core.Bool.{not}
+use mathlib.Core.Path.{sym, _∙_}
 use borrow.Author.Tests.{eq-eqb, ne-eqb}
-use Rattle.base.specs.Lists.{keep}
-use Rattle.railway.specs.Ranges.{same-train}
-use Rattle.railway.specs.Relations.{used}
-use Rattle.railway.specs.declared.relation.Trains.{Trains}
-use Rattle.timetable.specs.Tables.{packed, fewer, lose}
+use Rattle.timetable.specs.Tables.{lose}
 use Rattle.sheet.specs.Types.{Connection, Disconnection}
 use Rattle.sheet.specs.Changes.{left}
-use Rattle.sheet.proofs.LossLaws.{fewer-second, kept-present}
+use Rattle.sheet.proofs.LossLaws.{fewer-rest}
 use Rattle.sheet.proofs.loss.lose.Statement.{statement}
 use Rattle.sheet.proofs.loss.lose.Tie as tie
 
@@ -29,8 +24,8 @@ returns c =
     let g = c .before .before .before .before .before .before .relation .given in
     let s = c .before .before .before .before .before .before .before .before .args in
     let have = sym (c .before .before .before .before .has-train .ensures) ∙ c .before .before .before .if1 .taken in
-    let rest = sym (c .before .before .others .ensures) in
-    sym (rw (g .1, have, fewer-second (Connection (g .0 .0)) (keep (λ u. not (same-train (s .train) u)) (used (g .0 .1 .0))) (kept-present (λ u. not (same-train (s .train) u)) (g .0 .1 .0)), rest, eq-eqb _ _ (c .if2 .taken)))
+    let rest = c .before .before .others in
+    sym (rw (g .1, have, fewer-rest (Connection (g .0 .0)) (s .train) (g .0 .1 .0) (rest .result) (rest .ensures), eq-eqb _ _ (c .if2 .taken)))
 
 returns-2 : tie.Need-returns-2
 unfolding lose left
@@ -38,8 +33,8 @@ returns-2 c =
     let g = c .before .before .before .before .before .before .relation .given in
     let s = c .before .before .before .before .before .before .before .before .args in
     let have = sym (c .before .before .before .before .has-train .ensures) ∙ c .before .before .before .if1 .taken in
-    let rest = sym (c .before .before .others .ensures) in
-    sym (rw (g .1, have, fewer-second (Connection (g .0 .0)) (keep (λ u. not (same-train (s .train) u)) (used (g .0 .1 .0))) (kept-present (λ u. not (same-train (s .train) u)) (g .0 .1 .0)), rest, ne-eqb _ _ (c .if2 .left)))
+    let rest = c .before .before .others in
+    sym (rw (g .1, have, fewer-rest (Connection (g .0 .0)) (s .train) (g .0 .1 .0) (rest .result) (rest .ensures), ne-eqb _ _ (c .if2 .left)))
 
 enum-known-relation-2 : tie.Need-enum-known-relation-2
 enum-known-relation-2 c = search needs
@@ -56,8 +51,8 @@ returns-3 c =
     let g = c .before .before .before .before .before .before .relation2 .given in
     let s = c .before .before .before .before .before .before .before .before .args in
     let have = sym (c .before .before .before .before .has-train2 .ensures) ∙ c .before .before .before .if3 .taken in
-    let rest = sym (c .before .before .others2 .ensures) in
-    sym (rw (g .1, have, fewer-second (Disconnection (g .0 .0)) (keep (λ u. not (same-train (s .train) u)) (used (g .0 .1 .0))) (kept-present (λ u. not (same-train (s .train) u)) (g .0 .1 .0)), rest, eq-eqb _ _ (c .if4 .taken)))
+    let rest = c .before .before .others2 in
+    sym (rw (g .1, have, fewer-rest (Disconnection (g .0 .0)) (s .train) (g .0 .1 .0) (rest .result) (rest .ensures), eq-eqb _ _ (c .if4 .taken)))
 
 returns-4 : tie.Need-returns-4
 unfolding lose left
@@ -65,8 +60,8 @@ returns-4 c =
     let g = c .before .before .before .before .before .before .relation2 .given in
     let s = c .before .before .before .before .before .before .before .before .args in
     let have = sym (c .before .before .before .before .has-train2 .ensures) ∙ c .before .before .before .if3 .taken in
-    let rest = sym (c .before .before .others2 .ensures) in
-    sym (rw (g .1, have, fewer-second (Disconnection (g .0 .0)) (keep (λ u. not (same-train (s .train) u)) (used (g .0 .1 .0))) (kept-present (λ u. not (same-train (s .train) u)) (g .0 .1 .0)), rest, ne-eqb _ _ (c .if4 .left)))
+    let rest = c .before .before .others2 in
+    sym (rw (g .1, have, fewer-rest (Disconnection (g .0 .0)) (s .train) (g .0 .1 .0) (rest .result) (rest .ensures), ne-eqb _ _ (c .if4 .left)))
 
 enum-known-relation-3 : tie.Need-enum-known-relation-3
 enum-known-relation-3 c = search needs

@@ -1,10 +1,8 @@
 -- `sheet::page::relation_index` meets its contract. The loop's invariant: no record before index i passes the test. Assumes nothing.
 use borrow.Author.Needs.{needs}
 use native.Mathlib.Omega.{arith}
-use Prim.Native.Nat.{ℕ, _*_, _-_}
-use mathlib.Core.Path.{_≡_, sym, ap, _∙_}
-use mathlib.Core.List.{List}
-use lib.ListN.{take, drop}
+use Prim.Native.Nat.{_-_}
+use mathlib.Core.Path.{sym, ap, _∙_}
 use denote.Ref.{now}
 use Rattle.railway.specs.Relations.{same-relation}
 use Rattle.records.specs.Records.{decode-relation}

@@ -2,9 +2,9 @@
 use borrow.Author.Needs.{needs}
 use native.Mathlib.Omega.{arith}
 use Prim.Native.Nat.{ℕ, _*_, _-_}
-use mathlib.Core.Path.{_≡_, sym, ap, _∙_}
+use mathlib.Core.Path.{sym, ap, _∙_}
 use mathlib.Core.List.{List}
-use lib.Dec.{eqb, ltb}
+use lib.Dec.{eqb}
 use lib.ListN.{take, drop}
 use denote.Ref.{now}
 use borrow.Author.Tests.{eq-eqb, ne-eqb}
@@ -35,8 +35,10 @@ returns : tie.Need-returns Inv-loop μ-loop
 returns c =
     let l = c .before .before .before .before .before .loop in
     let a = c .before .before .before .before .before .before .before .args in
-    let read = sym (c .before .before .word-at .ensures ∙ ap (λ (r : List ℕ). word r 0) (c .before .before .before .record-at .ensures)) in
-    search-hit (λ b. eqb (word b 0) (a .train .0)) (a .n) (now (a .shelf)) (l .i) (l .inv) (c .before .before .before .before .loop-test .taken) (eq-eqb (word (take 16 (drop (16 * l .i) (now (a .shelf)))) 0) (a .train .0) (read ∙ c .if1 .taken))
+    let r = take 16 (drop (16 * l .i) (now (a .shelf))) in
+    let read = sym (c .before .before .word-at .ensures ∙ ap (λ (z : List ℕ). word z 0) (c .before .before .before .record-at .ensures)) in
+    let inside = c .before .before .before .before .loop-test .taken in
+    search-hit (λ b. eqb (word b 0) (a .train .0)) (a .n) (now (a .shelf)) (l .i) (l .inv) inside (eq-eqb (word r 0) (a .train .0) (read ∙ c .if1 .taken))
 
 add-i : tie.Need-add-i Inv-loop μ-loop
 add-i c = omega arith
@@ -48,8 +50,10 @@ loop-again : tie.Need-loop-again Inv-loop μ-loop
 loop-again c =
     let l = c .before .before .before .before .before .loop in
     let a = c .before .before .before .before .before .before .before .args in
-    let read = sym (c .before .before .word-at .ensures ∙ ap (λ (r : List ℕ). word r 0) (c .before .before .before .record-at .ensures)) in
-    search-on (λ b. eqb (word b 0) (a .train .0)) (a .n) (now (a .shelf)) (l .i) (l .inv) (c .before .before .before .before .loop-test .taken) (ne-eqb (word (take 16 (drop (16 * l .i) (now (a .shelf)))) 0) (a .train .0) (λ e. c .if1 .left (sym read ∙ e)))
+    let r = take 16 (drop (16 * l .i) (now (a .shelf))) in
+    let read = sym (c .before .before .word-at .ensures ∙ ap (λ (z : List ℕ). word z 0) (c .before .before .before .record-at .ensures)) in
+    let inside = c .before .before .before .before .loop-test .taken in
+    search-on (λ b. eqb (word b 0) (a .train .0)) (a .n) (now (a .shelf)) (l .i) (l .inv) inside (ne-eqb (word r 0) (a .train .0) (λ e. c .if1 .left (sym read ∙ e)))
 
 returns-2 : tie.Need-returns-2 Inv-loop μ-loop
 returns-2 c =

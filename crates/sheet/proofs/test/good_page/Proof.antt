@@ -1,9 +1,7 @@
 -- `sheet::test::good_page` meets its contract: the tests that led to each return decide. Assumes nothing.
-use mathlib.Core.Path.{refl, sym, _∙_}
-use native.Mathlib.Omega.{arith}
-use lib.ListN.{length, take, drop}
+use mathlib.Core.Path.{refl}
+use lib.ListN.{take, drop}
 use denote.Ref.{now}
-use Rattle.records.specs.Bytes.{blank}
 use Rattle.sheet.specs.Passes.{visits-pass, relations-pass}
 use Rattle.sheet.proofs.PassLaws.{page-short, page-many, page-related, page-tests}
 use borrow.Author.Needs.{needs}

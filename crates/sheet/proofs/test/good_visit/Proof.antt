@@ -1,5 +1,4 @@
 -- `sheet::test::good_visit` meets its contract: the tests that led to each return decide. Assumes nothing.
-use mathlib.Core.Bool.{true}
 use mathlib.Core.Path.{refl}
 use Rattle.sheet.specs.Passes.{in-passes, out-passes}
 use Rattle.sheet.proofs.PassLaws.{visit-tests}

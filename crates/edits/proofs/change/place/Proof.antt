@@ -1,0 +1,28 @@
+-- `edits::change::place` meets its contract: the planned visit is put in. Assumes nothing.
+use borrow.Author.Needs.{needs}
+use mathlib.Core.Path.{sym, _∙_, ap, ap₂}
+use denote.Ref.{now}
+use Rattle.railway.specs.declared.visit.Visit.{Visit}
+use Rattle.timetable.specs.Visits.{with-in, with-out}
+use Rattle.sheet.specs.Changes.{page-add-visit}
+use Rattle.edits.specs.Pairs.{here-page}
+use Rattle.edits.proofs.change.place.Statement.{statement}
+use Rattle.edits.proofs.change.place.Tie as tie
+
+plan-visit-requires : tie.Need-plan-visit-requires
+plan-visit-requires c κs = search needs
+
+add-visit-requires : tie.Need-add-visit-requires
+add-visit-requires c κs = search needs
+
+same-length : tie.Need-same-length
+same-length c = search needs
+
+returns : tie.Need-returns
+unfolding here-page
+returns c =
+    let s = c .before .before .before .before .before .before .args in
+    c .before .before .add-visit .ensures .1 ∙ ap (λ (v : Visit). page-add-visit (s .p .train) v (now (s .page))) (c .before .before .before .plan-visit .ensures)
+
+pub place-spec : {M : Type 1} → statement M
+place-spec = tie.close (tie.spec plan-visit-requires add-visit-requires same-length returns)

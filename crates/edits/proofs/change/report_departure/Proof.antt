@@ -1,0 +1,59 @@
+-- `edits::change::report_departure` meets its contract: the train's visit is written over, if it is there. Assumes nothing.
+use borrow.Author.Needs.{needs}
+use mathlib.Core.Path.{sym, _∙_, ap}
+use denote.Ref.{now}
+use Rattle.railway.specs.declared.visit.Visit.{Visit}
+use Rattle.timetable.specs.Visits.{departed-at}
+use Rattle.timetable.specs.Tables.{visit-of}
+use Rattle.sheet.specs.Changes.{table-in, page-write-visit}
+use Rattle.edits.proofs.FoundLaws.{found-some, found-none, change-none, change-some}
+use Rattle.edits.proofs.change.report_departure.Statement.{statement}
+use Rattle.edits.proofs.change.report_departure.Tie as tie
+
+visit-of-requires : tie.Need-visit-of-requires
+visit-of-requires c κs = search needs
+
+enum-told : tie.Need-enum-told
+enum-told c = search needs
+
+enum-known-found : tie.Need-enum-known-found
+enum-known-found c = search needs
+
+depart-requires : tie.Need-depart-requires
+depart-requires c κs = search needs
+
+write-visit-requires : tie.Need-write-visit-requires
+write-visit-requires c κs = search needs
+
+same-length : tie.Need-same-length
+same-length c = search needs
+
+returns : tie.Need-returns
+returns c =
+    let s = c .before .before .before .before .before .args in
+    sym (change-none (s .t) (departed-at (s .time)) (now (s .page)) (found-none _ _ (c .before .before .visit-of .ensures) (c .enum-told .given .1)))
+
+same-length-2 : tie.Need-same-length-2
+same-length-2 c = search needs
+
+returns-2 : tie.Need-returns-2
+returns-2 c =
+    let s = c .before .before .before .before .before .before .before .before .before .before .before .args in
+    let here = found-some (visit-of (s .t) (table-in (now (s .page)))) _ _ (c .before .before .before .before .before .before .before .before .visit-of .ensures) (c .before .before .before .before .before .before .found .given .1) in
+    c .before .before .write-visit .ensures
+    ∙ ap (λ (w : Visit). page-write-visit (s .t) w (now (s .page))) (c .before .before .before .depart .ensures)
+    ∙ sym (change-some (s .t) (departed-at (s .time)) (now (s .page)) _ here)
+
+pub report-departure-spec : {M : Type 1} → statement M
+report-departure-spec =
+    tie.close
+    (tie.spec
+    visit-of-requires
+    enum-told
+    enum-known-found
+    depart-requires
+    write-visit-requires
+    same-length
+    returns
+    same-length-2
+    returns-2)
