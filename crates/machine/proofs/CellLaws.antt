@@ -1,0 +1,104 @@
+-- Pages in a row: writing one page changes just that page, and a sheet's pages and a division's are such pages. Assumes nothing.
+use Prim.Native.Nat.{ℕ, _+_, _*_, _-_, _≤_, _<_}
+use mathlib.Core.Path.{_≡_, refl, sym, _∙_, ap, ap₂}
+use mathlib.Core.List.{List, [], _∷_, _++_, append-assoc}
+use mathlib.Core.Logic.{by-cases}
+use native.Mathlib.Decide.{decLt}
+use native.Mathlib.Omega.{arith}
+use lib.Dec.{T}
+use lib.ListN.{length, take, drop, length-append, length-drop}
+use lib.Seq.{length-take-le, take-at, drop-at, take-append-le, drop-append-le, drop-append-add, take-take, drop-drop}
+use Rattle.railway.specs.Ranges.{station-ok}
+use Rattle.records.specs.Bytes.{splice}
+use Rattle.sheet.specs.Sheets.{page-at, sheet-at}
+use Rattle.sheet.proofs.CopyLaws.{drop-take, deep-page}
+use Rattle.sheet.proofs.SheetLaws.{mk, station-low, station-high}
+use Rattle.machine.specs.Types.{Station}
+use Rattle.machine.specs.Cells.{cell, put-cell, change-cell}
+
+module _ (i : ℕ) (b : List ℕ) (room : 512 * i + 512 ≤ length b) where
+  pub cell-size : length (cell i b) ≡ 512
+  unfolding cell
+  cell-size = length-take-le 512 (drop (512 * i) b) (omega (arith, length-drop (512 * i) b))
+
+  module _ (page : List ℕ) (size : length page ≡ 512) where
+    front : length (take (512 * i) b) ≡ 512 * i
+    front = length-take-le (512 * i) b (omega arith)
+
+    pub put-size : length (put-cell i page b) ≡ length b
+    unfolding put-cell splice
+    put-size =
+        length-append (take (512 * i) b) (page ++ drop (512 * i + length page) b)
+        ∙ omega (arith, front, length-append page (drop (512 * i + length page) b), length-drop (512 * i + length page) b)
+
+    pub put-same : cell i (put-cell i page b) ≡ page
+    unfolding cell put-cell splice
+    put-same =
+        ap (take 512) (drop-at (take (512 * i) b) (page ++ drop (512 * i + length page) b) (512 * i) front)
+        ∙ take-at page (drop (512 * i + length page) b) 512 size
+
+    -- a page before it
+    put-before : (j : ℕ) → j < i → cell j (put-cell i page b) ≡ cell j b
+    unfolding cell put-cell splice
+    put-before j h =
+        let rest = page ++ drop (512 * i + length page) b in
+        let x = take (512 * i) b in
+        let c : 512 * i ≡ 512 * j + (512 * i - 512 * j) = omega arith in
+        let d : drop (512 * j) x ≡ take (512 * i - 512 * j) (drop (512 * j) b) =
+        ap (λ (k : ℕ). drop (512 * j) (take k b)) c ∙ drop-take (512 * j) (512 * i - 512 * j) b in
+        ap (take 512) (drop-append-le (512 * j) x rest (omega (arith, front)))
+        ∙ take-append-le 512 (drop (512 * j) x) rest (omega (arith, front, length-drop (512 * j) x))
+        ∙ ap (take 512) d ∙ take-take 512 (512 * i - 512 * j) (drop (512 * j) b) (omega arith)
+
+    -- and one behind it
+    put-behind : (j : ℕ) → i < j → cell j (put-cell i page b) ≡ cell j b
+    unfolding cell put-cell splice
+    put-behind j h =
+        let rest = drop (512 * i + length page) b in
+        let x = take (512 * i) b ++ page in
+        let y = 512 * j - (512 * i + 512) in
+        let l : length x ≡ 512 * i + 512 = length-append (take (512 * i) b) page ∙ omega (arith, front) in
+        let e : 512 * j ≡ length x + y = omega arith in
+        let g : 512 * i + length page + y ≡ 512 * j = omega arith in
+        ap (λ (k : List ℕ). take 512 (drop (512 * j) k)) (sym (append-assoc (take (512 * i) b) page rest))
+        ∙ ap (λ (k : ℕ). take 512 (drop k (x ++ rest))) e
+        ∙ ap (take 512) (drop-append-add x rest y ∙ drop-drop y (512 * i + length page) b)
+        ∙ ap (λ (k : ℕ). take 512 (drop k b)) g
+
+    pub put-other : (j : ℕ) → ¬ (i ≡ j) → cell j (put-cell i page b) ≡ cell j b
+    put-other j h = by-cases (decLt j i) (put-before j) (λ k. put-behind j (omega arith))
+
+-- a page changed
+
+module _ (i : ℕ) (f : List ℕ → List ℕ) (b page : List ℕ) (room : 512 * i + 512 ≤ length b) (is : f (cell i b) ≡ page) (size : length page ≡ 512) where
+  sized : length (f (cell i b)) ≡ 512
+  sized = ap length is ∙ size
+
+  pub change-size : length (change-cell i f b) ≡ length b
+  unfolding change-cell
+  change-size = put-size i b room (f (cell i b)) sized
+
+  pub change-same : cell i (change-cell i f b) ≡ page
+  unfolding change-cell
+  change-same = put-same i b room (f (cell i b)) sized ∙ is
+
+  pub change-other : (j : ℕ) → ¬ (i ≡ j) → cell j (change-cell i f b) ≡ cell j b
+  unfolding change-cell
+  change-other j h = put-other i b room (f (cell i b)) sized j h
+
+-- the pages of a sheet and of a division
+
+pub sheet-cell : (sheet : List ℕ) (k : Station) → page-at sheet k ≡ cell (k .0 - 1) sheet
+unfolding page-at cell
+sheet-cell sheet k = refl
+
+pub division-cell : (division : List ℕ) (a : ℕ) (k : Station) → T (station-ok k) → page-at (sheet-at division a) k ≡ cell (16 * (a - 1) + (k .0 - 1)) division
+unfolding cell
+division-cell division a k t =
+    let low = station-low k t in
+    let high = station-high k t in
+    let e : k .0 - 1 + 1 ≡ k .0 = omega arith in
+    let g : 8192 * (a - 1) + 512 * (k .0 - 1) ≡ 512 * (16 * (a - 1) + (k .0 - 1)) = omega arith in
+    ap (λ (j : ℕ). page-at (sheet-at division a) (mk j)) (sym e)
+    ∙ deep-page division (k .0 - 1) a (omega arith)
+    ∙ ap (λ (j : ℕ). take 512 (drop j division)) g

@@ -1,0 +1,5 @@
+pub mod CellLaws
+pub mod ByteEdits
+pub mod PageSteps
+pub mod CellEdits
+pub mod CallLaws
