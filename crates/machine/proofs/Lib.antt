@@ -5,3 +5,4 @@ pub mod CellEdits
 pub mod CallLaws
 pub mod RowSteps
 pub mod EditFacts
+pub mod PairSteps
