@@ -10,20 +10,22 @@ use lib.Dec.{T, ltb, leb, eqb, leb→le, le→leb, eqb→eq, eqb-refl, not-T}
 use lib.ListN.{length}
 use borrow.Author.Tests.{ltb-true, eqb-true, eq-eqb, ne-eqb}
 use Rattle.base.specs.Choice.{if_then_else_, _if_else_}
-use Rattle.base.specs.Lists.{every, within, each-two, rising}
-use Rattle.base.proofs.Tests.{by-test, by-value, T-true, true-T, T-false, not-T-false, and-l, and-r, both, if-yes, if-no}
-use Rattle.railway.specs.Ranges.{station-ok}
+use Rattle.base.specs.Lists.{any, every, within, each-two, rising}
+use Rattle.base.proofs.Tests.{by-test, by-value, T-true, true-T, T-false, not-T-false, and-l, and-r, or-l, or-r, both, every-head, every-tail, every-mapped}
+use Rattle.railway.specs.Ranges.{station-ok, same-station}
 use Rattle.railway.specs.Edits.{edit-ok}
-use Rattle.railway.specs.Networks.{network-refusal, listed, area-of}
+use Rattle.railway.specs.Networks.{network-refusal, stations-of, listed, area-of}
 use Rattle.timetable.specs.Tables.{Table, empty}
-use Rattle.timetable.specs.Machine.{Timetable, meaning, answer, after}
-use Rattle.timetable.specs.Groups.{names, names-group, in-group, divide, merge, gather, divided-answer, divided-after}
+use Rattle.timetable.specs.Machine.{Timetable, Meaning, local, throughout, meaning, known, answer, after}
+use Rattle.timetable.specs.Groups.{reaches, names, names-group, in-group, divide, merge, gather, divided-answer, divided-after}
 use Rattle.timetable.specs.Good.{Whole, table-good, visits-good, relations-good}
 use Rattle.timetable.proofs.Locality.{others-kept, names-listed}
-use Rattle.theory.proofs.Kept.{after-whole, nothing-whole}
+use Rattle.theory.proofs.Kept.{after-whole}
 use Rattle.theory.proofs.Divided.{group-named}
 use Rattle.sheet.specs.Pages.{encode-page, decode-page, good-page}
 use Rattle.sheet.specs.Sheets.{six, page-at, encode-sheet, decode-sheet, good-sheet, sheet-at}
+use Rattle.sheet.specs.Passes.{over-area, sheet-passes}
+use Rattle.sheet.proofs.PassLaws.{over-all, over-own}
 use Rattle.sheet.proofs.AreaLaws.{area-high, listed-placed, listed-ok}
 use Rattle.sheet.proofs.PageLaws.{Coded, empty-coded, blank-page, good-bytes, good-table}
 use Rattle.sheet.proofs.SheetLaws.{area-number, station-low, station-high, page-good, page-zeros, decoded-page, good-all-coded, encoded-size, encoded-page}
@@ -31,10 +33,11 @@ use Rattle.sheet.proofs.SheetLaws.{sheets-equal, sheet-size, sheets-whole, row-
 use Rattle.machine.specs.Types.{Station, Edit, Network, Answer}
 use Rattle.machine.specs.Calls.{fits-network, early-refusal, call-refusal, refused-with, sheet-refusal, sheet-answer, sheet-after}
 use Rattle.machine.specs.Calls.{named-good, parts, division-refusal, division-answer, division-after}
-use Rattle.machine.specs.Cells.{cell, place-of, cells-answer, cells-after}
+use Rattle.machine.specs.Cells.{cell, place-of, places, home-of, away-of, is-throughout, touches, has-room, cells-fit, cells-answer, cells-after}
+use Rattle.machine.specs.Cells.{touches-at, touches-area, area-passes, named-pass}
 use Rattle.machine.proofs.CellLaws.{sheet-cell, division-cell}
-use Rattle.machine.proofs.CellEdits.{Holds, Step, cells-answers, cells-step}
-use Rattle.machine.proofs.ByteEdits.{in-listed, whole-of, page-of, whole-later, later-size}
+use Rattle.machine.proofs.CellEdits.{Holds, Step, every-listed, cells-answers, cells-step}
+use Rattle.machine.proofs.ByteEdits.{call-good, in-listed, whole-of, page-of, whole-later, later-size}
 
 -- refusals that do not come
 
@@ -341,3 +344,143 @@ call-early fits early sheets e z = rw (e, ne-eqb early 0 z)
 pub call-bad : (fits : Bool) (early : ℕ) (sheets : Bool) → fits ≡ true → early ≡ 0 → sheets ≡ false → call-refusal fits early sheets ≡ 6
 unfolding call-refusal
 call-bad fits early sheets e z b = rw (e, z, b)
+
+-- the pages that an edit names are in the buffer
+
+abbrev pub size-of : Bool → ℕ
+size-of true = 49152
+size-of false = 8192
+
+place-room : (divided : Bool) (n : Network) → network-refusal n ≡ 0 → (k : Station) → T (listed n k) → T (has-room (size-of divided) (place-of divided n k))
+unfolding place-of has-room
+place-room false n good k l =
+    let s = listed-ok n good k l in
+    le→leb (512 * (k .0 - 1) + 512) 8192 (omega (arith, station-low k s, station-high k s))
+place-room true n good k l =
+    let s = listed-ok n good k l in
+    let p : ltb 0 (area-of n k) ≡ true = sym (listed-placed n good k) ∙ T-true (listed n k) l in
+    le→leb (512 * (16 * (area-of n k - 1) + (k .0 - 1)) + 512) 49152
+    (omega (arith, station-low k s, station-high k s, ltb-true 0 (area-of n k) p, area-high n good k))
+
+room-by : (divided : Bool) (n : Network) → network-refusal n ≡ 0 → (μ : Meaning) → T (fits-network n μ)
+    → T (if is-throughout μ then every (has-room (size-of divided)) (places divided n)
+    else has-room (size-of divided) (place-of divided n (home-of μ)) && has-room (size-of divided) (place-of divided n (away-of μ)))
+unfolding fits-network known is-throughout home-of away-of
+room-by divided n good (local a) f =
+    both (has-room (size-of divided) (place-of divided n (a .home))) (has-room (size-of divided) (place-of divided n (a .away)))
+    (place-room divided n good (a .home) (search (and-l, and-r))) (place-room divided n good (a .away) (search (and-l, and-r)))
+room-by divided n good (throughout t) f =
+    every-mapped (has-room (size-of divided)) (listed n) (place-of divided n) (place-room divided n good) (stations-of n) (every-listed n)
+
+pub cells-room : (divided : Bool) (n : Network) (e : Edit) → Early n e → T (cells-fit divided n e (size-of divided))
+unfolding cells-fit
+cells-room divided n e early = room-by divided n (early .network) (meaning e) (early .fits)
+
+-- the areas that the code tests are those that the edit names
+
+any-among : (f g : Station → Bool) (ss : List Station) → ((k : Station) → T (any (same-station k) ss) → f k ≡ g k) → any f ss ≡ any g ss
+unfolding any
+any-among f g [] h = refl
+any-among f g (s ∷ ss) h =
+    ap₂ (λ (x y : Bool). x || y)
+    (h s (or-l (same-station s s) (any (same-station s) ss) (eqb-refl (s .0))))
+    (any-among f g ss (λ k r. h k (or-r (same-station k s) (any (same-station k) ss) r)))
+
+every-agree : (f g ok : ℕ → Bool) → ((x : ℕ) → T (ok x) → f x ≡ g x) → (xs : List ℕ) → T (every ok xs) → every f xs ≡ every g xs
+unfolding every
+every-agree f g ok h [] t = refl
+every-agree f g ok h (x ∷ xs) t = ap₂ (λ (a b : Bool). a && b) (h x (every-head ok x xs t)) (every-agree f g ok h xs (every-tail ok x xs t))
+
+touched-reached : (n : Network) (k : Station) → T (listed n k) → (μ : Meaning) → T (fits-network n μ) → touches μ k ≡ reaches n μ k
+unfolding touches reaches fits-network
+touched-reached n k l (local a) f = sym (rw (T-true (known n a) f))
+touched-reached n k l (throughout t) f = sym (T-true (listed n k) l)
+
+is-listed : (n : Network) (k : Station) → T (any (same-station k) (stations-of n)) → T (listed n k)
+unfolding listed
+is-listed n k t = t
+
+module _ (n : Network) (e : Edit) (early : Early n e) where
+  names-touched : (k : Station) → T (listed n k) → touches (meaning e) k ≡ names n e k
+  unfolding names
+  names-touched k l = rw (T-true (edit-ok e) (early .ok)) (touched-reached n k l (meaning e) (early .fits))
+
+  area-named : (a : ℕ) → touches-area n e a ≡ names-group n (area-of n) e a
+  unfolding touches-area touches-at names-group
+  area-named a =
+      any-among (λ s. eqb a (area-of n s) && touches (meaning e) s) (λ s. eqb a (area-of n s) && names n e s) (stations-of n)
+      (λ k l. ap (λ (b : Bool). eqb a (area-of n k) && b) (names-touched k (is-listed n k l)))
+
+  pub named-same : (division : List ℕ) → length division ≡ 49152 → named-pass n e division ≡ named-good n e division
+  unfolding named-pass named-good area-passes sheet-passes
+  named-same division size = every-agree
+      (λ a. if touches-area n e a then eqb (length (sheet-at division a)) 8192 && good-sheet n (over-area n a) (sheet-at division a) else true)
+      (λ a. not (names-group n (area-of n) e a) || good-sheet n (λ k. listed n k && in-group (area-of n) a k) (sheet-at division a))
+      area-number each six all-areas
+    where
+      each : (a : ℕ) → T (area-number a)
+          → (if touches-area n e a then eqb (length (sheet-at division a)) 8192 && good-sheet n (over-area n a) (sheet-at division a) else true)
+          ≡ (not (names-group n (area-of n) e a) || good-sheet n (λ k. listed n k && in-group (area-of n) a k) (sheet-at division a))
+      each a t =
+          rw (area-named a, eq-eqb (length (sheet-at division a)) 8192 (sheet-size division a size t), over-own n a (leb→le 1 a (and-l (leb 1 a) (leb a 6) t)))
+          (by-value (names-group n (area-of n) e a) (λ q. rw q) (λ q. rw q))
+
+-- what the code's tests say of a call
+
+module _ (n : Network) (e : Edit) (sheet : List ℕ) where
+  pub sheet-short : ¬ (length sheet ≡ 8192) → sheet-refusal n e sheet ≡ 5
+  unfolding sheet-refusal
+  sheet-short h = call-short (eqb (length sheet) 8192) (early-refusal n e) (good-sheet n (listed n) sheet) (ne-eqb (length sheet) 8192 h)
+
+  module _ (size : length sheet ≡ 8192) where
+    pub sheet-early : (k : ℕ) → k ≡ early-refusal n e → ¬ (k ≡ 0) → sheet-refusal n e sheet ≡ k
+    unfolding sheet-refusal
+    sheet-early k q z =
+        call-early (eqb (length sheet) 8192) (early-refusal n e) (good-sheet n (listed n) sheet) (eq-eqb (length sheet) 8192 size) (λ r. z (q ∙ r)) ∙ sym q
+
+    passes-good : sheet-passes n 0 sheet ≡ good-sheet n (listed n) sheet
+    unfolding sheet-passes
+    passes-good = rw (eq-eqb (length sheet) 8192 size, over-all n)
+
+    pub sheet-bad : early-refusal n e ≡ 0 → sheet-passes n 0 sheet ≡ false → sheet-refusal n e sheet ≡ 6
+    unfolding sheet-refusal
+    sheet-bad q r = call-bad (eqb (length sheet) 8192) (early-refusal n e) (good-sheet n (listed n) sheet) (eq-eqb (length sheet) 8192 size) q (sym passes-good ∙ r)
+
+    pub sheet-call : early-refusal n e ≡ 0 → sheet-passes n 0 sheet ≡ true
+        → (cells-answer false n e sheet ≡ sheet-answer n e sheet) × (cells-after false n e sheet ≡ sheet-after n e sheet)
+    unfolding sheet-refusal
+    sheet-call q r =
+        let early = early-facts n e q in
+        let g : good-sheet n (listed n) sheet ≡ true = sym passes-good ∙ r in
+        let fine = true-T (good-sheet n (listed n) sheet) g in
+        let z : sheet-refusal n e sheet ≡ 0 =
+        call-good (eqb (length sheet) 8192) (early-refusal n e) (good-sheet n (listed n) sheet) (eq-eqb (length sheet) 8192 size) g ∙ q in
+        (sheet-answers n e early sheet size fine ∙ sym (sheet-is n e sheet z .0), sheet-bytes n e early sheet size fine ∙ sym (sheet-is n e sheet z .1))
+
+module _ (n : Network) (e : Edit) (division : List ℕ) where
+  pub division-short : ¬ (length division ≡ 49152) → division-refusal n e division ≡ 5
+  unfolding division-refusal
+  division-short h = call-short (eqb (length division) 49152) (early-refusal n e) (named-good n e division) (ne-eqb (length division) 49152 h)
+
+  module _ (size : length division ≡ 49152) where
+    pub division-early : (k : ℕ) → k ≡ early-refusal n e → ¬ (k ≡ 0) → division-refusal n e division ≡ k
+    unfolding division-refusal
+    division-early k q z =
+        call-early (eqb (length division) 49152) (early-refusal n e) (named-good n e division) (eq-eqb (length division) 49152 size) (λ r. z (q ∙ r)) ∙ sym q
+
+    pub division-bad : early-refusal n e ≡ 0 → named-pass n e division ≡ false → division-refusal n e division ≡ 6
+    unfolding division-refusal
+    division-bad q r =
+        call-bad (eqb (length division) 49152) (early-refusal n e) (named-good n e division) (eq-eqb (length division) 49152 size) q
+        (sym (named-same n e (early-facts n e q) division size) ∙ r)
+
+    pub division-call : early-refusal n e ≡ 0 → named-pass n e division ≡ true
+        → (cells-answer true n e division ≡ division-answer n e division) × (cells-after true n e division ≡ division-after n e division)
+    unfolding division-refusal
+    division-call q r =
+        let early = early-facts n e q in
+        let g : named-good n e division ≡ true = sym (named-same n e early division size) ∙ r in
+        let fine = true-T (named-good n e division) g in
+        let z : division-refusal n e division ≡ 0 =
+        call-good (eqb (length division) 49152) (early-refusal n e) (named-good n e division) (eq-eqb (length division) 49152 size) g ∙ q in
+        (division-answers n e early division size fine ∙ sym (division-is n e division z .0), division-bytes n e early division size fine ∙ sym (division-is n e division z .1))

@@ -262,7 +262,7 @@ stations-apart n good =
     let two : T (each-two (smaller (λ (r : StationRow). r .station .0)) (station-rows n)) = rw (rising-map (λ (r : StationRow). r .station .0) (station-rows n)) at up in
     rw (two-map (smaller code) (λ (r : StationRow). r .station) (station-rows n)) two
 
-every-listed : (n : Network) → T (every (listed n) (stations-of n))
+pub every-listed : (n : Network) → T (every (listed n) (stations-of n))
 unfolding listed
 every-listed n = every-any same-station (λ k. eqb-refl (k .0)) (stations-of n)
 

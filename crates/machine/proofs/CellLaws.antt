@@ -3,6 +3,7 @@ use Prim.Native.Nat.{ℕ, _+_, _*_, _-_, _≤_, _<_}
 use mathlib.Core.Path.{_≡_, refl, sym, _∙_, ap, ap₂}
 use mathlib.Core.List.{List, [], _∷_, _++_, append-assoc}
 use mathlib.Core.Logic.{by-cases}
+use native.Mathlib.Nat.{add-sub-cancel-left}
 use native.Mathlib.Decide.{decLt}
 use native.Mathlib.Omega.{arith}
 use lib.Dec.{T}
@@ -10,6 +11,7 @@ use lib.ListN.{length, take, drop, length-append, length-drop}
 use lib.Seq.{length-take-le, take-at, drop-at, take-append-le, drop-append-le, drop-append-add, take-take, drop-drop}
 use Rattle.railway.specs.Ranges.{station-ok}
 use Rattle.records.specs.Bytes.{splice}
+use Rattle.records.proofs.ByteLaws.{part-back}
 use Rattle.sheet.specs.Sheets.{page-at, sheet-at}
 use Rattle.sheet.proofs.CopyLaws.{drop-take, deep-page}
 use Rattle.sheet.proofs.SheetLaws.{mk, station-low, station-high}
@@ -85,6 +87,20 @@ module _ (i : ℕ) (f : List ℕ → List ℕ) (b page : List ℕ) (room : 512 *
   pub change-other : (j : ℕ) → ¬ (i ≡ j) → cell j (change-cell i f b) ≡ cell j b
   unfolding change-cell
   change-other j h = put-other i b room (f (cell i b)) sized j h
+
+-- a part that is lent is a page
+pub lent-cell : (i : ℕ) (b : List ℕ) → take (512 * i + 512 - 512 * i) (drop (512 * i) b) ≡ cell i b
+unfolding cell
+lent-cell i b = rw (add-sub-cancel-left (512 * i) 512)
+
+-- what a callee that was lent a page left there, said of the whole
+pub lent-back : (i : ℕ) (f : List ℕ → List ℕ) (b new : List ℕ) → 512 * i + 512 ≤ length b
+    → length new ≡ length (take (512 * i + 512 - 512 * i) (drop (512 * i) b)) → new ≡ f (take (512 * i + 512 - 512 * i) (drop (512 * i) b))
+    → take (512 * i) b ++ (new ++ drop (512 * i + 512 - 512 * i) (drop (512 * i) b)) ≡ change-cell i f b
+unfolding change-cell put-cell
+lent-back i f b new room size is =
+    part-back b new (512 * i) 512 (size ∙ ap length (lent-cell i b) ∙ cell-size i b room)
+    ∙ ap (λ (x : List ℕ). splice (512 * i) x b) (is ∙ ap f (lent-cell i b))
 
 -- the pages of a sheet and of a division
 

@@ -3,3 +3,6 @@ pub mod ByteEdits
 pub mod PageSteps
 pub mod CellEdits
 pub mod CallLaws
+pub mod RowSteps
+pub mod EditFacts
+pub mod PairSteps

@@ -6,13 +6,15 @@ use mathlib.Core.List.{List, [], _∷_, map}
 use lib.Dec.{leb, eqb}
 use lib.ListN.{take, drop}
 use Rattle.base.specs.Choice.{if_then_else_, _if_else_}
-use Rattle.base.specs.Lists.{every}
+use Rattle.base.specs.Lists.{any, every}
 use Rattle.railway.specs.Ranges.{same-station}
 use Rattle.railway.specs.Networks.{area-of, stations-of}
 use Rattle.timetable.specs.Tables.{has-visit}
 use Rattle.timetable.specs.Machine.{Meaning, local, throughout, meaning}
 use Rattle.records.specs.Bytes.{splice}
 use Rattle.sheet.specs.Changes.{table-in}
+use Rattle.sheet.specs.Sheets.{six, sheet-at}
+use Rattle.sheet.specs.Passes.{sheet-passes}
 use Rattle.edits.specs.Pairs.{refuses-on, here-page, there-page}
 use Rattle.machine.specs.Types.{Station, Train, Edit, Network, Answer}
 
@@ -42,12 +44,12 @@ unfoldable pub train-of : Meaning → Train
 train-of (local a) = record { 0 = 0 }
 train-of (throughout t) = t
 
-unfoldable pub visits-on : Edit → ℕ → List ℕ → ℕ
-visits-on e i b = 1 if has-visit (train-of (meaning e)) (table-in (cell i b)) else 0
+unfoldable pub visits-on : Edit → List ℕ → ℕ
+visits-on e page = 1 if has-visit (train-of (meaning e)) (table-in page) else 0
 
 unfoldable pub swept : Edit → List ℕ → List ℕ → ℕ
 swept e [] b = 0
-swept e (i ∷ is) b = visits-on e i b + swept e is (change-cell i (here-page e) b)
+swept e (i ∷ is) b = visits-on e (cell i b) + swept e is (change-cell i (here-page e) b)
 
 -- what an edit says of itself
 
@@ -117,8 +119,23 @@ cells-fit divided n e size =
     then every (has-room size) (places divided n)
     else has-room size (place-of divided n (home-of (meaning e))) && has-room size (place-of divided n (away-of (meaning e)))
 
+-- which sheets of a division are to be good
+
+-- an area of a station that the edit names
+unfoldable pub touches-at : Network → Edit → ℕ → Station → Bool
+touches-at n e a s = eqb a (area-of n s) && touches (meaning e) s
+
+unfoldable pub touches-area : Network → Edit → ℕ → Bool
+touches-area n e a = any (touches-at n e a) (stations-of n)
+
+unfoldable pub area-passes : Network → Edit → ℕ → List ℕ → Bool
+area-passes n e a part = if touches-area n e a then sheet-passes n a part else true
+
+unfoldable pub named-pass : Network → Edit → List ℕ → Bool
+named-pass n e division = every (λ a. area-passes n e a (sheet-at division a)) six
+
 -- The key ring of this module: `unfolding opened` opens every definition above.
 unfoldable pub opened : Unit {0}
 unfolding cell put-cell change-cell place-of sweep train-of visits-on swept home-of away-of removes-of is-throughout touches pair-refusal pair-answer far-changed pair-after
-    cells-answer cells-after has-room cells-fit
+    cells-answer cells-after has-room cells-fit touches-at touches-area area-passes named-pass
 opened = tt
