@@ -1,27 +1,25 @@
 -- The calls on good bytes. An edit leaves a good sheet good, and an edit on the divided timetable is the divided edit: the sheets of a divided good sheet are
 -- those of the divided timetable, and there the theory's law holds. Assumes nothing.
-use Prim.Native.Nat.{ℕ, _≤_}
-use mathlib.Core.Path.{_≡_, refl, sym, _∙_, ap, ap₂, fun-ext}
+use Prim.Native.Nat.{ℕ}
+use mathlib.Core.Path.{_≡_, sym, _∙_, ap, fun-ext}
 use mathlib.Core.Bool.{Bool, true, false, not, _&&_, _||_}
-use mathlib.Core.List.{List, [], _∷_, flatMap}
+use mathlib.Core.List.{List}
 use native.Mathlib.Omega.{arith}
 use lib.Dec.{T, ltb, leb, eqb, le→leb, eqb→eq}
 use lib.ListN.{length}
 use borrow.Author.Tests.{ltb-true, eqb-true, eq-eqb}
 use Rattle.base.specs.Choice.{if_then_else_, _if_else_}
-use Rattle.base.specs.Lists.{every, within}
-use Rattle.base.proofs.Tests.{by-value, T-true, true-T, T-false, and-l, and-r, or-r, both, every-weaker}
+use Rattle.base.proofs.Tests.{by-value, T-true, and-l, and-r, or-r, both, every-weaker}
 use Rattle.railway.specs.Ranges.{station-ok}
 use Rattle.railway.specs.Networks.{network-refusal, listed, area-of}
-use Rattle.timetable.specs.Tables.{Table, empty}
+use Rattle.timetable.specs.Tables.{empty}
 use Rattle.timetable.specs.Machine.{Timetable, answer, after}
 use Rattle.timetable.specs.Groups.{Divided, in-group, names-group, divide, merge, gather, divided-answer, divided-after}
 use Rattle.timetable.specs.Good.{Whole}
 use Rattle.theory.proofs.Kept.{after-whole}
 use Rattle.theory.proofs.Divided.{answer-divided, after-divided}
-use Rattle.records.specs.Bytes.{zeros}
-use Rattle.sheet.specs.Pages.{encode-page, decode-page}
-use Rattle.sheet.specs.Sheets.{sixteen, six, page-at, encode-sheet, decode-sheet, good-sheet, sheet-at, good-division, divided}
+use Rattle.sheet.specs.Pages.{encode-page}
+use Rattle.sheet.specs.Sheets.{six, page-at, encode-sheet, decode-sheet, good-sheet, sheet-at, good-division, divided}
 use Rattle.sheet.proofs.AreaLaws.{area-high, listed-placed, listed-ok}
 use Rattle.sheet.proofs.PageLaws.{Coded, empty-coded, blank-page, good-bytes}
 use Rattle.sheet.proofs.SheetLaws.{area-number, page-good, page-zeros, decoded-page, decoded-good, good-all-coded, encoded-size, encoded-page, encoded-sheet-good, good-sheet-back}

@@ -1,21 +1,21 @@
 -- The calls on bytes are the edit on pages: where the buffer has its length, nothing refuses the edit before a sheet is looked at, and the sheets are good, the
 -- pages of the named stations hold their tables; the edit on pages leaves the new tables there and nothing else changes, so page by page the bytes are those
 -- that the calls' definitions say. Assumes nothing.
-use Prim.Native.Nat.{ℕ, _+_, _*_, _-_, _≤_, _<_}
+use Prim.Native.Nat.{ℕ, _+_, _*_, _-_, _≤_}
 use mathlib.Core.Path.{_≡_, refl, sym, _∙_, ap, ap₂}
 use mathlib.Core.Bool.{Bool, true, false, not, _&&_, _||_}
 use mathlib.Core.List.{List, [], _∷_, flatMap}
 use native.Mathlib.Omega.{arith}
-use lib.Dec.{T, ltb, leb, eqb, leb→le, le→leb, eqb→eq, eqb-refl, not-T}
+use lib.Dec.{T, ltb, leb, eqb, leb→le, le→leb, eqb→eq, eqb-refl}
 use lib.ListN.{length}
 use borrow.Author.Tests.{ltb-true, eqb-true, eq-eqb, ne-eqb}
 use Rattle.base.specs.Choice.{if_then_else_, _if_else_}
-use Rattle.base.specs.Lists.{any, every, within, each-two, rising}
-use Rattle.base.proofs.Tests.{by-test, by-value, T-true, true-T, T-false, not-T-false, and-l, and-r, or-l, or-r, both, every-head, every-tail, every-mapped}
+use Rattle.base.specs.Lists.{any, every, each-two, rising}
+use Rattle.base.proofs.Tests.{by-test, by-value, T-true, true-T, not-T-false, and-l, and-r, or-l, or-r, both, every-head, every-tail, every-mapped}
 use Rattle.railway.specs.Ranges.{station-ok, same-station}
 use Rattle.railway.specs.Edits.{edit-ok}
 use Rattle.railway.specs.Networks.{network-refusal, stations-of, listed, area-of}
-use Rattle.timetable.specs.Tables.{Table, empty}
+use Rattle.timetable.specs.Tables.{empty}
 use Rattle.timetable.specs.Machine.{Timetable, Meaning, local, throughout, meaning, known, answer, after}
 use Rattle.timetable.specs.Groups.{reaches, names, names-group, in-group, divide, merge, gather, divided-answer, divided-after}
 use Rattle.timetable.specs.Good.{Whole, table-good, visits-good, relations-good}
@@ -30,7 +30,7 @@ use Rattle.sheet.proofs.AreaLaws.{area-high, listed-placed, listed-ok}
 use Rattle.sheet.proofs.PageLaws.{Coded, empty-coded, blank-page, good-bytes, good-table}
 use Rattle.sheet.proofs.SheetLaws.{area-number, station-low, station-high, page-good, page-zeros, decoded-page, good-all-coded, encoded-size, encoded-page}
 use Rattle.sheet.proofs.SheetLaws.{sheets-equal, sheet-size, sheets-whole, row-same, all-areas, each-area}
-use Rattle.machine.specs.Types.{Station, Edit, Network, Answer}
+use Rattle.machine.specs.Types.{Station, Edit, Network}
 use Rattle.machine.specs.Calls.{fits-network, early-refusal, call-refusal, refused-with, sheet-refusal, sheet-answer, sheet-after}
 use Rattle.machine.specs.Calls.{named-good, parts, division-refusal, division-answer, division-after}
 use Rattle.machine.specs.Cells.{cell, place-of, places, home-of, away-of, is-throughout, touches, has-room, cells-fit, cells-answer, cells-after}

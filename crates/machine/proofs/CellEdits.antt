@@ -1,12 +1,12 @@
 -- An edit on pages in a row is the central machine's edit on their tables. A buffer holds a timetable at some stations if each one's page is that of its table;
 -- a page that is changed puts one table anew, and leaves every other page. An edit at one or two stations is one such change or two, edit 11 one for each listed
 -- station, all different. Assumes nothing.
-use Prim.Native.Nat.{ℕ, _+_, _*_, _-_, _≤_, _<_}
+use Prim.Native.Nat.{ℕ, _+_, _*_, _≤_}
 use mathlib.Core.Path.{_≡_, refl, sym, _∙_, ap, ap₂, fun-ext}
-use mathlib.Core.Bool.{Bool, true, false, not, _&&_, _||_}
+use mathlib.Core.Bool.{Bool, true, false, not, _||_}
 use mathlib.Core.List.{List, [], _∷_, map}
 use native.Mathlib.Omega.{arith}
-use lib.Dec.{T, ltb, eqb, ltb→lt, eqb→eq, eqb-refl}
+use lib.Dec.{T, eqb, ltb→lt, eqb-refl}
 use lib.ListN.{length}
 use borrow.Author.Tests.{eqb-true, eqb-false, eq-eqb, ne-eqb}
 use Rattle.base.specs.Choice.{if_then_else_, _if_else_}
@@ -27,10 +27,10 @@ use Rattle.theory.proofs.Kept.{KeepsTables, Keeps, keeps}
 use Rattle.sheet.specs.Pages.{encode-page}
 use Rattle.sheet.specs.Changes.{table-in}
 use Rattle.sheet.proofs.PageLaws.{Coded, page-length, good-coded}
-use Rattle.edits.specs.Pairs.{refuses-on, here-page, there-page}
-use Rattle.machine.specs.Types.{Station, Train, Edit, Network, Answer}
+use Rattle.edits.specs.Pairs.{here-page, there-page}
+use Rattle.machine.specs.Types.{Station, Train, Edit, Network}
 use Rattle.machine.specs.Calls.{fits-network}
-use Rattle.machine.specs.Cells.{cell, change-cell, place-of, places, sweep, train-of, visits-on, swept, home-of, away-of, removes-of, is-throughout}
+use Rattle.machine.specs.Cells.{cell, change-cell, place-of, sweep, train-of, visits-on, swept, home-of, away-of, removes-of, is-throughout}
 use Rattle.machine.specs.Cells.{pair-refusal, pair-answer, far-changed, pair-after, cells-answer, cells-after}
 use Rattle.machine.proofs.CellLaws.{change-size, change-same, change-other}
 use Rattle.machine.proofs.PageSteps.{PageSteps, page-steps, pages-refuse, table-here}

@@ -1,28 +1,28 @@
 -- An edit on the page of a good table: an accepted edit makes of it the page of the table that the central machine makes of that table. Each edit is one change of
 -- a page, or two, and each change is one of the table. Assumes nothing.
-use Prim.Native.Nat.{ℕ, _+_, _≤_, _<_}
+use Prim.Native.Nat.{_<_}
 use mathlib.Core.Path.{_≡_, refl, sym, _∙_, ap, ap₂}
-use mathlib.Core.Bool.{Bool, true, false, not, _&&_}
+use mathlib.Core.Bool.{Bool, true, false, not}
 use mathlib.Core.List.{List, [], _∷_, map}
 use mathlib.Core.Option.{Option, none, some, Option·map}
 use native.Mathlib.Omega.{arith}
-use lib.Dec.{T, ltb, leb, eqb, ltb→lt, leb→le}
+use lib.Dec.{T, ltb→lt}
 use lib.ListN.{length}
 use borrow.Author.Tests.{leb-false, eqb-true, ne-eqb}
 use Rattle.base.specs.Choice.{if_then_else_, _if_else_}
 use Rattle.base.specs.Lists.{every, first, is, each-two, keep}
-use Rattle.base.proofs.Tests.{by-value, true-T, not-T-false, passed, rest-passed, held, every-head, every-tail, every-weaker}
+use Rattle.base.proofs.Tests.{not-T-false, passed, rest-passed, every-head, every-tail, every-weaker}
 use Rattle.base.proofs.Lengths.{keep-no-longer}
 use Rattle.base.proofs.Sorted.{smaller, two-head, two-tail}
 use Rattle.railway.specs.Ranges.{same-train}
 use Rattle.timetable.specs.Visits.{planned, lacks-in, lacks-out}
-use Rattle.timetable.specs.Tables.{Entry, Table, visit-of, has-visit, add-visit, change-entry, change-visit, add-relation, has-relation, lose-all, without, full-visits, full-relations}
+use Rattle.timetable.specs.Tables.{Entry, Table, visit-of, has-visit, add-visit, change-entry, change-visit, has-relation, without, full-visits, full-relations}
 use Rattle.timetable.specs.Machine.{Action, Meaning, local, throughout, meaning, as-it-was}
 use Rattle.timetable.specs.Good.{table-good}
 use Rattle.timetable.proofs.TableLaws.{GoodTable, number, lacking, absent, table-facts}
 use Rattle.sheet.specs.Pages.{encode-page}
-use Rattle.sheet.specs.Changes.{table-in, page-add-visit, page-write-visit, page-remove-visit, page-add-relation, page-remove-relation, page-lose-train}
-use Rattle.sheet.proofs.PageLaws.{Coded, page-length, page-back, good-coded}
+use Rattle.sheet.specs.Changes.{table-in, page-add-visit, page-lose-train}
+use Rattle.sheet.proofs.PageLaws.{page-length, page-back, good-coded}
 use Rattle.sheet.proofs.ShelfLaws.{table-of-page}
 use Rattle.sheet.proofs.ChangeLaws.{Fitting, add-visit-page, write-visit-page, remove-visit-page, add-relation-page, remove-relation-page, lose-train-page}
 use Rattle.edits.specs.Pairs.{refuses-on, page-changed, page-change, page-without, here-page, there-page}

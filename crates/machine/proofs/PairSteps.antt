@@ -1,19 +1,17 @@
 -- An edit on pages, case by case as the code takes it: refused, accepted, at all listed stations or at one or two. Assumes nothing.
 use Prim.Native.Nat.{ℕ, _+_, _*_, _-_, _≤_, _<_}
-use mathlib.Core.Path.{_≡_, refl, sym, _∙_, ap, ap₂}
+use mathlib.Core.Path.{_≡_, sym, _∙_, ap, ap₂}
 use mathlib.Core.Bool.{Bool, true, false, _&&_}
 use mathlib.Core.List.{List}
-use native.Mathlib.Omega.{arith}
-use lib.Dec.{T, leb, eqb, leb→le}
-use lib.ListN.{length, take, drop}
-use borrow.Author.Tests.{eq-eqb, ne-eqb}
-use Rattle.base.specs.Choice.{if_then_else_}
+use lib.Dec.{T, leb, leb→le}
+use lib.ListN.{take, drop}
+use borrow.Author.Tests.{ne-eqb}
 use Rattle.base.specs.Lists.{every}
 use Rattle.base.proofs.Tests.{and-l, and-r}
 use Rattle.timetable.specs.Machine.{meaning}
 use Rattle.edits.specs.Pairs.{refuses-on, here-page}
-use Rattle.machine.specs.Types.{Station, Edit, Network, Answer}
-use Rattle.machine.specs.Cells.{cell, change-cell, place-of, places, swept, sweep, home-of, away-of, removes-of, is-throughout}
+use Rattle.machine.specs.Types.{Station, Edit, Network}
+use Rattle.machine.specs.Cells.{change-cell, place-of, places, swept, sweep, home-of, away-of, removes-of, is-throughout}
 use Rattle.machine.specs.Cells.{pair-refusal, pair-answer, far-changed, pair-after, has-room, cells-fit, cells-answer, cells-after}
 use Rattle.machine.proofs.CellLaws.{lent-cell}
 

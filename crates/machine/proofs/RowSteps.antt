@@ -18,7 +18,7 @@ use Rattle.railway.proofs.RowLaws.{used-rows}
 use Rattle.sheet.specs.Sheets.{six, sheet-at}
 use Rattle.sheet.proofs.SheetLaws.{area-at}
 use Rattle.edits.specs.Pairs.{here-page}
-use Rattle.machine.specs.Types.{Station, Edit, Network}
+use Rattle.machine.specs.Types.{Edit, Network}
 use Rattle.machine.specs.Cells.{cell, change-cell, place-of, places, sweep, visits-on, swept, has-room, touches-at, touches-area, area-passes}
 
 -- what an array of rows is read as past its end

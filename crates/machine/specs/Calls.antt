@@ -1,8 +1,8 @@
 -- The calls: an edit on a sheet and an edit on a division, each by one equation for its answer and one for the bytes afterwards. The central machine works on what
 -- the named sheets hold, and its outcome is put back. Document 01, "Who brings on which number": "Order: 5, 3, 4, 7, 6, 8, 9, 10, 11, 12". Assumes nothing.
 use Prim.Native.Nat.{ℕ}
-use mathlib.Core.Bool.{Bool, true, false, not, _&&_, _||_}
-use mathlib.Core.List.{List, [], _∷_, flatMap}
+use mathlib.Core.Bool.{Bool, true, not, _&&_, _||_}
+use mathlib.Core.List.{List, flatMap}
 use lib.Dec.{eqb}
 use lib.ListN.{length}
 use Rattle.base.specs.Choice.{if_then_else_, _if_else_}

@@ -1,10 +1,8 @@
 -- `machine::calls::edit_division` meets its contract: the tests that led to each return decide the refusal, and the edit on pages is the edit on the division. Assumes nothing.
 use mathlib.Core.Bool.{true}
-use mathlib.Core.Path.{_≡_, refl, sym, _∙_, ap, ap₂}
+use mathlib.Core.Path.{sym, _∙_}
 use native.Mathlib.Omega.{arith}
 use denote.Ref.{now}
-use lib.Dec.{T}
-use lib.ListN.{length}
 use Rattle.machine.proofs.CallLaws.{early-facts, cells-room, division-not, division-short, division-early, division-bad, division-call}
 use borrow.Author.Needs.{needs}
 use Rattle.machine.proofs.calls.edit_division.Statement.{statement}
@@ -14,7 +12,11 @@ refused-requires : tie.Need-refused-requires
 refused-requires c κs = search needs
 
 returns : tie.Need-returns
-returns c = let s = c .before .before .before .args in let x = division-not (s .n) (s .e) (now (s .division)) 5 (division-short (s .n) (s .e) (now (s .division)) (c .before .if1 .taken)) (λ z. omega arith) in (c .refused .ensures ∙ sym (x .0), sym (x .1))
+returns c =
+    let s = c .before .before .before .args in
+    let x = division-not (s .n) (s .e) (now (s .division)) 5 (division-short (s .n) (s .e) (now (s .division)) (c .before .if1 .taken))
+    (λ z. omega arith) in
+    (c .refused .ensures ∙ sym (x .0), sym (x .1))
 
 early-refusal-requires : tie.Need-early-refusal-requires
 early-refusal-requires c κs = search needs
@@ -23,19 +25,29 @@ refused-requires-2 : tie.Need-refused-requires-2
 refused-requires-2 c κs = search needs
 
 returns-2 : tie.Need-returns-2
-returns-2 c = let s = c .before .before .before .before .before .args in let r = c .before .before .early-refusal in let x = division-not (s .n) (s .e) (now (s .division)) (r .result) (division-early (s .n) (s .e) (now (s .division)) (c .before .before .before .if1 .left) (r .result) (r .ensures) (c .before .if2 .taken)) (c .before .if2 .taken) in (c .refused2 .ensures ∙ sym (x .0), sym (x .1))
+returns-2 c =
+    let s = c .before .before .before .before .before .args in
+    let r = c .before .before .early-refusal in
+    let x = division-not (s .n) (s .e) (now (s .division)) (r .result) (division-early (s .n) (s .e) (now (s .division)) (c .before .before .before .if1 .left) (r .result) (r .ensures) (c .before .if2 .taken)) (c .before .if2 .taken) in
+    (c .refused2 .ensures ∙ sym (x .0), sym (x .1))
 
 named-good-requires : tie.Need-named-good-requires
 named-good-requires c κs = search needs
 
 edit-pages-requires : tie.Need-edit-pages-requires
-edit-pages-requires c κs = let s = c .before .before .before .before .before .before .before .before .args in rw (c .before .before .before .before .before .before .if1 .left) (cells-room true (s .n) (s .e) (early-facts (s .n) (s .e) (sym (c .before .before .before .before .before .early-refusal .ensures) ∙ c .before .before .before .before .if2 .left)))
+edit-pages-requires c κs =
+    let s = c .before .before .before .before .before .before .before .before .args in
+    rw (c .before .before .before .before .before .before .if1 .left)
+    (cells-room true (s .n) (s .e) (early-facts (s .n) (s .e) (sym (c .before .before .before .before .before .early-refusal .ensures) ∙ c .before .before .before .before .if2 .left)))
 
 same-length : tie.Need-same-length
 same-length c = search needs
 
 returns-3 : tie.Need-returns-3
-returns-3 c = let s = c .before .before .before .before .before .before .before .before .before .before .before .args in let x = division-call (s .n) (s .e) (now (s .division)) (c .before .before .before .before .before .before .before .before .before .if1 .left) (sym (c .before .before .before .before .before .before .before .before .early-refusal .ensures) ∙ c .before .before .before .before .before .before .before .if2 .left) (sym (c .before .before .before .before .before .named-good .ensures) ∙ c .before .before .before .before .if3 .taken) in (c .before .before .edit-pages .ensures .0 ∙ x .0, c .before .before .edit-pages .ensures .1 ∙ x .1)
+returns-3 c =
+    let s = c .before .before .before .before .before .before .before .before .before .before .before .args in
+    let x = division-call (s .n) (s .e) (now (s .division)) (c .before .before .before .before .before .before .before .before .before .if1 .left) (sym (c .before .before .before .before .before .before .before .before .early-refusal .ensures) ∙ c .before .before .before .before .before .before .before .if2 .left) (sym (c .before .before .before .before .before .named-good .ensures) ∙ c .before .before .before .before .if3 .taken) in
+    (c .before .before .edit-pages .ensures .0 ∙ x .0, c .before .before .edit-pages .ensures .1 ∙ x .1)
 
 refused-requires-3 : tie.Need-refused-requires-3
 refused-requires-3 c κs = search needs
@@ -44,7 +56,10 @@ same-length-2 : tie.Need-same-length-2
 same-length-2 c = search needs
 
 returns-4 : tie.Need-returns-4
-returns-4 c = let s = c .before .before .before .before .before .before .before .before .args in let x = division-not (s .n) (s .e) (now (s .division)) 6 (division-bad (s .n) (s .e) (now (s .division)) (c .before .before .before .before .before .before .if1 .left) (sym (c .before .before .before .before .before .early-refusal .ensures) ∙ c .before .before .before .before .if2 .left) (sym (c .before .before .named-good .ensures) ∙ c .before .if3 .left)) (λ z. omega arith) in (c .refused3 .ensures ∙ sym (x .0), sym (x .1))
+returns-4 c =
+    let s = c .before .before .before .before .before .before .before .before .args in
+    let x = division-not (s .n) (s .e) (now (s .division)) 6 (division-bad (s .n) (s .e) (now (s .division)) (c .before .before .before .before .before .before .if1 .left) (sym (c .before .before .before .before .before .early-refusal .ensures) ∙ c .before .before .before .before .if2 .left) (sym (c .before .before .named-good .ensures) ∙ c .before .if3 .left)) (λ z. omega arith) in
+    (c .refused3 .ensures ∙ sym (x .0), sym (x .1))
 
 pub edit-division-spec : {M : Type 1} → statement M
 edit-division-spec =

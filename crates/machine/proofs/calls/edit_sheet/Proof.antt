@@ -1,10 +1,8 @@
 -- `machine::calls::edit_sheet` meets its contract: the tests that led to each return decide the refusal, and the edit on pages is the edit on the sheet. Assumes nothing.
 use mathlib.Core.Bool.{false}
-use mathlib.Core.Path.{_≡_, refl, sym, _∙_, ap, ap₂}
+use mathlib.Core.Path.{sym, _∙_}
 use native.Mathlib.Omega.{arith}
 use denote.Ref.{now}
-use lib.Dec.{T}
-use lib.ListN.{length}
 use Rattle.machine.proofs.CallLaws.{early-facts, cells-room, sheet-not, sheet-short, sheet-early, sheet-bad, sheet-call}
 use borrow.Author.Needs.{needs}
 use Rattle.machine.proofs.calls.edit_sheet.Statement.{statement}
@@ -14,7 +12,10 @@ refused-requires : tie.Need-refused-requires
 refused-requires c κs = search needs
 
 returns : tie.Need-returns
-returns c = let s = c .before .before .before .args in let x = sheet-not (s .n) (s .e) (now (s .sheet)) 5 (sheet-short (s .n) (s .e) (now (s .sheet)) (c .before .if1 .taken)) (λ z. omega arith) in (c .refused .ensures ∙ sym (x .0), sym (x .1))
+returns c =
+    let s = c .before .before .before .args in
+    let x = sheet-not (s .n) (s .e) (now (s .sheet)) 5 (sheet-short (s .n) (s .e) (now (s .sheet)) (c .before .if1 .taken)) (λ z. omega arith) in
+    (c .refused .ensures ∙ sym (x .0), sym (x .1))
 
 early-refusal-requires : tie.Need-early-refusal-requires
 early-refusal-requires c κs = search needs
@@ -23,19 +24,29 @@ refused-requires-2 : tie.Need-refused-requires-2
 refused-requires-2 c κs = search needs
 
 returns-2 : tie.Need-returns-2
-returns-2 c = let s = c .before .before .before .before .before .args in let r = c .before .before .early-refusal in let x = sheet-not (s .n) (s .e) (now (s .sheet)) (r .result) (sheet-early (s .n) (s .e) (now (s .sheet)) (c .before .before .before .if1 .left) (r .result) (r .ensures) (c .before .if2 .taken)) (c .before .if2 .taken) in (c .refused2 .ensures ∙ sym (x .0), sym (x .1))
+returns-2 c =
+    let s = c .before .before .before .before .before .args in
+    let r = c .before .before .early-refusal in
+    let x = sheet-not (s .n) (s .e) (now (s .sheet)) (r .result) (sheet-early (s .n) (s .e) (now (s .sheet)) (c .before .before .before .if1 .left) (r .result) (r .ensures) (c .before .if2 .taken)) (c .before .if2 .taken) in
+    (c .refused2 .ensures ∙ sym (x .0), sym (x .1))
 
 good-sheet-requires : tie.Need-good-sheet-requires
 good-sheet-requires c κs = search needs
 
 edit-pages-requires : tie.Need-edit-pages-requires
-edit-pages-requires c κs = let s = c .before .before .before .before .before .before .before .before .args in rw (c .before .before .before .before .before .before .if1 .left) (cells-room false (s .n) (s .e) (early-facts (s .n) (s .e) (sym (c .before .before .before .before .before .early-refusal .ensures) ∙ c .before .before .before .before .if2 .left)))
+edit-pages-requires c κs =
+    let s = c .before .before .before .before .before .before .before .before .args in
+    rw (c .before .before .before .before .before .before .if1 .left)
+    (cells-room false (s .n) (s .e) (early-facts (s .n) (s .e) (sym (c .before .before .before .before .before .early-refusal .ensures) ∙ c .before .before .before .before .if2 .left)))
 
 same-length : tie.Need-same-length
 same-length c = search needs
 
 returns-3 : tie.Need-returns-3
-returns-3 c = let s = c .before .before .before .before .before .before .before .before .before .before .before .args in let x = sheet-call (s .n) (s .e) (now (s .sheet)) (c .before .before .before .before .before .before .before .before .before .if1 .left) (sym (c .before .before .before .before .before .before .before .before .early-refusal .ensures) ∙ c .before .before .before .before .before .before .before .if2 .left) (sym (c .before .before .before .before .before .good-sheet .ensures) ∙ c .before .before .before .before .if3 .taken) in (c .before .before .edit-pages .ensures .0 ∙ x .0, c .before .before .edit-pages .ensures .1 ∙ x .1)
+returns-3 c =
+    let s = c .before .before .before .before .before .before .before .before .before .before .before .args in
+    let x = sheet-call (s .n) (s .e) (now (s .sheet)) (c .before .before .before .before .before .before .before .before .before .if1 .left) (sym (c .before .before .before .before .before .before .before .before .early-refusal .ensures) ∙ c .before .before .before .before .before .before .before .if2 .left) (sym (c .before .before .before .before .before .good-sheet .ensures) ∙ c .before .before .before .before .if3 .taken) in
+    (c .before .before .edit-pages .ensures .0 ∙ x .0, c .before .before .edit-pages .ensures .1 ∙ x .1)
 
 refused-requires-3 : tie.Need-refused-requires-3
 refused-requires-3 c κs = search needs
@@ -44,7 +55,10 @@ same-length-2 : tie.Need-same-length-2
 same-length-2 c = search needs
 
 returns-4 : tie.Need-returns-4
-returns-4 c = let s = c .before .before .before .before .before .before .before .before .args in let x = sheet-not (s .n) (s .e) (now (s .sheet)) 6 (sheet-bad (s .n) (s .e) (now (s .sheet)) (c .before .before .before .before .before .before .if1 .left) (sym (c .before .before .before .before .before .early-refusal .ensures) ∙ c .before .before .before .before .if2 .left) (sym (c .before .before .good-sheet .ensures) ∙ c .before .if3 .left)) (λ z. omega arith) in (c .refused3 .ensures ∙ sym (x .0), sym (x .1))
+returns-4 c =
+    let s = c .before .before .before .before .before .before .before .before .args in
+    let x = sheet-not (s .n) (s .e) (now (s .sheet)) 6 (sheet-bad (s .n) (s .e) (now (s .sheet)) (c .before .before .before .before .before .before .if1 .left) (sym (c .before .before .before .before .before .early-refusal .ensures) ∙ c .before .before .before .before .if2 .left) (sym (c .before .before .good-sheet .ensures) ∙ c .before .if3 .left)) (λ z. omega arith) in
+    (c .refused3 .ensures ∙ sym (x .0), sym (x .1))
 
 pub edit-sheet-spec : {M : Type 1} → statement M
 edit-sheet-spec =

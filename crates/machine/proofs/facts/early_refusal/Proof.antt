@@ -1,5 +1,5 @@
 -- `machine::facts::early_refusal` meets its contract: the tests that led to each return decide it. Assumes nothing.
-use mathlib.Core.Path.{_≡_, sym, _∙_}
+use mathlib.Core.Path.{sym, _∙_}
 use Rattle.machine.proofs.EditFacts.{early-values, early-network, early-unknown, early-none}
 use borrow.Author.Needs.{needs}
 use Rattle.machine.proofs.facts.early_refusal.Statement.{statement}
@@ -15,13 +15,22 @@ knows-requires : tie.Need-knows-requires
 knows-requires c κs = search needs
 
 returns : tie.Need-returns
-returns c = let s = c .before .before .before .before .before .before .args in early-none (s .n) (s .e) (sym (c .before .before .before .before .before .valid .ensures) ∙ c .before .before .before .before .if1 .taken) (sym (c .before .before .before .refusal .ensures) ∙ c .before .before .if2 .taken) (sym (c .before .knows .ensures) ∙ c .if3 .taken)
+returns c =
+    let s = c .before .before .before .before .before .before .args in
+    early-none (s .n) (s .e) (sym (c .before .before .before .before .before .valid .ensures) ∙ c .before .before .before .before .if1 .taken)
+    (sym (c .before .before .before .refusal .ensures) ∙ c .before .before .if2 .taken) (sym (c .before .knows .ensures) ∙ c .if3 .taken)
 
 returns-2 : tie.Need-returns-2
-returns-2 c = let s = c .before .before .before .before .before .before .args in early-unknown (s .n) (s .e) (sym (c .before .before .before .before .before .valid .ensures) ∙ c .before .before .before .before .if1 .taken) (sym (c .before .before .before .refusal .ensures) ∙ c .before .before .if2 .taken) (sym (c .before .knows .ensures) ∙ c .if3 .left)
+returns-2 c =
+    let s = c .before .before .before .before .before .before .args in
+    early-unknown (s .n) (s .e) (sym (c .before .before .before .before .before .valid .ensures) ∙ c .before .before .before .before .if1 .taken)
+    (sym (c .before .before .before .refusal .ensures) ∙ c .before .before .if2 .taken) (sym (c .before .knows .ensures) ∙ c .if3 .left)
 
 returns-3 : tie.Need-returns-3
-returns-3 c = let s = c .before .before .before .before .args in early-network (s .n) (s .e) (c .before .refusal .result) (sym (c .before .before .before .valid .ensures) ∙ c .before .before .if1 .taken) (c .before .refusal .ensures) (c .if2 .left)
+returns-3 c =
+    let s = c .before .before .before .before .args in
+    early-network (s .n) (s .e) (c .before .refusal .result) (sym (c .before .before .before .valid .ensures) ∙ c .before .before .if1 .taken)
+    (c .before .refusal .ensures) (c .if2 .left)
 
 returns-4 : tie.Need-returns-4
 returns-4 c = let s = c .before .before .args in early-values (s .n) (s .e) (sym (c .before .valid .ensures) ∙ c .if1 .left)

@@ -16,7 +16,9 @@ runs-requires c κs = search needs
 
 returns : tie.Need-returns
 unfolding meaning known fits-network
-returns c = simp (← c .runs .ensures, c .before .if2 .taken, ← c .before .before .track-known .ensures, c .before .before .before .if1 .taken, ← c .before .before .before .before .both-listed .ensures)
+returns c =
+    simp
+    (← c .runs .ensures, c .before .if2 .taken, ← c .before .before .track-known .ensures, c .before .before .before .if1 .taken, ← c .before .before .before .before .both-listed .ensures)
 
 returns-2 : tie.Need-returns-2
 unfolding meaning known fits-network

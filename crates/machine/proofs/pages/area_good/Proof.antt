@@ -1,5 +1,5 @@
 -- `machine::pages::area_good` meets its contract: the test of the area decides. Assumes nothing.
-use mathlib.Core.Path.{_≡_, refl, sym, _∙_, ap, ap₂}
+use mathlib.Core.Path.{sym, _∙_}
 use Rattle.machine.specs.Cells.{area-passes}
 use borrow.Author.Needs.{needs}
 use Rattle.machine.proofs.pages.area_good.Statement.{statement}

@@ -1,6 +1,5 @@
 -- `machine::pages::change_far` meets its contract: nothing is done where the two pages are one, else what was made of the lent page is the page changed in the whole. Assumes nothing.
-use Prim.Native.Nat.{_+_, _*_, _-_}
-use mathlib.Core.Path.{_≡_, sym, _∙_}
+use mathlib.Core.Path.{sym, _∙_}
 use denote.Ref.{now}
 use borrow.Author.Tests.{eq-eqb, ne-eqb}
 use Rattle.edits.specs.Pairs.{there-page}
@@ -37,7 +36,11 @@ same-length c = search needs
 
 returns-2 : tie.Need-returns-2
 unfolding far-changed
-returns-2 c = let s = c .before .before .before .before .before .before in let h = c .before .before .change-there in lent-back (s .args .j) (there-page (s .args .e)) (now (s .args .b)) (h .last .0) (s .pre .0) (h .kept .0) (h .ensures) ∙ sym (rw (ne-eqb _ _ (c .before .before .before .before .if1 .left)))
+returns-2 c =
+    let s = c .before .before .before .before .before .before in
+    let h = c .before .before .change-there in
+    lent-back (s .args .j) (there-page (s .args .e)) (now (s .args .b)) (h .last .0) (s .pre .0) (h .kept .0) (h .ensures)
+    ∙ sym (rw (ne-eqb _ _ (c .before .before .before .before .if1 .left)))
 
 pub change-far-spec : {M : Type 1} → statement M
 change-far-spec =

@@ -1,6 +1,4 @@
 -- `machine::pages::change_near` meets its contract: what was made of the lent page is the page changed in the whole. Assumes nothing.
-use Prim.Native.Nat.{_+_, _*_, _-_}
-use mathlib.Core.Path.{_≡_, sym, _∙_}
 use denote.Ref.{now}
 use Rattle.edits.specs.Pairs.{here-page}
 use Rattle.machine.proofs.CellLaws.{lent-back}
@@ -30,7 +28,10 @@ same-length : tie.Need-same-length
 same-length c = search needs
 
 returns : tie.Need-returns
-returns c = let s = c .before .before .before .before .before in let h = c .before .before .change-here in lent-back (s .args .i) (here-page (s .args .e)) (now (s .args .b)) (h .last .0) (s .pre .0) (h .kept .0) (h .ensures)
+returns c =
+    let s = c .before .before .before .before .before in
+    let h = c .before .before .change-here in
+    lent-back (s .args .i) (here-page (s .args .e)) (now (s .args .b)) (h .last .0) (s .pre .0) (h .kept .0) (h .ensures)
 
 pub change-near-spec : {M : Type 1} → statement M
 change-near-spec =

@@ -1,9 +1,8 @@
 -- `machine::pages::count_on` meets its contract: the look-up says it. Assumes nothing.
-use mathlib.Core.Path.{_≡_, refl, sym, _∙_, ap, ap₂}
+use mathlib.Core.Path.{sym}
 use native.Mathlib.Omega.{arith}
 use denote.Ref.{now}
-use Rattle.timetable.specs.Tables.{visit-of, has-visit}
-use Rattle.timetable.specs.Machine.{meaning}
+use Rattle.timetable.specs.Tables.{visit-of}
 use Rattle.sheet.specs.Changes.{table-in}
 use Rattle.edits.proofs.FoundLaws.{found-some, found-none, there-some, there-none}
 use Rattle.machine.specs.Cells.{visits-on}
@@ -25,11 +24,23 @@ enum-told-2 c = search needs
 
 returns : tie.Need-returns
 unfolding visits-on
-returns c = let s = c .before .before .before .before .before .args in let t = c .before .before .before .train in (sym (rw (← t .ensures, there-some (t .result) (table-in (now (s .part))) _ (found-some (visit-of (t .result) (table-in (now (s .part)))) _ _ (c .before .before .visit-of .ensures) (c .enum-told .given .1)))), omega arith)
+returns c =
+    let s = c .before .before .before .before .before .args in
+    let t = c .before .before .before .train in (
+      sym
+          (rw (← t .ensures, there-some (t .result) (table-in (now (s .part))) _ (found-some (visit-of (t .result) (table-in (now (s .part)))) _ _ (c .before .before .visit-of .ensures) (c .enum-told .given .1)))),
+      omega arith,
+    )
 
 returns-2 : tie.Need-returns-2
 unfolding visits-on
-returns-2 c = let s = c .before .before .before .before .before .args in let t = c .before .before .before .train in (sym (rw (← t .ensures, there-none (t .result) (table-in (now (s .part))) (found-none (visit-of (t .result) (table-in (now (s .part)))) _ (c .before .before .visit-of .ensures) (c .enum-told2 .given .1)))), omega arith)
+returns-2 c =
+    let s = c .before .before .before .before .before .args in
+    let t = c .before .before .before .train in (
+      sym
+          (rw (← t .ensures, there-none (t .result) (table-in (now (s .part))) (found-none (visit-of (t .result) (table-in (now (s .part)))) _ (c .before .before .visit-of .ensures) (c .enum-told2 .given .1)))),
+      omega arith,
+    )
 
 pub count-on-spec : {M : Type 1} → statement M
 count-on-spec =

@@ -1,12 +1,5 @@
 -- `machine::pages::edit_two` meets its contract: what the two lent pages refuse, and else the page of p and then that of s changed. Assumes nothing.
-use mathlib.Core.Path.{_≡_, refl, sym, _∙_, ap, ap₂}
-use native.Mathlib.Omega.{arith}
 use denote.Ref.{now}
-use borrow.Author.Tests.{eq-eqb, ne-eqb}
-use Rattle.timetable.specs.Machine.{meaning}
-use Rattle.edits.specs.Pairs.{refuses-on}
-use Rattle.machine.specs.Cells.{pair-refusal, pair-answer, pair-after, far-changed}
-use Rattle.machine.proofs.CellLaws.{lent-cell}
 use Rattle.machine.proofs.PairSteps.{pair-told, pair-refused, pair-changed}
 use borrow.Author.Needs.{needs}
 use Rattle.machine.proofs.pages.edit_two.Statement.{statement}
@@ -58,13 +51,23 @@ same-length : tie.Need-same-length
 same-length c = search needs
 
 returns : tie.Need-returns
-returns c = let s = c .before .before .before .before .before .before .before .before .before .before .before .before .before .before .before in let r = c .before .before .before .before .before .before .before .before .before .before .refusal-of in pair-changed (s .args .e) (s .args .i) (s .args .j) (now (s .args .b)) _ (pair-told (s .args .e) (s .args .i) (s .args .j) (now (s .args .b)) (r .result) (r .ensures)) (c .before .before .before .before .before .before .before .before .before .if1 .taken) (c .removes .result) (c .removes .ensures) _ (c .before .before .before .before .before .before .before .change-far .ensures) _ (c .before .before .before .change-near .ensures)
+returns c =
+    let s = c .before .before .before .before .before .before .before .before .before .before .before .before .before .before .before in
+    let r = c .before .before .before .before .before .before .before .before .before .before .refusal-of in
+    pair-changed (s .args .e) (s .args .i) (s .args .j) (now (s .args .b)) _
+    (pair-told (s .args .e) (s .args .i) (s .args .j) (now (s .args .b)) (r .result) (r .ensures))
+    (c .before .before .before .before .before .before .before .before .before .if1 .taken) (c .removes .result) (c .removes .ensures) _
+    (c .before .before .before .before .before .before .before .change-far .ensures) _ (c .before .before .before .change-near .ensures)
 
 same-length-2 : tie.Need-same-length-2
 same-length-2 c = search needs
 
 returns-2 : tie.Need-returns-2
-returns-2 c = let s = c .before .before .before .before .before .before in let r = c .before .refusal-of in pair-refused (s .args .e) (s .args .i) (s .args .j) (now (s .args .b)) (r .result) (pair-told (s .args .e) (s .args .i) (s .args .j) (now (s .args .b)) (r .result) (r .ensures)) (c .if1 .left)
+returns-2 c =
+    let s = c .before .before .before .before .before .before in
+    let r = c .before .refusal-of in
+    pair-refused (s .args .e) (s .args .i) (s .args .j) (now (s .args .b)) (r .result)
+    (pair-told (s .args .e) (s .args .i) (s .args .j) (now (s .args .b)) (r .result) (r .ensures)) (c .if1 .left)
 
 pub edit-two-spec : {M : Type 1} → statement M
 edit-two-spec =

@@ -1,6 +1,5 @@
 -- `machine::pages::is_named` meets its contract: the tests that led to each return decide it. Assumes nothing.
 use borrow.Author.Tests.{eq-eqb, ne-eqb}
-use mathlib.Core.Path.{_≡_, refl, sym, _∙_, ap, ap₂}
 use Rattle.machine.specs.Cells.{touches-at}
 use borrow.Author.Needs.{needs}
 use Rattle.machine.proofs.pages.is_named.Statement.{statement}

@@ -1,7 +1,7 @@
 -- `machine::pages::named_good` meets its contract: what is asked of all sheets is asked of those from i on. Assumes nothing.
 use borrow.Author.Needs.{needs}
-use Prim.Native.Nat.{_+_, _*_, _-_, _≤_, _<_}
-use mathlib.Core.Path.{_≡_, refl, sym, _∙_, ap, ap₂}
+use Prim.Native.Nat.{_+_, _-_, _≤_}
+use mathlib.Core.Path.{_≡_, refl, sym, _∙_}
 use native.Mathlib.Omega.{arith}
 use denote.Ref.{now}
 use lib.ListN.{drop}
@@ -13,7 +13,10 @@ use Rattle.machine.proofs.pages.named_good.Statement.{statement}
 use Rattle.machine.proofs.pages.named_good.Tie as tie
 
 abbrev Inv-loop : tie.InvT-loop
-Inv-loop division n e i₀ a₀ i a = (i ≤ 6) × (a ≡ i + 1) × (named-pass n e division ≡ every (λ c. area-passes n e c (sheet-at division c)) (drop i six))
+Inv-loop division n e i₀ a₀ i a =
+    (i ≤ 6)
+    × (a ≡ i + 1)
+    × (named-pass n e division ≡ every (λ c. area-passes n e c (sheet-at division c)) (drop i six))
 
 abbrev μ-loop : tie.MeasureT-loop
 μ-loop division n e i₀ a₀ i a = 6 - i
@@ -50,13 +53,27 @@ loop-less : tie.Need-loop-less Inv-loop μ-loop
 loop-less c = omega arith
 
 loop-again : tie.Need-loop-again Inv-loop μ-loop
-loop-again c = let l = c .before .before .before .before .loop in let s = c .before .before .before .before .before .before .args in (omega arith, omega arith, l .inv .2 ∙ sheets-on (s .n) (s .e) (now (s .division)) (l .i) (l .a) (l .inv .1) (omega arith) (sym (c .before .area-good .ensures) ∙ c .if1 .taken))
+loop-again c =
+    let l = c .before .before .before .before .loop in
+    let s = c .before .before .before .before .before .before .args in (
+      omega arith,
+      omega arith,
+      l .inv .2
+          ∙ sheets-on (s .n) (s .e) (now (s .division)) (l .i) (l .a) (l .inv .1) (omega arith) (sym (c .before .area-good .ensures) ∙ c .if1 .taken),
+    )
 
 returns : tie.Need-returns Inv-loop μ-loop
-returns c = let l = c .before .before .before .before .loop in let s = c .before .before .before .before .before .before .args in sym (l .inv .2 ∙ sheets-not (s .n) (s .e) (now (s .division)) (l .i) (l .a) (l .inv .1) (omega arith) (sym (c .before .area-good .ensures) ∙ c .if1 .left))
+returns c =
+    let l = c .before .before .before .before .loop in
+    let s = c .before .before .before .before .before .before .args in
+    sym
+    (l .inv .2 ∙ sheets-not (s .n) (s .e) (now (s .division)) (l .i) (l .a) (l .inv .1) (omega arith) (sym (c .before .area-good .ensures) ∙ c .if1 .left))
 
 returns-2 : tie.Need-returns-2 Inv-loop μ-loop
-returns-2 c = let l = c .before .loop in let s = c .before .before .before .args in sym (l .inv .2 ∙ sheets-end (λ x. area-passes (s .n) (s .e) x (sheet-at (now (s .division)) x)) (l .i) (omega arith))
+returns-2 c =
+    let l = c .before .loop in
+    let s = c .before .before .before .args in
+    sym (l .inv .2 ∙ sheets-end (λ x. area-passes (s .n) (s .e) x (sheet-at (now (s .division)) x)) (l .i) (omega arith))
 
 pub named-good-spec : {M : Type 1} → statement M
 named-good-spec =

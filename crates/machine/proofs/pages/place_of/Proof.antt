@@ -1,6 +1,6 @@
 -- `machine::pages::place_of` meets its contract: the tests and what the callees say decide it. Assumes nothing.
 use Prim.Native.Nat.{_+_, _*_, _-_}
-use mathlib.Core.Path.{_≡_, sym, _∙_}
+use mathlib.Core.Path.{_≡_}
 use native.Mathlib.Omega.{arith}
 use Rattle.railway.specs.Networks.{area-of}
 use Rattle.machine.specs.Cells.{place-of}
@@ -25,7 +25,13 @@ add-result c = search needs
 
 returns : tie.Need-returns
 unfolding place-of
-returns c = let s = c .before .before .before .before .args in let a = c .before .before .area-of .ensures in let p = c .before .before2 .ensures .0 in let q = c .before3 .ensures .0 in let e : 16 * c .before .before2 .result + c .before3 .result ≡ 16 * (area-of (s .n) (s .s) - 1) + (s .s .0 - 1) = omega arith in (rw (c .before .before .before .if1 .taken) e, omega arith)
+returns c =
+    let s = c .before .before .before .before .args in
+    let a = c .before .before .area-of .ensures in
+    let p = c .before .before2 .ensures .0 in
+    let q = c .before3 .ensures .0 in
+    let e : 16 * c .before .before2 .result + c .before3 .result ≡ 16 * (area-of (s .n) (s .s) - 1) + (s .s .0 - 1) = omega arith in
+    (rw (c .before .before .before .if1 .taken) e, omega arith)
 
 before-requires-3 : tie.Need-before-requires-3
 before-requires-3 c κs = search needs

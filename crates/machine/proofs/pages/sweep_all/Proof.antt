@@ -1,10 +1,9 @@
 -- `machine::pages::sweep_all` meets its contract: the loop has changed the pages of the first i rows and counted their visits: what is left to do and to count is that of the rows from i on. Assumes nothing.
 use borrow.Author.Needs.{needs}
-use Prim.Native.Nat.{ℕ, _+_, _*_, _-_, _≤_, _<_}
-use mathlib.Core.Path.{_≡_, refl, sym, _∙_, ap, ap₂}
+use Prim.Native.Nat.{ℕ, _+_, _-_, _≤_}
+use mathlib.Core.Path.{_≡_, refl, sym, _∙_, ap}
 use native.Mathlib.Omega.{arith}
-use denote.Ref.{now}
-use mathlib.Core.List.{List, map}
+use mathlib.Core.List.{map}
 use lib.Dec.{T}
 use lib.ListN.{length, length-map, getD, take, drop}
 use Rattle.base.specs.Lists.{every}
@@ -15,7 +14,13 @@ use Rattle.machine.proofs.pages.sweep_all.Statement.{statement}
 use Rattle.machine.proofs.pages.sweep_all.Tie as tie
 
 abbrev Inv-loop : tie.InvT-loop
-Inv-loop b₀ divided n e rows k removed₀ i₀ b removed i = (i ≤ k) × (removed ≤ i) × (length b ≡ length b₀) × T (every (has-room (length b)) (map (spot divided n) (drop i (take k rows)))) × (swept e (map (spot divided n) (take k rows)) b₀ ≡ removed + swept e (map (spot divided n) (drop i (take k rows))) b) × (sweep e (map (spot divided n) (take k rows)) b₀ ≡ sweep e (map (spot divided n) (drop i (take k rows))) b)
+Inv-loop b₀ divided n e rows k removed₀ i₀ b removed i =
+    (i ≤ k)
+    × (removed ≤ i)
+    × (length b ≡ length b₀)
+    × T (every (has-room (length b)) (map (spot divided n) (drop i (take k rows))))
+    × (swept e (map (spot divided n) (take k rows)) b₀ ≡ removed + swept e (map (spot divided n) (drop i (take k rows))) b)
+    × (sweep e (map (spot divided n) (take k rows)) b₀ ≡ sweep e (map (spot divided n) (drop i (take k rows))) b)
 
 abbrev μ-loop : tie.MeasureT-loop
 μ-loop b₀ divided n e rows k removed₀ i₀ b removed i = k - i
@@ -24,7 +29,12 @@ in-use-requires : tie.Need-in-use-requires Inv-loop μ-loop
 in-use-requires c κs = search needs
 
 loop-holds : tie.Need-loop-holds Inv-loop μ-loop
-loop-holds c = let u = c .in-use in let q = c .before .before .before in let s = q .args in let many : length (s .n .stations) ≡ 16 = simp length-map at (c .before .before .before .good .1 .1 .0 .1 .1 .1 .0 .1 .0 .1) in (omega arith, omega arith, refl, rw (places-are (s .n) (u .result) many (u .ensures) (s .divided)) at (q .pre), omega arith, refl)
+loop-holds c =
+    let u = c .in-use in
+    let q = c .before .before .before in
+    let s = q .args in
+    let many : length (s .n .stations) ≡ 16 = simp length-map at (c .before .before .before .good .1 .1 .0 .1 .1 .1 .0 .1 .0 .1) in
+    (omega arith, omega arith, refl, rw (places-are (s .n) (u .result) many (u .ensures) (s .divided)) at (q .pre), omega arith, refl)
 
 mul-row : tie.Need-mul-row Inv-loop μ-loop
 mul-row c = omega arith
@@ -36,10 +46,23 @@ place-of-requires : tie.Need-place-of-requires Inv-loop μ-loop
 place-of-requires c κs = search needs
 
 sweep-one-requires : tie.Need-sweep-one-requires Inv-loop μ-loop
-sweep-one-requires c κs = let l = c .before .before .before .before .loop in let u = c .before .before .before .before .before .in-use in let s = c .before .before .before .before .before .before .before .before .args in let many : length (s .n .stations) ≡ 16 = simp length-map at (c .before .before .before .before .before .before .before .before .good .1 .1 .0 .1 .1 .1 .0 .1 .0 .1) in let p = c .place-of .ensures in (rw (p .0) (room-here (s .n .stations) (u .result) (omega arith) (l .i) (spot (s .divided) (s .n)) (length (l .b)) (omega arith) (l .inv .3)), p .1)
+sweep-one-requires c κs =
+    let l = c .before .before .before .before .loop in
+    let u = c .before .before .before .before .before .in-use in
+    let s = c .before .before .before .before .before .before .before .before .args in
+    let many : length (s .n .stations) ≡ 16 = simp length-map at
+    (c .before .before .before .before .before .before .before .before .good .1 .1 .0 .1 .1 .1 .0 .1 .0 .1) in
+    let p = c .place-of .ensures in (
+      rw (p .0) (room-here (s .n .stations) (u .result) (omega arith) (l .i) (spot (s .divided) (s .n)) (length (l .b)) (omega arith) (l .inv .3)),
+      p .1,
+    )
 
 add-removed : tie.Need-add-removed Inv-loop μ-loop
-add-removed c = let l = c .before .before .before .before .before .before .before .loop in let u = c .before .before .before .before .before .before .before .before .in-use in let w = c .before .before .sweep-one in omega arith
+add-removed c =
+    let l = c .before .before .before .before .before .before .before .loop in
+    let u = c .before .before .before .before .before .before .before .before .in-use in
+    let w = c .before .before .sweep-one in
+    omega arith
 
 add-i : tie.Need-add-i Inv-loop μ-loop
 add-i c = omega arith
@@ -48,13 +71,42 @@ loop-less : tie.Need-loop-less Inv-loop μ-loop
 loop-less c = omega arith
 
 loop-again : tie.Need-loop-again Inv-loop μ-loop
-loop-again c = let l = c .before .before .before .before .before .before .before .loop in let u = c .before .before .before .before .before .before .before .before .in-use in let q = c .before .before .before .before .before .before .before .before .before .before .before in let s = q .args in let w = c .before .before .sweep-one in let p = c .before .before .before .place-of in let many : length (s .n .stations) ≡ 16 = simp length-map at (c .before .before .before .before .before .before .before .before .before .before .before .good .1 .1 .0 .1 .1 .1 .0 .1 .0 .1) in let is = w .ensures .1 ∙ ap (λ (x : ℕ). change-cell x (here-page (s .e)) (l .b)) (p .ensures .0) in let told = w .ensures .0 ∙ ap (λ (x : ℕ). visits-on (s .e) (cell x (l .b))) (p .ensures .0) in let on = swept-on (s .n .stations) (u .result) (omega arith) (l .i) (spot (s .divided) (s .n)) (s .e) (l .b) (omega arith) in (omega arith, omega arith, w .kept .0 ∙ l .inv .2, rw (w .kept .0) (room-later (s .n .stations) (u .result) (omega arith) (l .i) (spot (s .divided) (s .n)) (length (l .b)) (omega arith) (l .inv .3)), rw is (l .inv .4 ∙ ap (λ (x : ℕ). l .removed + x) on ∙ ap (λ (x : ℕ). l .removed + (x + swept (s .e) (map (spot (s .divided) (s .n)) (drop (l .i + 1) (take (u .result) (s .n .stations)))) (change-cell (spot (s .divided) (s .n) (getD (s .n .stations) (l .i) nowhere)) (here-page (s .e)) (l .b)))) (sym told) ∙ omega arith), rw is (l .inv .5 ∙ sweep-on (s .n .stations) (u .result) (omega arith) (l .i) (spot (s .divided) (s .n)) (s .e) (l .b) (omega arith)))
+loop-again c =
+    let l = c .before .before .before .before .before .before .before .loop in
+    let u = c .before .before .before .before .before .before .before .before .in-use in
+    let q = c .before .before .before .before .before .before .before .before .before .before .before in
+    let s = q .args in
+    let w = c .before .before .sweep-one in
+    let p = c .before .before .before .place-of in
+    let many : length (s .n .stations) ≡ 16 = simp length-map at (c .before .before .before .before .before .before .before .before .before .before .before .good .1 .1 .0 .1 .1 .1 .0 .1 .0 .1) in
+    let is = w .ensures .1 ∙ ap (λ (x : ℕ). change-cell x (here-page (s .e)) (l .b)) (p .ensures .0) in
+    let told = w .ensures .0 ∙ ap (λ (x : ℕ). visits-on (s .e) (cell x (l .b))) (p .ensures .0) in
+    let on = swept-on (s .n .stations) (u .result) (omega arith) (l .i) (spot (s .divided) (s .n)) (s .e) (l .b) (omega arith) in (
+      omega arith,
+      omega arith,
+      w .kept .0 ∙ l .inv .2,
+      rw (w .kept .0)
+          (room-later (s .n .stations) (u .result) (omega arith) (l .i) (spot (s .divided) (s .n)) (length (l .b)) (omega arith) (l .inv .3)),
+      rw is
+          (l .inv .4 ∙ ap (λ (x : ℕ). l .removed + x) on ∙ ap (λ (x : ℕ). l .removed + (x + swept (s .e) (map (spot (s .divided) (s .n)) (drop (l .i + 1) (take (u .result) (s .n .stations)))) (change-cell (spot (s .divided) (s .n) (getD (s .n .stations) (l .i) nowhere)) (here-page (s .e)) (l .b)))) (sym told) ∙ omega arith),
+      rw is (l .inv .5 ∙ sweep-on (s .n .stations) (u .result) (omega arith) (l .i) (spot (s .divided) (s .n)) (s .e) (l .b) (omega arith)),
+    )
 
 same-length : tie.Need-same-length Inv-loop μ-loop
 same-length c = c .before .loop .inv .2
 
 returns : tie.Need-returns Inv-loop μ-loop
-returns c = let l = c .before .loop in let u = c .before .before .in-use in let q = c .before .before .before .before .before in let s = q .args in let many : length (s .n .stations) ≡ 16 = simp length-map at (c .before .before .before .before .before .good .1 .1 .0 .1 .1 .1 .0 .1 .0 .1) in let all = places-are (s .n) (u .result) many (u .ensures) (s .divided) in let none = swept-over (s .n .stations) (u .result) (omega arith) (l .i) (spot (s .divided) (s .n)) (s .e) (l .b) (omega arith) in (sym (rw all (l .inv .4 ∙ omega arith)), sym (rw all (l .inv .5 ∙ sweep-over (s .n .stations) (u .result) (omega arith) (l .i) (spot (s .divided) (s .n)) (s .e) (l .b) (omega arith))))
+returns c =
+    let l = c .before .loop in
+    let u = c .before .before .in-use in
+    let q = c .before .before .before .before .before in
+    let s = q .args in
+    let many : length (s .n .stations) ≡ 16 = simp length-map at (c .before .before .before .before .before .good .1 .1 .0 .1 .1 .1 .0 .1 .0 .1) in
+    let all = places-are (s .n) (u .result) many (u .ensures) (s .divided) in
+    let none = swept-over (s .n .stations) (u .result) (omega arith) (l .i) (spot (s .divided) (s .n)) (s .e) (l .b) (omega arith) in (
+      sym (rw all (l .inv .4 ∙ omega arith)),
+      sym (rw all (l .inv .5 ∙ sweep-over (s .n .stations) (u .result) (omega arith) (l .i) (spot (s .divided) (s .n)) (s .e) (l .b) (omega arith))),
+    )
 
 pub sweep-all-spec : {M : Type 1} → statement M
 sweep-all-spec =

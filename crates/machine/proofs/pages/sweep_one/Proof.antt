@@ -1,6 +1,5 @@
 -- `machine::pages::sweep_one` meets its contract: the lent page is counted and then changed. Assumes nothing.
-use mathlib.Core.Path.{_≡_, refl, sym, _∙_, ap, ap₂}
-use native.Mathlib.Omega.{arith}
+use mathlib.Core.Path.{_∙_, ap}
 use denote.Ref.{now}
 use Rattle.machine.specs.Cells.{visits-on}
 use Rattle.machine.proofs.CellLaws.{lent-cell}
@@ -33,7 +32,10 @@ same-length : tie.Need-same-length
 same-length c = search needs
 
 returns : tie.Need-returns
-returns c = let s = c .before .before .before .before .before .before .before .before in let k = c .before .before .before .before .count-on in (k .ensures .0 ∙ ap (visits-on (s .args .e)) (lent-cell (s .args .i) (now (s .args .b))), c .before .before .change-near .ensures, k .ensures .1)
+returns c =
+    let s = c .before .before .before .before .before .before .before .before in
+    let k = c .before .before .before .before .count-on in
+    (k .ensures .0 ∙ ap (visits-on (s .args .e)) (lent-cell (s .args .i) (now (s .args .b))), c .before .before .change-near .ensures, k .ensures .1)
 
 pub sweep-one-spec : {M : Type 1} → statement M
 sweep-one-spec =
