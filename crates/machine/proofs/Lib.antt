@@ -6,3 +6,4 @@ pub mod CallLaws
 pub mod RowSteps
 pub mod EditFacts
 pub mod PairSteps
+pub mod ListEdits
