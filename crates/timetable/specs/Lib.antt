@@ -1,4 +1,5 @@
 pub mod Types
+pub mod Outputs
 pub mod Visits
 pub mod Tables
 pub mod Machine

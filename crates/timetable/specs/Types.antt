@@ -30,3 +30,4 @@ pub use Rattle.timetable.specs.declared.Answer.{Answer}
 pub use Rattle.timetable.specs.declared.Finding.{Finding}
 pub use Rattle.timetable.specs.declared.Row.{Row}
 pub use Rattle.timetable.specs.declared.Tally.{Tally}
+pub use Rattle.timetable.specs.declared.Output.{Output}

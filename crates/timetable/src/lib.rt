@@ -31,3 +31,12 @@ pub struct Tally {
     pub added: u32,
     pub removed: u32,
 }
+
+// What a call that fills a lent buffer answers.
+pub enum Output {
+    // How many numbers it wrote, from the buffer's start.
+    Written(usize),
+    Refused(u8),
+    // 13, with the needed length.
+    TooShort(usize),
+}
