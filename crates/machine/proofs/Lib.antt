@@ -7,3 +7,4 @@ pub mod RowSteps
 pub mod EditFacts
 pub mod PairSteps
 pub mod ListEdits
+pub mod TestedLaws

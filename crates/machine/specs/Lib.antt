@@ -1,3 +1,4 @@
 pub mod Types
 pub mod Calls
 pub mod Cells
+pub mod Tested

@@ -1,6 +1,7 @@
 // The calls of the central machine: an edit on a sheet, an edit on a division. Refusals in document 01's order: 5, 3, 4, 7, 6, then 8 to 12.
 ghost use mathlib.Core.Path.{_≡_};
 ghost use Rattle.machine.specs.Calls.{refused-with, sheet-answer, sheet-after, division-answer, division-after};
+ghost use Rattle.machine.specs.Tested.{tested-answer, tested-after};
 use crate::facts;
 use crate::pages;
 use railway::edit::Edit;
@@ -47,4 +48,18 @@ pub fn edit_division(division: &mut [u8], n: Network, e: Edit) -> Answer
         return pages::edit_pages(division, true, n, e);
     }
     refused(6)
+}
+
+// On a division whose sheets are known to be good, as they are after any edit on a good one: they are not tested again.
+pub fn edit_tested(division: &mut [u8], n: Network, e: Edit) -> Answer
+    ensures { λ r. ⌜ (r ≡ tested-answer n e (now (division .entry))) × (now (division .exit) ≡ tested-after n e (now (division .entry))) ⌝ }
+{
+    if division.len() != 49152 {
+        return refused(5);
+    }
+    let early = facts::early_refusal(n, e);
+    if early != 0 {
+        return refused(early);
+    }
+    pages::edit_pages(division, true, n, e)
 }
