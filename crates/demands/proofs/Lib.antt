@@ -1,0 +1,2 @@
+pub mod Central
+pub mod Balances
