@@ -1,3 +1,4 @@
 pub mod Locality
 pub mod Partition
 pub mod TableLaws
+pub mod PutLaws
