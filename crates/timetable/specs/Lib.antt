@@ -1,9 +1,12 @@
 pub mod Types
 pub mod Outputs
+pub mod Formats
 pub mod Visits
 pub mod Tables
 pub mod Machine
 pub mod Groups
+pub mod NetworkFile
+pub mod EditsFile
 pub mod Good
 pub mod Rules
 pub mod Findings
