@@ -8,6 +8,7 @@ pub mod Groups
 pub mod NetworkFile
 pub mod EditsFile
 pub mod Good
+pub mod TimetableFile
 pub mod Rules
 pub mod Findings
 pub mod Projection
