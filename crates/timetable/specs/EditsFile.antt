@@ -108,24 +108,37 @@ report-of ns = record { station = record { 0 = getD ns 0 0 }; train = record { 0
 unfoldable pub report-numbers : Report → List ℕ
 report-numbers r = r .station .0 ∷ r .train .0 ∷ r .time .0 ∷ []
 
--- a row of numbers, as an edit
-unfoldable pub as-edit : List Range → (List ℕ → Edit) → Format Edit
-as-edit rs make = row rs [] and-then (λ ns. done (make ns))
+-- the ranges of an edit's fields, and the edit of such fields, by the kind; 9 and 10 hold a relation instead
 
--- the fields of an edit of a kind
+unfoldable pub edit-ranges : ℕ → List Range
+edit-ranges kind =
+    if eqb kind 1 then plan-ranges
+    else if eqb kind 2 then extension-ranges
+    else if eqb kind 3 then extension-ranges
+    else if eqb kind 4 then deletion-ranges
+    else if eqb kind 5 then deletion-ranges
+    else if eqb kind 6 then plan-ranges
+    else if eqb kind 7 then report-ranges
+    else if eqb kind 8 then report-ranges
+    else (1 to 9999 ∷ [])
+
+unfoldable pub edit-of : ℕ → List ℕ → Edit
+edit-of kind ns =
+    if eqb kind 1 then Place (plan-of ns)
+    else if eqb kind 2 then Prepend (extension-of ns)
+    else if eqb kind 3 then Append (extension-of ns)
+    else if eqb kind 4 then DeleteFirst (deletion-of ns)
+    else if eqb kind 5 then DeleteLast (deletion-of ns)
+    else if eqb kind 6 then Amend (plan-of ns)
+    else if eqb kind 7 then ReportArrival (report-of ns)
+    else if eqb kind 8 then ReportDeparture (report-of ns)
+    else DeleteTrain (record { train = record { 0 = getD ns 0 0 } })
+
 unfoldable pub edit-fields : ℕ → Format Edit
 edit-fields kind =
-    if eqb kind 1 then as-edit plan-ranges (λ ns. Place (plan-of ns))
-    else if eqb kind 2 then as-edit extension-ranges (λ ns. Prepend (extension-of ns))
-    else if eqb kind 3 then as-edit extension-ranges (λ ns. Append (extension-of ns))
-    else if eqb kind 4 then as-edit deletion-ranges (λ ns. DeleteFirst (deletion-of ns))
-    else if eqb kind 5 then as-edit deletion-ranges (λ ns. DeleteLast (deletion-of ns))
-    else if eqb kind 6 then as-edit plan-ranges (λ ns. Amend (plan-of ns))
-    else if eqb kind 7 then as-edit report-ranges (λ ns. ReportArrival (report-of ns))
-    else if eqb kind 8 then as-edit report-ranges (λ ns. ReportDeparture (report-of ns))
-    else if eqb kind 9 then (station-relation-entry [] and-then (λ r. done (AddRelation r)))
+    if eqb kind 9 then (station-relation-entry [] and-then (λ r. done (AddRelation r)))
     else if eqb kind 10 then (station-relation-entry [] and-then (λ r. done (RemoveRelation r)))
-    else as-edit (1 to 9999 ∷ []) (λ ns. DeleteTrain (record { train = record { 0 = getD ns 0 0 } }))
+    else (row (edit-ranges kind) [] and-then (λ ns. done (edit-of kind ns)))
 
 unfoldable pub edit-entry : Format Edit
 edit-entry = field 1 11 edit-fields
@@ -181,5 +194,5 @@ read-shift file =
 unfoldable pub opened : Unit {0}
 unfolding trains-format pair-of group-of relation-of most-trains relation-entry group-numbers relation-numbers station-relation-entry station-relation-numbers
     plan-ranges plan-of plan-numbers extension-ranges extension-of extension-numbers deletion-ranges deletion-of deletion-numbers report-ranges report-of
-    report-numbers as-edit edit-fields edit-entry edit-numbers edits-on edits-format read-edits edits-numbers shift-format read-shift
+    report-numbers edit-ranges edit-of edit-fields edit-entry edit-numbers edits-on edits-format read-edits edits-numbers shift-format read-shift
 opened = tt
