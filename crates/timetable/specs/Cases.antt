@@ -4,7 +4,7 @@ use mathlib.Core.Bool.{Bool, true, false, not, _&&_, Bool·beq}
 use mathlib.Core.List.{List, [], _∷_, _++_, map, flatMap}
 use lib.Dec.{eqb}
 use lib.IntN.{ℤ, pos, negsuc}
-use lib.ListN.{length, replicate, getD, take}
+use lib.ListN.{length, getD, take}
 use Rattle.base.specs.Choice.{if_then_else_}
 use Rattle.base.specs.Lists as Lists
 use Rattle.base.specs.Lists.{any, keep, same}
@@ -24,6 +24,14 @@ use Rattle.timetable.specs.Types.{Relation, Connection, Disconnection, D
 use Rattle.timetable.specs.Types.{Edit, Place, Prepend, Append, DeleteFirst, DeleteLast, Amend}
 use Rattle.timetable.specs.Types.{ReportArrival, ReportDeparture, AddRelation, RemoveRelation, DeleteTrain}
 use Rattle.timetable.specs.Types.{StationRow, LineRow, Network, Answer, Finding, Row, Tally}
+use Rattle.timetable.specs.Formats as Formats
+use Rattle.timetable.specs.Formats.{Outcome, accepted, refused, bytes-of, Placed}
+use Rattle.timetable.specs.NetworkFile as NetworkFile
+use Rattle.timetable.specs.NetworkFile.{network-with as network, network-numbers, read-network}
+use Rattle.timetable.specs.EditsFile as EditsFile
+use Rattle.timetable.specs.EditsFile.{Shift, edit-numbers, edits-numbers, read-edits, read-shift}
+use Rattle.timetable.specs.TimetableFile as TimetableFile
+use Rattle.timetable.specs.TimetableFile.{read-timetable, timetable-numbers}
 use Rattle.timetable.specs.Visits as Visits
 use Rattle.timetable.specs.Tables as Tables
 use Rattle.timetable.specs.Tables.{Entry, Table}
@@ -107,15 +115,6 @@ station s a k = record { station = st s; area = record { 0 = a }; tracks = k }
 unfoldable pub line : ℕ → ℕ → ℕ → ℕ → ℕ → ℕ → LineRow
 line l a b k r c = record { line = ln l; first = st a; second = st b; kind = k; least = r; capacity = c }
 
-unfoldable pub network : List StationRow → ℕ → List LineRow → Network
-network ss h ls = record {
-  stationcount = length ss;
-  stations = ss ++ replicate (16 - length ss) (station 0 0 0);
-  headway = h;
-  linecount = length ls;
-  lines = ls ++ replicate (32 - length ls) (line 0 0 0 0 0 0);
-}
-
 -- the network of the listing: `2, 1 1 2, 2 2 1, 3, 1, 1 1 2 3 10 1`
 unfoldable pub with-capacity : ℕ → Network
 with-capacity c = network (station 1 1 2 ∷ station 2 2 1 ∷ []) 3 (line 1 1 2 3 10 c ∷ [])
@@ -185,6 +184,20 @@ run-of es = run (after net) es nothing-placed
 unfoldable pub listed-edits : List Edit
 listed-edits = place 1 7 1 100 102 ∷ append (plan 2 7 1 115 115) 1 1 12 ∷ place 1 7 1 100 102 ∷ relate (Connection 5 (two 7 9)) ∷ []
 
+-- the numbers of the listing's network: 15 bytes
+unfoldable pub net-numbers : List ℕ
+net-numbers = 2 ∷ 1 ∷ 1 ∷ 2 ∷ 2 ∷ 2 ∷ 1 ∷ 3 ∷ 1 ∷ 1 ∷ 1 ∷ 2 ∷ 3 ∷ 10 ∷ 1 ∷ []
+
+-- visits of a timetable file at station 1, of k trains from the given number on: each 10 bytes
+unfoldable pub crowd-visits : ℕ → ℕ → List ℕ
+crowd-visits from zero = []
+crowd-visits from (suc k) = 1 ∷ from ∷ 1 ∷ 100 ∷ 0 ∷ 102 ∷ 0 ∷ 0 ∷ 0 ∷ crowd-visits (suc from) k
+
+-- connections of a timetable file at station 1: each 6 bytes
+unfoldable pub connected : ℕ → ℕ → List ℕ
+connected from zero = []
+connected from (suc k) = 1 ∷ 1 ∷ from ∷ 2 ∷ 7 ∷ 8 ∷ connected (suc from) k
+
 -- cases
 
 pub data Case : Type 0 where
@@ -192,6 +205,11 @@ pub data Case : Type 0 where
   bytes : ℕ → List ℕ → Case
   -- reading the bytes is refused with the number
   unread : List ℕ → ℕ → Case
+  -- what reading a file gives: 0, the place behind it and the numbers of what was read; or the refusal and its place
+  network-file : List ℕ → List ℕ → Case
+  edits-file : List ℕ → List ℕ → Case
+  shift-file : List ℕ → List ℕ → Case
+  timetable-file : Network → List ℕ → List ℕ → Case
   -- after the edits on an empty timetable the finding is listed, or not
   found : Network → List Edit → Finding → Bool → Case
   -- in the timetable, given directly, the finding is listed, or not
@@ -247,9 +265,23 @@ row-numbers rs = flatMap (λ r. r .station .0 ∷ r .arrival ∷ r .departure �
 unfoldable pub each-before : List Relation → Bool
 each-before rs = Lists.each-two Relations.precedes rs
 
+unfoldable pub outcome-numbers : {A : Type 0} → (A → List ℕ) → Outcome A → List ℕ
+outcome-numbers f (accepted a next) = 0 ∷ next ∷ f a
+outcome-numbers f (refused k p) = k ∷ p ∷ []
+
+unfoldable pub placed-edits : Placed (List Edit) → List ℕ
+placed-edits p = p .place ∷ edits-numbers (p .entry)
+
+unfoldable pub shift-numbers : Shift → List ℕ
+shift-numbers x = network-numbers (x .network) ++ placed-edits (x .edits)
+
 unfoldable pub passes : Case → Bool
 passes (bytes n bs) = same (write-number n) bs && reads-as n (length bs) (read-number bs)
 passes (unread bs k) = reads-refused k (read-number bs)
+passes (network-file bs ks) = same ks (outcome-numbers network-numbers (read-network bs))
+passes (edits-file bs ks) = same ks (outcome-numbers placed-edits (read-edits bs))
+passes (shift-file bs ks) = same ks (outcome-numbers shift-numbers (read-shift bs))
+passes (timetable-file n bs ks) = same ks (outcome-numbers (timetable-numbers n) (read-timetable n bs))
 passes (found n es f b) = Bool·beq b (lists f (findings n (run (after n) es nothing-placed)))
 passes (stands n m f b) = Bool·beq b (lists f (findings n m))
 passes (related es rs) = same (flatMap key (run-of es (st 1) .relations)) (flatMap key rs)
@@ -272,9 +304,10 @@ failing k (c ∷ cs) = if passes c then failing (suc k) cs else k ∷ failing (s
 
 -- The key ring of this module and of all that it computes with.
 unfoldable pub opened : Unit {0}
-unfolding st tr ln at plan place prepend append delete-first delete-last arrives departs relate unrelate delete-train four two pair station line network
+unfolding st tr ln at plan place prepend append delete-first delete-last arrives departs relate unrelate delete-train four two pair station line
     with-capacity net branch leaving inbound crowd connections visiting by to tabled standing bare counted told run-of listed-edits
-    reads-as reads-refused lists answer-numbers finding-numbers signed row-numbers each-before passes failing
+    net-numbers crowd-visits connected outcome-numbers placed-edits shift-numbers reads-as reads-refused lists answer-numbers finding-numbers signed row-numbers each-before passes failing
     Lists.opened Runs.opened Numbers.opened Relations.opened Edits.opened Networks.opened
+    Formats.opened NetworkFile.opened EditsFile.opened TimetableFile.opened
     Visits.opened Tables.opened Machine.opened Groups.opened Good.opened Rules.opened Findings.opened Projection.opened Count.opened Listing.opened
 opened = tt

@@ -6,11 +6,14 @@ use mathlib.Core.List.{List, [], _∷_, _++_}
 use Rattle.timetable.specs.Types.{Connection, Disconnection, Dependency, InLink, OutLink, Edit, Amend}
 use Rattle.timetable.specs.Findings.{finding}
 use Rattle.timetable.specs.Machine.{nothing-placed}
+use Rattle.timetable.specs.Formats.{bytes-of}
+use Rattle.timetable.specs.NetworkFile.{network-with as network}
 use Rattle.timetable.specs.Cases as Cases
 use Rattle.timetable.specs.Cases.{st, plan, place, prepend, append, delete-first, delete-last, arrives, departs, relate, unrelate, delete-train}
-use Rattle.timetable.specs.Cases.{four, two, pair, station, line, network, with-capacity, net, branch, leaving, inbound, crowd, connections}
+use Rattle.timetable.specs.Cases.{four, two, pair, station, line, with-capacity, net, branch, leaving, inbound, crowd, connections}
 use Rattle.timetable.specs.Cases.{visiting, by, to, tabled, standing, bare, counted, told}
 use Rattle.timetable.specs.Cases.{Case, bytes, unread, found, stands, related, answered, answered-on, ordered, network-is, naming, table-is}
+use Rattle.timetable.specs.Cases.{network-file, edits-file, shift-file, timetable-file, net-numbers, crowd-visits, connected}
 use Rattle.timetable.specs.Cases.{area-has, pair-has, projected, tallied, printed, failing, run-of, listed-edits}
 
 -- document 01, "Examples on the edges" and "A run of the program `shift`"
@@ -307,9 +310,153 @@ others =
     ∷ tallied (counted 0 0 0 1000001) (place 1 7 1 1 1) (told 0 0) (5 ∷ 65 ∷ 0 ∷ 0 ∷ 0 ∷ 1000001 ∷ [])
     ∷ []
 
+-- files
+pub files : List Case
+files =
+    -- networks: read, empty, goes on, ends early, ends within a number
+    network-file (bytes-of net-numbers) (0 ∷ 15 ∷ net-numbers)
+    ∷ network-file (bytes-of (1 ∷ 16 ∷ 6 ∷ 8 ∷ 30 ∷ 0 ∷ [])) (0 ∷ 6 ∷ 1 ∷ 16 ∷ 6 ∷ 8 ∷ 30 ∷ 0 ∷ [])
+    ∷ network-file [] (1 ∷ 0 ∷ [])
+    ∷ network-file (bytes-of (2 ∷ 1 ∷ 1 ∷ 2 ∷ 2 ∷ 2 ∷ 1 ∷ 3 ∷ 1 ∷ 1 ∷ 1 ∷ 2 ∷ 3 ∷ 10 ∷ 1 ∷ 0 ∷ [])) (1 ∷ 15 ∷ [])
+    ∷ network-file (bytes-of (2 ∷ 1 ∷ 1 ∷ 2 ∷ 2 ∷ 2 ∷ 1 ∷ 3 ∷ 1 ∷ 1 ∷ 1 ∷ 2 ∷ 3 ∷ 10 ∷ 1 ∷ 0 ∷ 0 ∷ [])) (1 ∷ 15 ∷ [])
+    ∷ network-file (bytes-of (2 ∷ 1 ∷ 1 ∷ 2 ∷ 2 ∷ 2 ∷ 1 ∷ 3 ∷ 1 ∷ 1 ∷ 1 ∷ 2 ∷ 3 ∷ 10 ∷ [])) (1 ∷ 14 ∷ [])
+    ∷ network-file (2 ∷ 1 ∷ 1 ∷ 2 ∷ 2 ∷ 2 ∷ 1 ∷ 3 ∷ 1 ∷ 1 ∷ 1 ∷ 2 ∷ 3 ∷ 10 ∷ 129 ∷ []) (1 ∷ 15 ∷ [])
+    -- a number that is not shortest, one of four bytes, one whose third byte has the top bit set and that ends there
+    ∷ network-file (2 ∷ 1 ∷ 129 ∷ 0 ∷ 2 ∷ 2 ∷ 2 ∷ 1 ∷ 3 ∷ 1 ∷ 1 ∷ 1 ∷ 2 ∷ 3 ∷ 10 ∷ 1 ∷ []) (2 ∷ 2 ∷ [])
+    ∷ network-file (128 ∷ 128 ∷ 128 ∷ 1 ∷ []) (2 ∷ 0 ∷ [])
+    ∷ network-file (2 ∷ 1 ∷ 128 ∷ 128 ∷ 128 ∷ []) (2 ∷ 2 ∷ [])
+    -- ranges, the value above its range written as it should be; the first faulty number decides
+    ∷ network-file (bytes-of (0 ∷ [])) (3 ∷ 0 ∷ [])
+    ∷ network-file (bytes-of (17 ∷ [])) (3 ∷ 0 ∷ [])
+    ∷ network-file (bytes-of (1 ∷ 17 ∷ 1 ∷ 1 ∷ 3 ∷ 0 ∷ [])) (3 ∷ 1 ∷ [])
+    ∷ network-file (bytes-of (1 ∷ 0 ∷ 1 ∷ 1 ∷ 3 ∷ 0 ∷ [])) (3 ∷ 1 ∷ [])
+    ∷ network-file (bytes-of (1 ∷ 1 ∷ 7 ∷ 1 ∷ 3 ∷ 0 ∷ [])) (3 ∷ 2 ∷ [])
+    ∷ network-file (bytes-of (1 ∷ 1 ∷ 1 ∷ 9 ∷ 3 ∷ 0 ∷ [])) (3 ∷ 3 ∷ [])
+    ∷ network-file (bytes-of (1 ∷ 1 ∷ 1 ∷ 8 ∷ 31 ∷ 0 ∷ [])) (3 ∷ 4 ∷ [])
+    ∷ network-file (bytes-of (1 ∷ 1 ∷ 1 ∷ 8 ∷ 0 ∷ 0 ∷ [])) (3 ∷ 4 ∷ [])
+    ∷ network-file (bytes-of (1 ∷ 1 ∷ 1 ∷ 8 ∷ 3 ∷ 33 ∷ [])) (3 ∷ 5 ∷ [])
+    ∷ network-file (bytes-of (1 ∷ 300 ∷ 0 ∷ 8 ∷ 3 ∷ 33 ∷ [])) (3 ∷ 1 ∷ [])
+    ∷ network-file (bytes-of (1 ∷ 1 ∷ 300 ∷ 8 ∷ 3 ∷ 33 ∷ [])) (3 ∷ 2 ∷ [])
+    ∷ network-file (bytes-of (2 ∷ 1 ∷ 1 ∷ 2 ∷ 2 ∷ 2 ∷ 1 ∷ 3 ∷ 1 ∷ 1 ∷ 1 ∷ 2 ∷ 4 ∷ 10 ∷ 1 ∷ [])) (3 ∷ 12 ∷ [])
+    ∷ network-file (bytes-of (2 ∷ 1 ∷ 1 ∷ 2 ∷ 2 ∷ 2 ∷ 1 ∷ 3 ∷ 1 ∷ 1 ∷ 1 ∷ 2 ∷ 3 ∷ 241 ∷ 1 ∷ [])) (3 ∷ 13 ∷ [])
+    ∷ network-file (bytes-of (2 ∷ 1 ∷ 1 ∷ 2 ∷ 2 ∷ 2 ∷ 1 ∷ 3 ∷ 1 ∷ 1 ∷ 1 ∷ 2 ∷ 3 ∷ 240 ∷ 10 ∷ [])) (3 ∷ 15 ∷ [])
+    ∷ network-file (bytes-of (2 ∷ 1 ∷ 1 ∷ 2 ∷ 2 ∷ 2 ∷ 1 ∷ 3 ∷ 1 ∷ 1 ∷ 17 ∷ 2 ∷ 3 ∷ 10 ∷ 1 ∷ [])) (3 ∷ 10 ∷ [])
+    -- stations in falling order, equal ones; lines likewise
+    ∷ network-file (bytes-of (2 ∷ 2 ∷ 1 ∷ 2 ∷ 1 ∷ 2 ∷ 1 ∷ 3 ∷ 1 ∷ 1 ∷ 1 ∷ 2 ∷ 3 ∷ 10 ∷ 1 ∷ [])) (3 ∷ 4 ∷ [])
+    ∷ network-file (bytes-of (2 ∷ 1 ∷ 1 ∷ 2 ∷ 1 ∷ 2 ∷ 1 ∷ 3 ∷ 1 ∷ 1 ∷ 1 ∷ 2 ∷ 3 ∷ 10 ∷ 1 ∷ [])) (3 ∷ 4 ∷ [])
+    ∷ network-file (bytes-of (2 ∷ 1 ∷ 1 ∷ 2 ∷ 2 ∷ 2 ∷ 1 ∷ 3 ∷ 2 ∷ 2 ∷ 1 ∷ 2 ∷ 3 ∷ 10 ∷ 1 ∷ 1 ∷ 1 ∷ 2 ∷ 3 ∷ 10 ∷ 1 ∷ [])) (3 ∷ 15 ∷ [])
+    ∷ network-file (bytes-of (2 ∷ 1 ∷ 1 ∷ 2 ∷ 2 ∷ 2 ∷ 1 ∷ 3 ∷ 2 ∷ 2 ∷ 1 ∷ 2 ∷ 3 ∷ 10 ∷ 1 ∷ 2 ∷ 1 ∷ 2 ∷ 3 ∷ 10 ∷ 1 ∷ [])) (3 ∷ 15 ∷ [])
+    ∷ network-file (bytes-of (2 ∷ 1 ∷ 1 ∷ 2 ∷ 2 ∷ 2 ∷ 1 ∷ 3 ∷ 2 ∷ 2 ∷ 1 ∷ 2 ∷ 3 ∷ 10 ∷ 1 ∷ 3 ∷ 1 ∷ 2 ∷ 3 ∷ 10 ∷ 1 ∷ [])) (0 ∷ 21 ∷ 2 ∷ 1 ∷ 1 ∷ 2 ∷ 2 ∷ 2 ∷ 1 ∷ 3 ∷ 2 ∷ 2 ∷ 1 ∷ 2 ∷ 3 ∷ 10 ∷ 1 ∷ 3 ∷ 1 ∷ 2 ∷ 3 ∷ 10 ∷ 1 ∷ [])
+    -- equal ends, ends not listed: at the line's first byte, but a faulty number or a byte too many behind it comes first
+    ∷ network-file (bytes-of (2 ∷ 1 ∷ 1 ∷ 2 ∷ 2 ∷ 2 ∷ 1 ∷ 3 ∷ 1 ∷ 1 ∷ 1 ∷ 1 ∷ 3 ∷ 10 ∷ 1 ∷ [])) (4 ∷ 9 ∷ [])
+    ∷ network-file (bytes-of (2 ∷ 1 ∷ 1 ∷ 2 ∷ 2 ∷ 2 ∷ 1 ∷ 3 ∷ 1 ∷ 1 ∷ 1 ∷ 3 ∷ 3 ∷ 10 ∷ 1 ∷ [])) (4 ∷ 9 ∷ [])
+    ∷ network-file (bytes-of (2 ∷ 1 ∷ 1 ∷ 2 ∷ 2 ∷ 2 ∷ 1 ∷ 3 ∷ 1 ∷ 1 ∷ 3 ∷ 1 ∷ 3 ∷ 10 ∷ 1 ∷ [])) (4 ∷ 9 ∷ [])
+    ∷ network-file (bytes-of (2 ∷ 1 ∷ 1 ∷ 2 ∷ 2 ∷ 2 ∷ 1 ∷ 3 ∷ 2 ∷ 1 ∷ 1 ∷ 2 ∷ 3 ∷ 10 ∷ 1 ∷ 2 ∷ 3 ∷ 1 ∷ 3 ∷ 10 ∷ 1 ∷ [])) (4 ∷ 15 ∷ [])
+    ∷ network-file (bytes-of (2 ∷ 1 ∷ 1 ∷ 2 ∷ 2 ∷ 2 ∷ 1 ∷ 3 ∷ 2 ∷ 1 ∷ 1 ∷ 1 ∷ 3 ∷ 10 ∷ 1 ∷ 2 ∷ 3 ∷ 1 ∷ 3 ∷ 10 ∷ 1 ∷ [])) (4 ∷ 9 ∷ [])
+    ∷ network-file (bytes-of (2 ∷ 1 ∷ 1 ∷ 2 ∷ 2 ∷ 2 ∷ 1 ∷ 3 ∷ 2 ∷ 1 ∷ 1 ∷ 1 ∷ 3 ∷ 10 ∷ 1 ∷ 2 ∷ 1 ∷ 2 ∷ 3 ∷ 10 ∷ 10 ∷ [])) (3 ∷ 20 ∷ [])
+    ∷ network-file (bytes-of (2 ∷ 1 ∷ 1 ∷ 2 ∷ 2 ∷ 2 ∷ 1 ∷ 3 ∷ 1 ∷ 1 ∷ 1 ∷ 1 ∷ 3 ∷ 10 ∷ 1 ∷ 0 ∷ [])) (1 ∷ 15 ∷ [])
+    -- edits: one of each kind, none, too many, kinds
+    ∷ edits-file (bytes-of (13 ∷ 1 ∷ 1 ∷ 7 ∷ 1 ∷ 100 ∷ 102 ∷ 2 ∷ 1 ∷ 7 ∷ 1 ∷ 100 ∷ 102 ∷ 2 ∷ 1 ∷ 12 ∷ 3 ∷ 1 ∷ 7 ∷ 1 ∷ 100 ∷ 102 ∷ 2 ∷ 1 ∷ 12 ∷ 4 ∷ 1 ∷ 7 ∷ 2 ∷ 5 ∷ 1 ∷ 7 ∷ 2 ∷ 6 ∷ 1 ∷ 7 ∷ 1 ∷ 100 ∷ 102 ∷ 7 ∷ 1 ∷ 7 ∷ 100 ∷ 8 ∷ 1 ∷ 7 ∷ 100 ∷ 9 ∷ 1 ∷ 1 ∷ 5 ∷ 3 ∷ 7 ∷ 8 ∷ 9 ∷ 10 ∷ 1 ∷ 2 ∷ 5 ∷ 2 ∷ 7 ∷ 300 ∷ 9 ∷ 1 ∷ 3 ∷ 4 ∷ 2 ∷ 9 ∷ 7 ∷ 9 ∷ 1 ∷ 3 ∷ 4 ∷ 2 ∷ 7 ∷ 7 ∷ 11 ∷ 9999 ∷ [])) (0 ∷ 80 ∷ 1 ∷ 13 ∷ 1 ∷ 1 ∷ 7 ∷ 1 ∷ 100 ∷ 102 ∷ 2 ∷ 1 ∷ 7 ∷ 1 ∷ 100 ∷ 102 ∷ 2 ∷ 1 ∷ 12 ∷ 3 ∷ 1 ∷ 7 ∷ 1 ∷ 100 ∷ 102 ∷ 2 ∷ 1 ∷ 12 ∷ 4 ∷ 1 ∷ 7 ∷ 2 ∷ 5 ∷ 1 ∷ 7 ∷ 2 ∷ 6 ∷ 1 ∷ 7 ∷ 1 ∷ 100 ∷ 102 ∷ 7 ∷ 1 ∷ 7 ∷ 100 ∷ 8 ∷ 1 ∷ 7 ∷ 100 ∷ 9 ∷ 1 ∷ 1 ∷ 5 ∷ 3 ∷ 7 ∷ 8 ∷ 9 ∷ 10 ∷ 1 ∷ 2 ∷ 5 ∷ 2 ∷ 7 ∷ 300 ∷ 9 ∷ 1 ∷ 3 ∷ 4 ∷ 2 ∷ 9 ∷ 7 ∷ 9 ∷ 1 ∷ 3 ∷ 4 ∷ 2 ∷ 7 ∷ 7 ∷ 11 ∷ 9999 ∷ [])
+    ∷ edits-file (bytes-of (0 ∷ [])) (0 ∷ 1 ∷ 1 ∷ 0 ∷ [])
+    ∷ edits-file [] (1 ∷ 0 ∷ [])
+    ∷ edits-file (bytes-of (1001 ∷ [])) (3 ∷ 0 ∷ [])
+    ∷ edits-file (bytes-of (1 ∷ [])) (1 ∷ 1 ∷ [])
+    ∷ edits-file (bytes-of (0 ∷ 0 ∷ [])) (1 ∷ 1 ∷ [])
+    ∷ edits-file (bytes-of (1 ∷ 0 ∷ [])) (3 ∷ 1 ∷ [])
+    ∷ edits-file (bytes-of (1 ∷ 12 ∷ [])) (3 ∷ 1 ∷ [])
+    -- ranges of edits, at the first faulty number
+    ∷ edits-file (bytes-of (1 ∷ 1 ∷ 17 ∷ 7 ∷ 1 ∷ 100 ∷ 102 ∷ [])) (3 ∷ 2 ∷ [])
+    ∷ edits-file (bytes-of (1 ∷ 1 ∷ 16 ∷ 10000 ∷ 9 ∷ 2880 ∷ 2880 ∷ [])) (3 ∷ 3 ∷ [])
+    ∷ edits-file (bytes-of (1 ∷ 1 ∷ 16 ∷ 9999 ∷ 9 ∷ 2880 ∷ 2880 ∷ [])) (3 ∷ 5 ∷ [])
+    ∷ edits-file (bytes-of (1 ∷ 1 ∷ 16 ∷ 9999 ∷ 8 ∷ 2880 ∷ 2880 ∷ [])) (3 ∷ 6 ∷ [])
+    ∷ edits-file (bytes-of (1 ∷ 1 ∷ 16 ∷ 9999 ∷ 8 ∷ 2879 ∷ 2880 ∷ [])) (3 ∷ 8 ∷ [])
+    ∷ edits-file (bytes-of (1 ∷ 1 ∷ 16 ∷ 9999 ∷ 8 ∷ 2879 ∷ 2879 ∷ [])) (0 ∷ 10 ∷ 1 ∷ 1 ∷ 1 ∷ 16 ∷ 9999 ∷ 8 ∷ 2879 ∷ 2879 ∷ [])
+    ∷ edits-file (bytes-of (1 ∷ 2 ∷ 1 ∷ 7 ∷ 1 ∷ 1 ∷ 1 ∷ 17 ∷ 33 ∷ 0 ∷ [])) (3 ∷ 7 ∷ [])
+    ∷ edits-file (bytes-of (1 ∷ 2 ∷ 1 ∷ 7 ∷ 1 ∷ 1 ∷ 1 ∷ 16 ∷ 33 ∷ 0 ∷ [])) (3 ∷ 8 ∷ [])
+    ∷ edits-file (bytes-of (1 ∷ 2 ∷ 1 ∷ 7 ∷ 1 ∷ 1 ∷ 1 ∷ 16 ∷ 32 ∷ 0 ∷ [])) (3 ∷ 9 ∷ [])
+    ∷ edits-file (bytes-of (1 ∷ 2 ∷ 1 ∷ 7 ∷ 1 ∷ 1 ∷ 1 ∷ 16 ∷ 32 ∷ 241 ∷ [])) (3 ∷ 9 ∷ [])
+    ∷ edits-file (bytes-of (1 ∷ 3 ∷ 1 ∷ 7 ∷ 1 ∷ 1 ∷ 1 ∷ 0 ∷ 32 ∷ 1 ∷ [])) (3 ∷ 7 ∷ [])
+    ∷ edits-file (bytes-of (1 ∷ 4 ∷ 1 ∷ 7 ∷ 0 ∷ [])) (3 ∷ 4 ∷ [])
+    ∷ edits-file (bytes-of (1 ∷ 7 ∷ 1 ∷ 7 ∷ 2880 ∷ [])) (3 ∷ 4 ∷ [])
+    ∷ edits-file (bytes-of (1 ∷ 11 ∷ 0 ∷ [])) (3 ∷ 2 ∷ [])
+    -- relations: kind, interval, count, trains; a dependency has two in any order
+    ∷ edits-file (bytes-of (1 ∷ 9 ∷ 1 ∷ 0 ∷ 5 ∷ 2 ∷ 7 ∷ 8 ∷ [])) (3 ∷ 3 ∷ [])
+    ∷ edits-file (bytes-of (1 ∷ 9 ∷ 1 ∷ 4 ∷ 5 ∷ 2 ∷ 7 ∷ 8 ∷ [])) (3 ∷ 3 ∷ [])
+    ∷ edits-file (bytes-of (1 ∷ 9 ∷ 1 ∷ 1 ∷ 241 ∷ 2 ∷ 7 ∷ 8 ∷ [])) (3 ∷ 4 ∷ [])
+    ∷ edits-file (bytes-of (1 ∷ 9 ∷ 1 ∷ 1 ∷ 5 ∷ 1 ∷ 7 ∷ [])) (3 ∷ 5 ∷ [])
+    ∷ edits-file (bytes-of (1 ∷ 9 ∷ 1 ∷ 1 ∷ 5 ∷ 5 ∷ 7 ∷ 8 ∷ 9 ∷ 10 ∷ 11 ∷ [])) (3 ∷ 5 ∷ [])
+    ∷ edits-file (bytes-of (1 ∷ 9 ∷ 1 ∷ 3 ∷ 5 ∷ 3 ∷ 7 ∷ 8 ∷ 9 ∷ [])) (3 ∷ 5 ∷ [])
+    ∷ edits-file (bytes-of (1 ∷ 9 ∷ 1 ∷ 1 ∷ 5 ∷ 4 ∷ 7 ∷ 8 ∷ 9 ∷ 9 ∷ [])) (3 ∷ 9 ∷ [])
+    ∷ edits-file (bytes-of (1 ∷ 9 ∷ 1 ∷ 2 ∷ 5 ∷ 2 ∷ 8 ∷ 7 ∷ [])) (3 ∷ 7 ∷ [])
+    ∷ edits-file (bytes-of (1 ∷ 10 ∷ 1 ∷ 2 ∷ 5 ∷ 2 ∷ 7 ∷ 7 ∷ [])) (3 ∷ 7 ∷ [])
+    ∷ edits-file (bytes-of (1 ∷ 9 ∷ 1 ∷ 3 ∷ 5 ∷ 2 ∷ 7 ∷ 0 ∷ [])) (3 ∷ 7 ∷ [])
+    ∷ edits-file (bytes-of (1 ∷ 9 ∷ 1 ∷ 1 ∷ 5 ∷ 2 ∷ 0 ∷ 7 ∷ [])) (3 ∷ 6 ∷ [])
+    -- the input of `shift`: that of the listing; the first faulty number of the whole file comes before 4
+    ∷ shift-file (bytes-of (2 ∷ 1 ∷ 1 ∷ 2 ∷ 2 ∷ 2 ∷ 1 ∷ 3 ∷ 1 ∷ 1 ∷ 1 ∷ 2 ∷ 3 ∷ 10 ∷ 1 ∷ 4 ∷ 1 ∷ 1 ∷ 7 ∷ 1 ∷ 100 ∷ 102 ∷ 3 ∷ 2 ∷ 7 ∷ 1 ∷ 115 ∷ 115 ∷ 1 ∷ 1 ∷ 12 ∷ 1 ∷ 1 ∷ 7 ∷ 1 ∷ 100 ∷ 102 ∷ 9 ∷ 1 ∷ 1 ∷ 5 ∷ 2 ∷ 7 ∷ 9 ∷ [])) (0 ∷ 44 ∷ 2 ∷ 1 ∷ 1 ∷ 2 ∷ 2 ∷ 2 ∷ 1 ∷ 3 ∷ 1 ∷ 1 ∷ 1 ∷ 2 ∷ 3 ∷ 10 ∷ 1 ∷ 16 ∷ 4 ∷ 1 ∷ 1 ∷ 7 ∷ 1 ∷ 100 ∷ 102 ∷ 3 ∷ 2 ∷ 7 ∷ 1 ∷ 115 ∷ 115 ∷ 1 ∷ 1 ∷ 12 ∷ 1 ∷ 1 ∷ 7 ∷ 1 ∷ 100 ∷ 102 ∷ 9 ∷ 1 ∷ 1 ∷ 5 ∷ 2 ∷ 7 ∷ 9 ∷ [])
+    ∷ shift-file (bytes-of (2 ∷ 1 ∷ 1 ∷ 2 ∷ 2 ∷ 2 ∷ 1 ∷ 3 ∷ 1 ∷ 1 ∷ 1 ∷ 1 ∷ 3 ∷ 10 ∷ 1 ∷ 0 ∷ [])) (4 ∷ 9 ∷ [])
+    ∷ shift-file (bytes-of (2 ∷ 1 ∷ 1 ∷ 2 ∷ 2 ∷ 2 ∷ 1 ∷ 3 ∷ 1 ∷ 1 ∷ 1 ∷ 1 ∷ 3 ∷ 10 ∷ 1 ∷ 1 ∷ 12 ∷ [])) (3 ∷ 16 ∷ [])
+    ∷ shift-file (bytes-of (2 ∷ 1 ∷ 1 ∷ 2 ∷ 2 ∷ 2 ∷ 1 ∷ 3 ∷ 1 ∷ 1 ∷ 1 ∷ 1 ∷ 3 ∷ 10 ∷ 1 ∷ 0 ∷ 0 ∷ [])) (1 ∷ 16 ∷ [])
+    ∷ shift-file (bytes-of (2 ∷ 1 ∷ 1 ∷ 2 ∷ 2 ∷ 2 ∷ 1 ∷ 3 ∷ 1 ∷ 1 ∷ 1 ∷ 1 ∷ 3 ∷ 10 ∷ 1 ∷ [])) (1 ∷ 15 ∷ [])
+    ∷ shift-file (bytes-of (2 ∷ 1 ∷ 1 ∷ 2 ∷ 2 ∷ 2 ∷ 1 ∷ 3 ∷ 1 ∷ 1 ∷ 1 ∷ 2 ∷ 3 ∷ 10 ∷ 1 ∷ 1 ∷ 1 ∷ 7 ∷ [])) (1 ∷ 18 ∷ [])
+    ∷ shift-file [] (1 ∷ 0 ∷ [])
+    -- timetables: visits with their links and statuses, and relations; none
+    ∷ timetable-file net (bytes-of (3 ∷ 1 ∷ 7 ∷ 1 ∷ 100 ∷ 1 ∷ 102 ∷ 0 ∷ 0 ∷ 2 ∷ 1 ∷ 12 ∷ 1 ∷ 8 ∷ 2 ∷ 100 ∷ 0 ∷ 102 ∷ 0 ∷ 0 ∷ 0 ∷ 2 ∷ 7 ∷ 1 ∷ 115 ∷ 0 ∷ 115 ∷ 0 ∷ 1 ∷ 1 ∷ 0 ∷ 3 ∷ 1 ∷ 1 ∷ 5 ∷ 2 ∷ 7 ∷ 9 ∷ 1 ∷ 1 ∷ 5 ∷ 3 ∷ 7 ∷ 8 ∷ 9 ∷ 2 ∷ 3 ∷ 0 ∷ 2 ∷ 7 ∷ 7 ∷ [])) (0 ∷ 51 ∷ 3 ∷ 1 ∷ 7 ∷ 1 ∷ 100 ∷ 1 ∷ 102 ∷ 0 ∷ 0 ∷ 2 ∷ 1 ∷ 12 ∷ 1 ∷ 8 ∷ 2 ∷ 100 ∷ 0 ∷ 102 ∷ 0 ∷ 0 ∷ 0 ∷ 2 ∷ 7 ∷ 1 ∷ 115 ∷ 0 ∷ 115 ∷ 0 ∷ 1 ∷ 1 ∷ 0 ∷ 3 ∷ 1 ∷ 1 ∷ 5 ∷ 2 ∷ 7 ∷ 9 ∷ 1 ∷ 1 ∷ 5 ∷ 3 ∷ 7 ∷ 8 ∷ 9 ∷ 2 ∷ 3 ∷ 0 ∷ 2 ∷ 7 ∷ 7 ∷ [])
+    ∷ timetable-file net (bytes-of (0 ∷ 0 ∷ [])) (0 ∷ 2 ∷ 0 ∷ 0 ∷ [])
+    ∷ timetable-file net (bytes-of (0 ∷ [])) (1 ∷ 1 ∷ [])
+    ∷ timetable-file net (bytes-of (0 ∷ 0 ∷ 0 ∷ [])) (1 ∷ 2 ∷ [])
+    ∷ timetable-file net (bytes-of (385 ∷ [])) (3 ∷ 0 ∷ [])
+    ∷ timetable-file net (bytes-of (0 ∷ 97 ∷ [])) (3 ∷ 1 ∷ [])
+    -- visits out of order: s falls; t falls, t is equal where s is; a falling number comes before a fault behind it
+    ∷ timetable-file net (bytes-of (2 ∷ 2 ∷ 7 ∷ 1 ∷ 115 ∷ 0 ∷ 115 ∷ 0 ∷ 1 ∷ 1 ∷ 0 ∷ 1 ∷ 7 ∷ 1 ∷ 100 ∷ 1 ∷ 102 ∷ 0 ∷ 0 ∷ 2 ∷ 1 ∷ 12 ∷ 0 ∷ [])) (3 ∷ 11 ∷ [])
+    ∷ timetable-file net (bytes-of (2 ∷ 1 ∷ 8 ∷ 2 ∷ 100 ∷ 0 ∷ 102 ∷ 0 ∷ 0 ∷ 0 ∷ 1 ∷ 7 ∷ 1 ∷ 100 ∷ 1 ∷ 102 ∷ 0 ∷ 0 ∷ 2 ∷ 1 ∷ 12 ∷ 0 ∷ [])) (3 ∷ 11 ∷ [])
+    ∷ timetable-file net (bytes-of (2 ∷ 1 ∷ 8 ∷ 2 ∷ 100 ∷ 0 ∷ 102 ∷ 0 ∷ 0 ∷ 0 ∷ 1 ∷ 8 ∷ 2 ∷ 100 ∷ 0 ∷ 102 ∷ 0 ∷ 0 ∷ 0 ∷ 0 ∷ [])) (3 ∷ 11 ∷ [])
+    ∷ timetable-file net (bytes-of (2 ∷ 1 ∷ 8 ∷ 2 ∷ 100 ∷ 0 ∷ 102 ∷ 0 ∷ 0 ∷ 0 ∷ 2 ∷ 1 ∷ 1 ∷ 115 ∷ 0 ∷ 115 ∷ 0 ∷ 1 ∷ 1 ∷ 0 ∷ 0 ∷ [])) (0 ∷ 21 ∷ 2 ∷ 1 ∷ 8 ∷ 2 ∷ 100 ∷ 0 ∷ 102 ∷ 0 ∷ 0 ∷ 0 ∷ 2 ∷ 1 ∷ 1 ∷ 115 ∷ 0 ∷ 115 ∷ 0 ∷ 1 ∷ 1 ∷ 0 ∷ 0 ∷ [])
+    ∷ timetable-file net (bytes-of (2 ∷ 2 ∷ 7 ∷ 1 ∷ 115 ∷ 0 ∷ 115 ∷ 0 ∷ 1 ∷ 1 ∷ 0 ∷ 1 ∷ 0 ∷ 1 ∷ 100 ∷ 1 ∷ 102 ∷ 0 ∷ 0 ∷ 2 ∷ 1 ∷ 12 ∷ 0 ∷ [])) (3 ∷ 11 ∷ [])
+    -- ranges of visits and links
+    ∷ timetable-file net (bytes-of (1 ∷ 17 ∷ 7 ∷ 1 ∷ 100 ∷ 1 ∷ 102 ∷ 0 ∷ 0 ∷ 2 ∷ 1 ∷ 12 ∷ 0 ∷ [])) (3 ∷ 1 ∷ [])
+    ∷ timetable-file net (bytes-of (1 ∷ 1 ∷ 7 ∷ 1 ∷ 100 ∷ 2 ∷ 102 ∷ 0 ∷ 0 ∷ 0 ∷ 0 ∷ [])) (3 ∷ 5 ∷ [])
+    ∷ timetable-file net (bytes-of (1 ∷ 1 ∷ 7 ∷ 1 ∷ 100 ∷ 1 ∷ 102 ∷ 2 ∷ 0 ∷ 0 ∷ 0 ∷ [])) (3 ∷ 7 ∷ [])
+    ∷ timetable-file net (bytes-of (1 ∷ 1 ∷ 7 ∷ 1 ∷ 100 ∷ 0 ∷ 102 ∷ 0 ∷ 17 ∷ 1 ∷ 0 ∷ 0 ∷ [])) (3 ∷ 8 ∷ [])
+    ∷ timetable-file net (bytes-of (1 ∷ 1 ∷ 7 ∷ 1 ∷ 100 ∷ 0 ∷ 102 ∷ 0 ∷ 2 ∷ 33 ∷ 0 ∷ 0 ∷ [])) (3 ∷ 9 ∷ [])
+    ∷ timetable-file net (bytes-of (1 ∷ 1 ∷ 7 ∷ 1 ∷ 100 ∷ 0 ∷ 102 ∷ 0 ∷ 0 ∷ 2 ∷ 1 ∷ 0 ∷ 0 ∷ [])) (3 ∷ 11 ∷ [])
+    -- relations out of order: by station, kind, interval, count, each train; equal ones at the last train
+    ∷ timetable-file net (bytes-of (0 ∷ 2 ∷ 2 ∷ 3 ∷ 0 ∷ 2 ∷ 7 ∷ 7 ∷ 1 ∷ 1 ∷ 5 ∷ 2 ∷ 7 ∷ 9 ∷ [])) (3 ∷ 8 ∷ [])
+    ∷ timetable-file net (bytes-of (0 ∷ 2 ∷ 1 ∷ 2 ∷ 0 ∷ 2 ∷ 7 ∷ 8 ∷ 1 ∷ 1 ∷ 5 ∷ 2 ∷ 7 ∷ 9 ∷ [])) (3 ∷ 9 ∷ [])
+    ∷ timetable-file net (bytes-of (0 ∷ 2 ∷ 1 ∷ 1 ∷ 6 ∷ 2 ∷ 7 ∷ 8 ∷ 1 ∷ 1 ∷ 5 ∷ 2 ∷ 7 ∷ 9 ∷ [])) (3 ∷ 10 ∷ [])
+    ∷ timetable-file net (bytes-of (0 ∷ 2 ∷ 1 ∷ 1 ∷ 5 ∷ 3 ∷ 7 ∷ 8 ∷ 9 ∷ 1 ∷ 1 ∷ 5 ∷ 2 ∷ 7 ∷ 9 ∷ [])) (3 ∷ 12 ∷ [])
+    ∷ timetable-file net (bytes-of (0 ∷ 2 ∷ 1 ∷ 1 ∷ 5 ∷ 2 ∷ 8 ∷ 9 ∷ 1 ∷ 1 ∷ 5 ∷ 2 ∷ 7 ∷ 9 ∷ [])) (3 ∷ 12 ∷ [])
+    ∷ timetable-file net (bytes-of (0 ∷ 2 ∷ 1 ∷ 1 ∷ 5 ∷ 2 ∷ 7 ∷ 10 ∷ 1 ∷ 1 ∷ 5 ∷ 2 ∷ 7 ∷ 9 ∷ [])) (3 ∷ 13 ∷ [])
+    ∷ timetable-file net (bytes-of (0 ∷ 2 ∷ 1 ∷ 1 ∷ 5 ∷ 2 ∷ 7 ∷ 9 ∷ 1 ∷ 1 ∷ 5 ∷ 2 ∷ 7 ∷ 9 ∷ [])) (3 ∷ 13 ∷ [])
+    ∷ timetable-file net (bytes-of (0 ∷ 2 ∷ 1 ∷ 1 ∷ 5 ∷ 2 ∷ 7 ∷ 9 ∷ 1 ∷ 1 ∷ 5 ∷ 2 ∷ 8 ∷ 8 ∷ [])) (3 ∷ 13 ∷ [])
+    ∷ timetable-file net (bytes-of (0 ∷ 2 ∷ 1 ∷ 3 ∷ 5 ∷ 2 ∷ 7 ∷ 9 ∷ 1 ∷ 3 ∷ 5 ∷ 2 ∷ 8 ∷ 2 ∷ [])) (0 ∷ 14 ∷ 0 ∷ 2 ∷ 1 ∷ 3 ∷ 5 ∷ 2 ∷ 7 ∷ 9 ∷ 1 ∷ 3 ∷ 5 ∷ 2 ∷ 8 ∷ 2 ∷ [])
+    -- 7 and 12 at the entry's first byte, entry by entry; not before a faulty number, not without one entry too many
+    ∷ timetable-file net (bytes-of (1 ∷ 3 ∷ 7 ∷ 1 ∷ 100 ∷ 0 ∷ 102 ∷ 0 ∷ 0 ∷ 0 ∷ 0 ∷ [])) (7 ∷ 1 ∷ [])
+    ∷ timetable-file net (bytes-of (1 ∷ 1 ∷ 7 ∷ 3 ∷ 100 ∷ 0 ∷ 102 ∷ 0 ∷ 0 ∷ 0 ∷ 0 ∷ [])) (7 ∷ 1 ∷ [])
+    ∷ timetable-file net (bytes-of (2 ∷ 1 ∷ 8 ∷ 2 ∷ 100 ∷ 0 ∷ 102 ∷ 0 ∷ 0 ∷ 0 ∷ 2 ∷ 7 ∷ 2 ∷ 100 ∷ 0 ∷ 102 ∷ 0 ∷ 0 ∷ 0 ∷ 0 ∷ [])) (7 ∷ 10 ∷ [])
+    ∷ timetable-file net (bytes-of (1 ∷ 1 ∷ 7 ∷ 1 ∷ 100 ∷ 0 ∷ 102 ∷ 0 ∷ 2 ∷ 2 ∷ 0 ∷ 0 ∷ [])) (7 ∷ 1 ∷ [])
+    ∷ timetable-file net (bytes-of (1 ∷ 1 ∷ 7 ∷ 1 ∷ 100 ∷ 0 ∷ 102 ∷ 0 ∷ 3 ∷ 1 ∷ 0 ∷ 0 ∷ [])) (7 ∷ 1 ∷ [])
+    ∷ timetable-file net (bytes-of (1 ∷ 1 ∷ 7 ∷ 1 ∷ 100 ∷ 0 ∷ 102 ∷ 0 ∷ 0 ∷ 3 ∷ 1 ∷ 12 ∷ 0 ∷ [])) (7 ∷ 1 ∷ [])
+    ∷ timetable-file net (bytes-of (1 ∷ 1 ∷ 7 ∷ 1 ∷ 100 ∷ 0 ∷ 102 ∷ 0 ∷ 0 ∷ 1 ∷ 1 ∷ 12 ∷ 0 ∷ [])) (7 ∷ 1 ∷ [])
+    ∷ timetable-file branch (bytes-of (1 ∷ 2 ∷ 7 ∷ 1 ∷ 100 ∷ 0 ∷ 102 ∷ 0 ∷ 1 ∷ 1 ∷ 0 ∷ 0 ∷ [])) (0 ∷ 12 ∷ 1 ∷ 2 ∷ 7 ∷ 1 ∷ 100 ∷ 0 ∷ 102 ∷ 0 ∷ 1 ∷ 1 ∷ 0 ∷ 0 ∷ [])
+    ∷ timetable-file branch (bytes-of (1 ∷ 1 ∷ 7 ∷ 1 ∷ 100 ∷ 0 ∷ 102 ∷ 0 ∷ 2 ∷ 1 ∷ 0 ∷ 0 ∷ [])) (7 ∷ 1 ∷ [])
+    ∷ timetable-file branch (bytes-of (1 ∷ 1 ∷ 7 ∷ 1 ∷ 100 ∷ 0 ∷ 102 ∷ 0 ∷ 0 ∷ 2 ∷ 1 ∷ 12 ∷ 0 ∷ [])) (0 ∷ 13 ∷ 1 ∷ 1 ∷ 7 ∷ 1 ∷ 100 ∷ 0 ∷ 102 ∷ 0 ∷ 0 ∷ 2 ∷ 1 ∷ 12 ∷ 0 ∷ [])
+    ∷ timetable-file branch (bytes-of (1 ∷ 2 ∷ 7 ∷ 1 ∷ 100 ∷ 0 ∷ 102 ∷ 0 ∷ 0 ∷ 1 ∷ 1 ∷ 12 ∷ 0 ∷ [])) (7 ∷ 1 ∷ [])
+    ∷ timetable-file net (bytes-of (0 ∷ 1 ∷ 3 ∷ 1 ∷ 5 ∷ 2 ∷ 7 ∷ 8 ∷ [])) (7 ∷ 2 ∷ [])
+    ∷ timetable-file net (bytes-of (1 ∷ 3 ∷ 7 ∷ 1 ∷ 100 ∷ 0 ∷ 102 ∷ 0 ∷ 0 ∷ 0 ∷ 1 ∷ 1 ∷ 1 ∷ 5 ∷ 2 ∷ 8 ∷ 7 ∷ [])) (3 ∷ 16 ∷ [])
+    ∷ timetable-file net (bytes-of (24 ∷ (crowd-visits 1 24 ++ (0 ∷ [])))) (0 ∷ 218 ∷ 24 ∷ (crowd-visits 1 24 ++ (0 ∷ [])))
+    ∷ timetable-file net (bytes-of (25 ∷ (crowd-visits 1 25 ++ (0 ∷ [])))) (12 ∷ 217 ∷ [])
+    ∷ timetable-file net (bytes-of (26 ∷ (crowd-visits 1 25 ++ (3 ∷ 1 ∷ 1 ∷ 1 ∷ 0 ∷ 1 ∷ 0 ∷ 0 ∷ 0 ∷ 0 ∷ [])))) (12 ∷ 217 ∷ [])
+    ∷ timetable-file net (bytes-of (0 ∷ 6 ∷ connected 1 6)) (0 ∷ 38 ∷ 0 ∷ 6 ∷ connected 1 6)
+    ∷ timetable-file net (bytes-of (0 ∷ 7 ∷ connected 1 7)) (12 ∷ 38 ∷ [])
+    -- the network's own refusals: 3 before the file's, 4 behind them, both at 0
+    ∷ timetable-file (network [] 3 []) (bytes-of (0 ∷ [])) (3 ∷ 0 ∷ [])
+    ∷ timetable-file (network (station 1 1 2 ∷ station 2 2 1 ∷ []) 3 (line 1 1 1 3 10 1 ∷ [])) (bytes-of (0 ∷ [])) (1 ∷ 1 ∷ [])
+    ∷ timetable-file (network (station 1 1 2 ∷ station 2 2 1 ∷ []) 3 (line 1 1 1 3 10 1 ∷ [])) (bytes-of (1 ∷ (crowd-visits 1 1 ++ (0 ∷ [])))) (4 ∷ 0 ∷ [])
+    ∷ []
+
 pub table : List Case
-unfolding document ranges edits rules relations others
-table = document ++ (ranges ++ (edits ++ (rules ++ (relations ++ others))))
+unfolding document ranges edits rules relations others files
+table = document ++ (ranges ++ (edits ++ (rules ++ (relations ++ (others ++ files)))))
 
 pub examples-hold : failing 1 table ≡ []
 unfolding table Cases.opened

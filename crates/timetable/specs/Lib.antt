@@ -1,10 +1,14 @@
 pub mod Types
 pub mod Outputs
+pub mod Formats
 pub mod Visits
 pub mod Tables
 pub mod Machine
 pub mod Groups
+pub mod NetworkFile
+pub mod EditsFile
 pub mod Good
+pub mod TimetableFile
 pub mod Rules
 pub mod Findings
 pub mod Projection

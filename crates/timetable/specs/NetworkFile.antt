@@ -1,0 +1,117 @@
+-- The network file. Document 01, "Files": "Network: station count, stations rising, headway, line count, lines rising, fields as listed; rising is strict, for
+-- stations and lines by their number alone." Assumes nothing.
+use Prim.Native.Nat.{ℕ, _-_}
+use mathlib.Core.Bool.{Bool, true, false, not}
+use mathlib.Core.List.{List, [], _∷_, _++_, map, flatMap}
+use mathlib.Core.Option.{Option, none, some}
+use lib.ListN.{length, getD, replicate}
+use Rattle.base.specs.Lists.{first}
+use Rattle.railway.specs.Networks.{station-rows, line-rows, ends-listed}
+use Rattle.timetable.specs.Types.{StationRow, LineRow, Network}
+use Rattle.timetable.specs.Formats.{Format, done, field, _and-then_, Outcome, accepted, refused, behind, read-file, Range, _to_, row, entries, Placed, placed}
+
+-- rows
+
+-- "stations (number, area, count of tracks 1..8)"
+unfoldable pub station-ranges : List Range
+station-ranges = 1 to 16 ∷ 1 to 6 ∷ 1 to 8 ∷ []
+
+unfoldable pub station-of : List ℕ → StationRow
+station-of ns = record { station = record { 0 = getD ns 0 0 }; area = record { 0 = getD ns 1 0 }; tracks = getD ns 2 0 }
+
+unfoldable pub station-numbers : StationRow → List ℕ
+station-numbers r = r .station .0 ∷ r .area .0 ∷ r .tracks ∷ []
+
+unfoldable pub station-entry : List ℕ → Format StationRow
+station-entry bar = row station-ranges bar and-then (λ ns. done (station-of ns))
+
+-- "lines (number, first station, second station, kind, least running time, capacity 1..9)"
+unfoldable pub line-ranges : List Range
+line-ranges = 1 to 32 ∷ 1 to 16 ∷ 1 to 16 ∷ 1 to 3 ∷ 1 to 240 ∷ 1 to 9 ∷ []
+
+unfoldable pub line-of : List ℕ → LineRow
+line-of ns = record {
+  line = record { 0 = getD ns 0 0 };
+  first = record { 0 = getD ns 1 0 };
+  second = record { 0 = getD ns 2 0 };
+  kind = getD ns 3 0;
+  least = getD ns 4 0;
+  capacity = getD ns 5 0;
+}
+
+unfoldable pub line-numbers : LineRow → List ℕ
+line-numbers r = r .line .0 ∷ r .first .0 ∷ r .second .0 ∷ r .kind ∷ r .least ∷ r .capacity ∷ []
+
+unfoldable pub line-entry : List ℕ → Format (Placed LineRow)
+line-entry bar = placed (row line-ranges bar and-then (λ ns. done (line-of ns)))
+
+-- the network
+
+-- what a network file lists
+pub record Listed : Type 0 where
+  pub stations : List StationRow
+  pub headway : ℕ
+  pub lines : List (Placed LineRow)
+
+unfoldable pub station-bar : StationRow → List ℕ
+station-bar r = r .station .0 ∷ []
+
+unfoldable pub line-bar : Placed LineRow → List ℕ
+line-bar l = l .entry .line .0 ∷ []
+
+-- the first entry is compared with 0
+unfoldable pub stations-format : ℕ → Format (List StationRow)
+stations-format k = entries station-entry station-bar k (0 ∷ [])
+
+unfoldable pub lines-format : ℕ → Format (List (Placed LineRow))
+lines-format k = entries line-entry line-bar k (0 ∷ [])
+
+unfoldable pub network-format : Format Listed
+network-format =
+    field 1 16 (λ k. stations-format k and-then (λ ss.
+    field 1 30 (λ h. field 0 32 (λ m. lines-format m and-then (λ ls.
+    done (record { stations = ss; headway = h; lines = ls }))))))
+
+-- rows that are not used
+unfoldable pub blank-station : StationRow
+blank-station = record { station = record { 0 = 0 }; area = record { 0 = 0 }; tracks = 0 }
+
+unfoldable pub blank-line : LineRow
+blank-line = record { line = record { 0 = 0 }; first = record { 0 = 0 }; second = record { 0 = 0 }; kind = 0; least = 0; capacity = 0 }
+
+-- a network of these rows, the rows that are not used blank
+unfoldable pub network-with : List StationRow → ℕ → List LineRow → Network
+network-with ss h ls = record {
+  stationcount = length ss;
+  stations = ss ++ replicate (16 - length ss) blank-station;
+  headway = h;
+  linecount = length ls;
+  lines = ls ++ replicate (32 - length ls) blank-line;
+}
+
+unfoldable pub network-of : Listed → Network
+network-of x = network-with (x .stations) (x .headway) (map (λ l. l .entry) (x .lines))
+
+-- "4 a line's ends aren't two different listed stations": the first such line
+unfoldable pub unjoined : Listed → Option (Placed LineRow)
+unjoined x = first (λ l. not (ends-listed (network-of x) (l .entry))) (x .lines)
+
+-- "in files the first faulty number by place, then 4"; "4, 7, 12: the entry's first"
+unfoldable pub unless-unjoined : {A : Type 0} → Option (Placed LineRow) → Outcome A → Outcome A
+unless-unjoined none o = o
+unless-unjoined (some l) o = refused 4 (l .place)
+
+unfoldable pub read-network : List ℕ → Outcome Network
+read-network file = behind (read-file network-format file) (λ x next. unless-unjoined (unjoined x) (accepted (network-of x) next))
+
+-- writing
+unfoldable pub network-numbers : Network → List ℕ
+network-numbers n =
+    n .stationcount ∷ (flatMap station-numbers (station-rows n)
+    ++ (n .headway ∷ n .linecount ∷ flatMap line-numbers (line-rows n)))
+
+-- The key ring of this module: `unfolding opened` opens every definition above.
+unfoldable pub opened : Unit {0}
+unfolding station-ranges station-of station-numbers station-entry line-ranges line-of line-numbers line-entry station-bar line-bar stations-format lines-format
+    network-format blank-station blank-line network-with network-of unjoined unless-unjoined read-network network-numbers
+opened = tt
