@@ -1,0 +1,2 @@
+// What the programs print, as bytes.
+mod text; // lines of numbers

@@ -1,0 +1,65 @@
+// Lines of numbers, written from a place on; what is past the buffer's end is dropped. Each function answers the place behind what it wrote.
+ghost use mathlib.Core.Path.{_≡_};
+ghost use mathlib.Core.List.{[], _∷_};
+ghost use Prim.Native.Nat.{_+_, _≤_};
+ghost use lib.ListN.{length, take};
+ghost use Rattle.timetable.specs.Outputs.{put};
+ghost use Rattle.reports.specs.Text.{digits, word, head, line};
+
+fn put_byte(out: &mut [u8], at: usize, b: u8) -> usize
+    requires { ⌜ at ≤ 2000000000 ⌝ }
+    ensures { λ r. ⌜ (r ≡ at + 1) × (now (out .exit) ≡ put at (b ∷ []) (now (out .entry))) ⌝ }
+{
+    if at < out.len() {
+        out[at] = b;
+        return at + 1;
+    }
+    at + 1
+}
+
+// At most `left` decimal digits.
+fn put_digits(out: &mut [u8], at: usize, x: u32, left: u8) -> usize
+    requires { ⌜ (at ≤ 1000000000) × (left ≤ 10) ⌝ }
+    ensures { λ r. ⌜ (r ≡ at + length (digits left x)) × (now (out .exit) ≡ put at (digits left x) (now (out .entry))) × (r ≤ at + left) ⌝ }
+{
+    if left == 0 {
+        return at;
+    }
+    if x < 10 {
+        return put_byte(out, at, (48 + x) as u8);
+    }
+    let next = put_digits(out, at, x / 10, left - 1);
+    put_byte(out, next, (48 + x % 10) as u8)
+}
+
+// A number with a blank before it.
+fn put_word(out: &mut [u8], at: usize, x: u32) -> usize
+    requires { ⌜ at ≤ 999999999 ⌝ }
+    ensures { λ r. ⌜ (r ≡ at + length (word x)) × (now (out .exit) ≡ put at (word x) (now (out .entry))) × (r ≤ at + 11) ⌝ }
+{
+    let next = put_byte(out, at, 32);
+    put_digits(out, next, x, 10)
+}
+
+// A letter and the first k numbers.
+fn put_head(out: &mut [u8], at: usize, letter: u8, xs: [u32; 6], k: usize) -> usize
+    requires { ⌜ (at ≤ 900000000) × (k ≤ 6) ⌝ }
+    ensures { λ r. ⌜ (r ≡ at + length (head letter (take k xs))) × (now (out .exit) ≡ put at (head letter (take k xs)) (now (out .entry))) × (r ≤ at + 67) ⌝ }
+{
+    let mut next = put_byte(out, at, letter);
+    let mut i: usize = 0;
+    while i < k {
+        next = put_word(out, next, xs[i]);
+        i += 1;
+    }
+    next
+}
+
+// A line of the first k numbers.
+pub fn put_line(out: &mut [u8], at: usize, letter: u8, xs: [u32; 6], k: usize) -> usize
+    requires { ⌜ (at ≤ 900000000) × (k ≤ 6) ⌝ }
+    ensures { λ r. ⌜ (r ≡ at + length (line letter (take k xs))) × (now (out .exit) ≡ put at (line letter (take k xs)) (now (out .entry))) × (r ≤ at + 68) ⌝ }
+{
+    let end = put_head(out, at, letter, xs, k);
+    put_byte(out, end, 10)
+}
