@@ -1,0 +1,113 @@
+-- The call after each test of the code: what refuses it, what it answers, and what the buffer then holds. Assumes nothing.
+use Prim.Native.Nat.{ℕ, _<_, _≤_}
+use mathlib.Core.Path.{_≡_, refl, sym, _∙_}
+use mathlib.Core.Bool.{Bool, true, false, not}
+use mathlib.Core.List.{List}
+use mathlib.Core.Option.{none, some}
+use native.Mathlib.Omega.{arith}
+use lib.Dec.{eqb}
+use lib.IntN.{ℤ}
+use lib.ListN.{length}
+use borrow.Author.Tests.{le-leb, lt-leb, eq-eqb, ne-eqb}
+use Rattle.base.specs.Choice.{_if_else_}
+use Rattle.railway.specs.Networks.{network-in-range, lines-joined, network-refusal, listed}
+use Rattle.timetable.specs.Tables.{visit-of, has-visit}
+use Rattle.timetable.specs.Projection.{projection}
+use Rattle.timetable.specs.Outputs.{output, output-after}
+use Rattle.sheet.specs.Sheets.{decode-sheet}
+use Rattle.sheet.specs.Passes.{sheet-passes}
+use Rattle.sheet.proofs.PassLaws.{whole-test}
+use Rattle.projection.specs.Types.{Station, Train, Minute, Visit, Network, Output}
+use Rattle.projection.specs.Numbers.{put, arrival-numbers}
+use Rattle.projection.specs.Calls.{values-fit, early-refusal, visit-refusal, project-refusal, projected, project-answer, project-after}
+use Rattle.projection.proofs.PutLaws.{put-whole}
+
+-- before the sheet is looked at
+module _ (n : Network) (s : Station) (t : Train) (a : Minute) where
+  pub early-values : values-fit s t a ≡ false → 3 ≡ early-refusal n s t a
+  unfolding early-refusal
+  early-values q = sym (rw q)
+
+  -- a network is refused with 3, with 4 or not
+  pub early-network : (k : ℕ) → values-fit s t a ≡ true → k ≡ network-refusal n → ¬ (k ≡ 0) → k ≡ early-refusal n s t a
+  unfolding early-refusal network-refusal
+  early-network k q r z = r ∙ sym (rw q (go (network-in-range n) (lines-joined n) (λ x. z (r ∙ x))))
+    where
+      go : (x y : Bool) → ¬ ((3 if not x else 4 if not y else 0) ≡ 0)
+          → (3 if eqb (3 if not x else 4 if not y else 0) 3 else 4 if not (eqb (3 if not x else 4 if not y else 0) 0) else 7 if not (listed n s) else 0)
+          ≡ (3 if not x else 4 if not y else 0)
+      go false y w = refl
+      go true false w = refl
+      go true true w = absurd (w refl)
+
+  pub early-unknown : values-fit s t a ≡ true → network-refusal n ≡ 0 → listed n s ≡ false → 7 ≡ early-refusal n s t a
+  unfolding early-refusal
+  early-unknown q r f = sym (rw (q, r, f))
+
+  pub early-none : values-fit s t a ≡ true → network-refusal n ≡ 0 → listed n s ≡ true → 0 ≡ early-refusal n s t a
+  unfolding early-refusal
+  early-none q r f = sym (rw (q, r, f))
+
+-- numbers into a buffer
+
+module _ (xs b : List ℤ) where
+  pub too-short : (k : ℕ) → k ≡ length xs → length b < k → (Output.TooShort k ≡ output 0 xs b) × (b ≡ output-after 0 xs b)
+  unfolding output output-after
+  too-short k e h = let l : length b < length xs = omega (arith, e, h) in (sym (rw (lt-leb (length xs) (length b) l, e)), sym (rw (lt-leb (length xs) (length b) l)))
+
+  pub fits-in : (k : ℕ) → k ≡ length xs → k ≤ length b → (Output.Written k ≡ output 0 xs b) × (put 0 xs b ≡ output-after 0 xs b)
+  unfolding output output-after
+  fits-in k e h =
+      let l : length xs ≤ length b = omega (arith, e, h) in
+      (sym (rw (le-leb (length xs) (length b) l, e)), put-whole xs b l ∙ sym (rw (le-leb (length xs) (length b) l)))
+
+  pub refused-so : (k : ℕ) → ¬ (k ≡ 0) → (Output.Refused k ≡ output k xs b) × (b ≡ output-after k xs b)
+  unfolding output output-after
+  refused-so k z = (sym (rw (ne-eqb k 0 z)), sym (rw (ne-eqb k 0 z)))
+
+-- the rows
+
+module _ (s : Station) (t : Train) (a : Minute) (sheet : List ℕ) where
+  pub from-first : (k : ℕ) → k ≡ a .0 → arrival-numbers 16 sheet t s k ≡ projected s t a sheet
+  unfolding arrival-numbers projected projection
+  from-first k e = rw e
+
+  pub visit-missing : visit-of t (decode-sheet sheet s) ≡ none → visit-refusal s t sheet ≡ 9
+  unfolding visit-refusal has-visit
+  visit-missing e = rw e
+
+  pub visit-there : (v : Visit) → visit-of t (decode-sheet sheet s) ≡ some v → visit-refusal s t sheet ≡ 0
+  unfolding visit-refusal has-visit
+  visit-there v e = rw e
+
+-- the whole call
+
+module _ (n : Network) (s : Station) (t : Train) (a : Minute) (sheet : List ℕ) (b : List ℤ) where
+  pub call-refused : (k : ℕ) → project-refusal n s t a sheet ≡ k → ¬ (k ≡ 0) → (Output.Refused k ≡ project-answer n s t a sheet b) × (b ≡ project-after n s t a sheet b)
+  unfolding project-answer project-after
+  call-refused k e z = rw e (refused-so (projected s t a sheet) b k z)
+
+  pub call-short : ¬ (length sheet ≡ 8192) → project-refusal n s t a sheet ≡ 5
+  unfolding project-refusal
+  call-short h = rw (ne-eqb (length sheet) 8192 h)
+
+  module _ (size : length sheet ≡ 8192) where
+    pub call-early : (k : ℕ) → k ≡ early-refusal n s t a → ¬ (k ≡ 0) → project-refusal n s t a sheet ≡ k
+    unfolding project-refusal
+    call-early k q z = rw (eq-eqb (length sheet) 8192 size, ← q, ne-eqb k 0 z)
+
+    module _ (early : early-refusal n s t a ≡ 0) where
+      tested : project-refusal n s t a sheet ≡ (6 if not (sheet-passes n 0 sheet) else visit-refusal s t sheet)
+      unfolding project-refusal
+      tested = rw (eq-eqb (length sheet) 8192 size, early, ← whole-test n sheet size)
+
+      pub call-bad : sheet-passes n 0 sheet ≡ false → project-refusal n s t a sheet ≡ 6
+      call-bad e = tested ∙ rw e
+
+      pub call-good : sheet-passes n 0 sheet ≡ true → (r : Output) (later : List ℤ)
+          → (r ≡ output (visit-refusal s t sheet) (projected s t a sheet) b) × (later ≡ output-after (visit-refusal s t sheet) (projected s t a sheet) b)
+          → (r ≡ project-answer n s t a sheet b) × (later ≡ project-after n s t a sheet b)
+      unfolding project-answer project-after
+      call-good e r later x =
+          let q : project-refusal n s t a sheet ≡ visit-refusal s t sheet = tested ∙ rw e in
+          rw q x

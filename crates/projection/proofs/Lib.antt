@@ -1,0 +1,4 @@
+pub mod LateLaws
+pub mod PutLaws
+pub mod JourneyLaws
+pub mod CallLaws

@@ -1,0 +1,54 @@
+-- The call: its answer and the buffer afterwards, each by one equation. Document 01, "Projection and tally": "It refuses 5, 3, 4, 7, 6, 9, 13." Assumes nothing.
+use Prim.Native.Nat.{ℕ}
+use mathlib.Core.Bool.{Bool, not, _&&_, _||_}
+use mathlib.Core.List.{List}
+use lib.Dec.{eqb}
+use lib.IntN.{ℤ}
+use lib.ListN.{length}
+use Rattle.base.specs.Choice.{if_then_else_, _if_else_}
+use Rattle.railway.specs.Ranges.{station-ok, train-ok, minute-ok}
+use Rattle.railway.specs.Networks.{network-refusal, listed}
+use Rattle.timetable.specs.Tables.{has-visit}
+use Rattle.timetable.specs.Projection.{projection}
+use Rattle.timetable.specs.Outputs.{output, output-after}
+use Rattle.sheet.specs.Sheets.{decode-sheet, good-sheet}
+use Rattle.projection.specs.Types.{Station, Train, Minute, Network, Output}
+use Rattle.projection.specs.Numbers.{rows-numbers}
+
+-- "From s, t and an expected arrival 0..2879"
+unfoldable pub values-fit : Station → Train → Minute → Bool
+values-fit s t a = station-ok s && (train-ok t && minute-ok a)
+
+-- before the sheet is looked at: 3 of the values or the network, 4, "7 station .. unknown", or 0
+unfoldable pub early-refusal : Network → Station → Train → Minute → ℕ
+early-refusal n s t a =
+    3 if not (values-fit s t a) || eqb (network-refusal n) 3
+    else 4 if not (eqb (network-refusal n) 0)
+    else 7 if not (listed n s)
+    else 0
+
+-- "9 visit .. missing"
+unfoldable pub visit-refusal : Station → Train → List ℕ → ℕ
+visit-refusal s t sheet = 9 if not (has-visit t (decode-sheet sheet s)) else 0
+
+unfoldable pub project-refusal : Network → Station → Train → Minute → List ℕ → ℕ
+project-refusal n s t a sheet =
+    5 if not (eqb (length sheet) 8192)
+    else if eqb (early-refusal n s t a) 0 then 6 if not (good-sheet n (listed n) sheet) else visit-refusal s t sheet
+    else early-refusal n s t a
+
+-- the rows, as numbers
+unfoldable pub projected : Station → Train → Minute → List ℕ → List ℤ
+projected s t a sheet = rows-numbers (projection (decode-sheet sheet) t s (a .0))
+
+module _ (n : Network) (s : Station) (t : Train) (a : Minute) (sheet : List ℕ) (buffer : List ℤ) where
+  unfoldable pub project-answer : Output
+  project-answer = output (project-refusal n s t a sheet) (projected s t a sheet) buffer
+
+  unfoldable pub project-after : List ℤ
+  project-after = output-after (project-refusal n s t a sheet) (projected s t a sheet) buffer
+
+-- The key ring of this module: `unfolding opened` opens every definition above.
+unfoldable pub opened : Unit {0}
+unfolding values-fit early-refusal visit-refusal project-refusal projected project-answer project-after
+opened = tt
