@@ -13,14 +13,14 @@ use Rattle.base.specs.Choice.{_if_else_}
 use Rattle.railway.specs.Networks.{network-in-range, lines-joined, network-refusal, listed}
 use Rattle.timetable.specs.Tables.{visit-of, has-visit}
 use Rattle.timetable.specs.Projection.{projection}
-use Rattle.timetable.specs.Outputs.{output, output-after}
+use Rattle.timetable.specs.Outputs.{output, output-after, put}
 use Rattle.sheet.specs.Sheets.{decode-sheet}
 use Rattle.sheet.specs.Passes.{sheet-passes}
 use Rattle.sheet.proofs.PassLaws.{whole-test}
 use Rattle.projection.specs.Types.{Station, Train, Minute, Visit, Network, Output}
-use Rattle.projection.specs.Numbers.{put, arrival-numbers}
+use Rattle.projection.specs.Numbers.{arrival-numbers}
 use Rattle.projection.specs.Calls.{values-fit, early-refusal, visit-refusal, project-refusal, projected, project-answer, project-after}
-use Rattle.projection.proofs.PutLaws.{put-whole}
+use Rattle.timetable.proofs.PutLaws.{refused-so}
 
 -- before the sheet is looked at
 module _ (n : Network) (s : Station) (t : Train) (a : Minute) where
@@ -47,23 +47,6 @@ module _ (n : Network) (s : Station) (t : Train) (a : Minute) where
   pub early-none : values-fit s t a ≡ true → network-refusal n ≡ 0 → listed n s ≡ true → 0 ≡ early-refusal n s t a
   unfolding early-refusal
   early-none q r f = sym (rw (q, r, f))
-
--- numbers into a buffer
-
-module _ (xs b : List ℤ) where
-  pub too-short : (k : ℕ) → k ≡ length xs → length b < k → (Output.TooShort k ≡ output 0 xs b) × (b ≡ output-after 0 xs b)
-  unfolding output output-after
-  too-short k e h = let l : length b < length xs = omega (arith, e, h) in (sym (rw (lt-leb (length xs) (length b) l, e)), sym (rw (lt-leb (length xs) (length b) l)))
-
-  pub fits-in : (k : ℕ) → k ≡ length xs → k ≤ length b → (Output.Written k ≡ output 0 xs b) × (put 0 xs b ≡ output-after 0 xs b)
-  unfolding output output-after
-  fits-in k e h =
-      let l : length xs ≤ length b = omega (arith, e, h) in
-      (sym (rw (le-leb (length xs) (length b) l, e)), put-whole xs b l ∙ sym (rw (le-leb (length xs) (length b) l)))
-
-  pub refused-so : (k : ℕ) → ¬ (k ≡ 0) → (Output.Refused k ≡ output k xs b) × (b ≡ output-after k xs b)
-  unfolding output output-after
-  refused-so k z = (sym (rw (ne-eqb k 0 z)), sym (rw (ne-eqb k 0 z)))
 
 -- the rows
 

@@ -21,8 +21,9 @@ use Rattle.sheet.specs.Changes.{table-in, visit-answer}
 use Rattle.sheet.proofs.ShelfLaws.{table-of-page}
 use Rattle.sheet.proofs.SheetLaws.{page-size, decoded-page}
 use Rattle.projection.specs.Types.{Station, Train, Outward, OutLink, Visit, Row}
-use Rattle.projection.specs.Numbers.{row-numbers, rows-numbers, put, arrival-numbers, departure-numbers}
-use Rattle.projection.proofs.PutLaws.{put-append}
+use Rattle.projection.specs.Numbers.{row-numbers, rows-numbers, arrival-numbers, departure-numbers}
+use Rattle.timetable.specs.Outputs.{put}
+use Rattle.timetable.proofs.PutLaws.{put-append}
 
 -- the page of a station, as the part from its first byte on is read
 pub page-there : (sheet : List ℕ) (s : Station) (i : ℕ) → length sheet ≡ 8192 → i ≡ s .0 → station-ok s ≡ true

@@ -1,8 +1,7 @@
 -- The rows of a projection as numbers in a lent buffer, and the rows from an arrival or a departure on, as numbers of what a sheet holds. Assumes nothing.
-use Prim.Native.Nat.{ℕ, _+_}
+use Prim.Native.Nat.{ℕ}
 use mathlib.Core.List.{List, [], _∷_, flatMap}
 use lib.IntN.{ℤ, pos}
-use lib.ListN.{set}
 use Rattle.timetable.specs.Projection.{from-departure, from-arrival}
 use Rattle.sheet.specs.Sheets.{decode-sheet}
 use Rattle.projection.specs.Types.{Station, Train, Visit, Row}
@@ -14,11 +13,6 @@ row-numbers r = pos (r .station .0) ∷ pos (r .arrival) ∷ pos (r .departure) 
 unfoldable pub rows-numbers : List Row → List ℤ
 rows-numbers = flatMap row-numbers
 
--- numbers written from a place on, those past the end dropped
-unfoldable pub put : ℕ → List ℤ → List ℤ → List ℤ
-put at [] b = b
-put at (x ∷ xs) b = put (at + 1) xs (set b at x)
-
 -- of what a sheet holds, at most k visits
 unfoldable pub arrival-numbers : ℕ → List ℕ → Train → Station → ℕ → List ℤ
 arrival-numbers k sheet t s a = rows-numbers (from-arrival k (decode-sheet sheet) t s a)
@@ -28,5 +22,5 @@ departure-numbers k sheet t s v d = rows-numbers (from-departure (from-arrival k
 
 -- The key ring of this module: `unfolding opened` opens every definition above.
 unfoldable pub opened : Unit {0}
-unfolding flatMap row-numbers rows-numbers put arrival-numbers departure-numbers
+unfolding flatMap row-numbers rows-numbers arrival-numbers departure-numbers
 opened = tt

@@ -7,7 +7,7 @@ use mathlib.Core.List.{List, [], _∷_, _++_}
 use native.Mathlib.Omega.{arith}
 use lib.Dec.{leb, eqb}
 use lib.ListN.{length, set, drop, length-set}
-use borrow.Author.Tests.{le-leb, lt-leb}
+use borrow.Author.Tests.{le-leb, lt-leb, ne-eqb}
 use Rattle.base.specs.Choice.{if_then_else_}
 use Rattle.timetable.specs.Types.{Output}
 use Rattle.timetable.specs.Outputs.{output, output-after, put}
@@ -38,11 +38,20 @@ module _ {X : Type 0} where
   put-whole (x ∷ xs) (y ∷ b) h =
       ap (λ (i : ℕ). put i xs (x ∷ b)) (omega arith) ∙ put-next 0 xs x b ∙ ap (λ (l : List X). x ∷ l) (put-whole xs b (omega arith))
 
-  -- a call that is not refused: what fits is written whole, what does not is left
-  pub output-fits : (xs b : List X) → length xs ≤ length b → (output 0 xs b ≡ Output.Written (length xs)) × (output-after 0 xs b ≡ put 0 xs b)
-  unfolding output output-after
-  output-fits xs b h = (rw (le-leb (length xs) (length b) h), rw (le-leb (length xs) (length b) h) (sym (put-whole xs b h)))
+  -- a call that fills a buffer: refused; with more numbers than there is room for; and with room for all
+  module _ (xs b : List X) where
+    pub refused-so : (k : ℕ) → ¬ (k ≡ 0) → (Output.Refused k ≡ output k xs b) × (b ≡ output-after k xs b)
+    unfolding output output-after
+    refused-so k z = (sym (rw (ne-eqb k 0 z)), sym (rw (ne-eqb k 0 z)))
 
-  pub output-short : (xs b : List X) → length b < length xs → (output 0 xs b ≡ Output.TooShort (length xs)) × (output-after 0 xs b ≡ b)
-  unfolding output output-after
-  output-short xs b h = (rw (lt-leb (length xs) (length b) h), rw (lt-leb (length xs) (length b) h))
+    pub too-short : (k : ℕ) → k ≡ length xs → length b < k → (Output.TooShort k ≡ output 0 xs b) × (b ≡ output-after 0 xs b)
+    unfolding output output-after
+    too-short k e h =
+        let l : length b < length xs = omega (arith, e, h) in
+        (sym (rw (lt-leb (length xs) (length b) l, e)), sym (rw (lt-leb (length xs) (length b) l)))
+
+    pub fits-in : (k : ℕ) → k ≡ length xs → k ≤ length b → (Output.Written k ≡ output 0 xs b) × (put 0 xs b ≡ output-after 0 xs b)
+    unfolding output output-after
+    fits-in k e h =
+        let l : length xs ≤ length b = omega (arith, e, h) in
+        (sym (rw (le-leb (length xs) (length b) l, e)), put-whole xs b l ∙ sym (rw (le-leb (length xs) (length b) l)))

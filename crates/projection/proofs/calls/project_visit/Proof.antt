@@ -3,7 +3,8 @@ use native.Mathlib.Omega.{arith}
 use denote.Ref.{now}
 use Rattle.projection.specs.Calls.{projected}
 use Rattle.projection.proofs.JourneyLaws.{found-some, found-none}
-use Rattle.projection.proofs.CallLaws.{refused-so, visit-missing, visit-there}
+use Rattle.timetable.proofs.PutLaws.{refused-so}
+use Rattle.projection.proofs.CallLaws.{visit-missing, visit-there}
 use borrow.Author.Needs.{needs}
 use Rattle.projection.proofs.calls.project_visit.Statement.{statement}
 use Rattle.projection.proofs.calls.project_visit.Tie as tie

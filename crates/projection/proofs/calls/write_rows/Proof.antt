@@ -4,9 +4,10 @@ use mathlib.Core.List.{List}
 use denote.Ref.{now}
 use lib.IntN.{ℤ}
 use lib.ListN.{length}
-use Rattle.projection.specs.Numbers.{put}
+use Rattle.timetable.specs.Outputs.{put}
 use Rattle.projection.specs.Calls.{projected}
-use Rattle.projection.proofs.CallLaws.{too-short, fits-in, from-first}
+use Rattle.timetable.proofs.PutLaws.{too-short, fits-in}
+use Rattle.projection.proofs.CallLaws.{from-first}
 use borrow.Author.Needs.{needs}
 use Rattle.projection.proofs.calls.write_rows.Statement.{statement}
 use Rattle.projection.proofs.calls.write_rows.Tie as tie

@@ -7,7 +7,8 @@ use denote.Ref.{now}
 use lib.IntN.{ℤ}
 use lib.ListN.{length}
 use borrow.Author.Needs.{needs}
-use Rattle.projection.specs.Numbers.{put, arrival-numbers}
+use Rattle.timetable.specs.Outputs.{put}
+use Rattle.projection.specs.Numbers.{arrival-numbers}
 use Rattle.projection.proofs.JourneyLaws.{found-some, found-none, arrival-none, arrival-missing, arrival-known, row-arrival}
 use Rattle.projection.proofs.JourneyLaws.{departure-last, departure-on, departure-ends, none-put, row-put}
 use Prim.Native.Nat.{ℕ, _+_, _<_}
