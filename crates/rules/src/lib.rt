@@ -1,0 +1,1 @@
+// The rules of document 01, "Findings", each a function of its own.
