@@ -1,0 +1,2 @@
+pub mod RuleLaws
+pub mod EntryLaws

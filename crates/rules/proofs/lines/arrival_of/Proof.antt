@@ -1,0 +1,64 @@
+-- `rules::lines::arrival_of` meets its contract: by what the look-up at s found. Assumes nothing.
+use denote.Ref.{now}
+use Rattle.timetable.specs.Tables.{visit-of}
+use Rattle.sheet.specs.Changes.{table-in}
+use Rattle.edits.proofs.FoundLaws.{found-some, found-none}
+use Rattle.rules.specs.Parts.{entry}
+use Rattle.rules.proofs.RuleLaws.{arrival-none, arrival-some}
+use borrow.Author.Needs.{needs}
+use Rattle.rules.proofs.lines.arrival_of.Statement.{statement}
+use Rattle.rules.proofs.lines.arrival_of.Tie as tie
+
+visit-of-requires : tie.Need-visit-of-requires
+visit-of-requires c κs = search needs
+
+enum-known-found : tie.Need-enum-known-found
+enum-known-found c = search needs
+
+is-from-requires : tie.Need-is-from-requires
+is-from-requires c κs = search needs
+
+wide-requires : tie.Need-wide-requires
+wide-requires c κs = search needs
+
+returns : tie.Need-returns
+returns c =
+    let s = c .before .before .before .before .before .before .before .before .args in
+    let x = found-some (visit-of (s .u) (table-in (now (s .here)))) _ _ (c .before .before .before .before .before .before .visit-of .ensures) (c .before .before .before .before .found .given .1) in
+    rw (arrival-some (table-in (now (s .here))) (s .p) (entry (s .u) (s .w)) (s .q) _ x, ← c .before .before .is-from .ensures, c .before .if1 .taken) (c .wide .ensures .0)
+
+due-requires : tie.Need-due-requires
+due-requires c κs = search needs
+
+enum-told : tie.Need-enum-told
+enum-told c = search needs
+
+due-requires-2 : tie.Need-due-requires-2
+due-requires-2 c κs = search needs
+
+returns-2 : tie.Need-returns-2
+returns-2 c =
+    let s = c .before .before .before .before .before .before .before .before .args in
+    let x = found-some (visit-of (s .u) (table-in (now (s .here)))) _ _ (c .before .before .before .before .before .before .visit-of .ensures) (c .before .before .before .before .found .given .1) in
+    rw (arrival-some (table-in (now (s .here))) (s .p) (entry (s .u) (s .w)) (s .q) _ x, ← c .before .before .is-from .ensures, c .before .if1 .left) (c .due .ensures .0)
+
+returns-3 : tie.Need-returns-3
+returns-3 c =
+    let s = c .before .before .before .before .before .args in
+    let x = found-none (visit-of (s .u) (table-in (now (s .here)))) _ (c .before .before .before .visit-of .ensures) (c .before .enum-told .given .1) in
+    rw (arrival-none (table-in (now (s .here))) (s .p) (entry (s .u) (s .w)) (s .q) x) (c .due2 .ensures .0)
+
+pub arrival-of-spec : {M : Type 1} → statement M
+arrival-of-spec =
+    tie.close
+    (tie.spec
+    visit-of-requires
+    enum-known-found
+    is-from-requires
+    wide-requires
+    returns
+    due-requires
+    enum-told
+    due-requires-2
+    returns-2
+    returns-3)
