@@ -52,8 +52,8 @@ pub record SoFar {A : Type 0} (whole : Outcome (List A)) (i : ℕ) (rest : Outco
   pub left : whole ≡ prefixed elements rest
 
 module _ {A : Type 0} where
-  unfoldable pub start : (o : Outcome (List A)) → SoFar o 0 o
-  start o = record { elements = []; many = refl; left = sym (prefixed-none o) }
+  unfoldable pub start : (o p : Outcome (List A)) → o ≡ p → SoFar o 0 p
+  start o p e = record { elements = []; many = refl; left = e ∙ sym (prefixed-none p) }
 
   module _ (whole : Outcome (List A)) (i : ℕ) (rest : Outcome (List A)) (s : SoFar whole i rest) where
     -- a turn reads one element more

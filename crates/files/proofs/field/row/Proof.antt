@@ -69,7 +69,7 @@ in-use-requires c κs = search needs
 
 loop-holds : tie.Need-loop-holds Inv-loop μ-loop
 unfolding padded start
-loop-holds c = (omega arith, (start _, refl))
+loop-holds c = (omega arith, (start _ _ refl, refl))
 
 mul-span : tie.Need-mul-span Inv-loop μ-loop
 mul-span c = omega arith
