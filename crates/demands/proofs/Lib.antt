@@ -1,2 +1,4 @@
 pub mod Central
 pub mod Balances
+pub mod ListLaws
+pub mod DemandHolds

@@ -1,2 +1,3 @@
 pub mod Types
 pub mod Balance
+pub mod Demand
