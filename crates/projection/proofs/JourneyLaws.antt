@@ -96,10 +96,6 @@ module _ (sheet : List ℕ) (t : Train) (s : Station) (a : ℕ) where
       arrival-row k z v e
       ∙ sym (ap (λ (x : Row). row-numbers x ++ departure-numbers (k - 1) sheet t s v (x .departure)) (q ∙ ap (row s v) p))
 
-pub row-arrival : (s : Station) (v : Visit) (a : ℕ) (r : Row) → r ≡ row s v a → r .arrival ≡ a
-unfolding row
-row-arrival s v a r e = ap (λ (x : Row). x .arrival) e
-
 -- from a departure on
 
 module _ (k : ℕ) (sheet : List ℕ) (t : Train) (s : Station) (v : Visit) (d : ℕ) where

@@ -41,12 +41,13 @@ fn early_refusal(n: Network, s: Station, t: Train, a: Minute) -> u8
     3
 }
 
-// The rows counted first, then written where there is room.
+// The rows: counted first, then written where there is room.
 fn write_rows(sheet: &[u8], s: Station, t: Train, a: Minute, out: &mut [i32]) -> Output
     requires { ⌜ length (now sheet) ≡ 8192 ⌝ }
     ensures { λ r. ⌜ (r ≡ output 0 (projected s t a (now (sheet .entry))) (now (out .entry))) × (now (out .exit) ≡ output-after 0 (projected s t a (now (sheet .entry))) (now (out .entry))) ⌝ }
 {
     let first = times::minutes(a);
+    // What does not fit is dropped, so a pass over one spare number counts.
     let mut spare = [0i32; 1];
     let needed = journey::arrive(sheet, t, s, first, 16, &mut spare, 0);
     if out.len() < needed {

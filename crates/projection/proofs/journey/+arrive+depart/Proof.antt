@@ -9,7 +9,7 @@ use lib.ListN.{length}
 use borrow.Author.Needs.{needs}
 use Rattle.timetable.specs.Outputs.{put}
 use Rattle.projection.specs.Numbers.{arrival-numbers}
-use Rattle.projection.proofs.JourneyLaws.{found-some, found-none, arrival-none, arrival-missing, arrival-known, row-arrival}
+use Rattle.projection.proofs.JourneyLaws.{found-some, found-none, arrival-none, arrival-missing, arrival-known}
 use Rattle.projection.proofs.JourneyLaws.{departure-last, departure-on, departure-ends, none-put, row-put}
 use Prim.Native.Nat.{ℕ, _+_, _<_}
 use borrow.Fn.Kinds.{In}
@@ -149,8 +149,8 @@ arrive-put-row-requires : (t : ℕ) → arrive-lts.Need-put-row-requires (
 arrive-put-row-requires t c κs =
     let x = c .before .before .before .before .before .before .before .before .before in (
       omega (arith, x .pre .1 .3, c .before .before .before .before .before .before .before .if1 .left),
-      omega (arith, row-arrival _ _ _ _ (c .before .row-of .ensures .0), c .before .before .expected-arrival .ensures .1, x .pre .1 .2),
-      omega (arith, c .before .row-of .ensures .1, c .before .before .expected-arrival .ensures .1, x .pre .1 .2, c .before .before .before .before .before .before .before .if1 .left),
+      omega (arith, c .before .row-of .ensures .1, c .before .before .expected-arrival .ensures .1, x .pre .1 .2),
+      omega (arith, c .before .row-of .ensures .2, c .before .before .expected-arrival .ensures .1, x .pre .1 .2, c .before .before .before .before .before .before .before .if1 .left),
     )
 
 arrive-sub-depart : (t : ℕ) → arrive-lts.Need-sub-depart (
@@ -195,9 +195,10 @@ arrive-depart-requires : (t : ℕ) → arrive-lts.Need-depart-requires (
 ) (arrive-at t) arrive.Post
 arrive-depart-requires t c κs =
     let p = c .before .before .before .before .before .before .before .before .before .before .before .before .pre in
+    let r = c .before .before .before .before .row-of .ensures in
     let z = c .before .before .before .before .before .before .before .before .before .before .if1 .left in (
       omega (arith, p .0, z),
-      (p .1 .0, omega (arith, p .1 .1), omega (arith, c .before .before .before .before .row-of .ensures .1, c .before .before .before .before .before .expected-arrival .ensures .1, p .1 .1, p .1 .2, z), omega (arith, p .1 .3, z)),
+      (p .1 .0, omega (arith, p .1 .1), omega (arith, r .1, r .2, c .before .before .before .before .before .expected-arrival .ensures .1, p .1 .1, p .1 .2, z), omega (arith, p .1 .3, z)),
     )
 
 arrive-add-result : (t : ℕ) → arrive-lts.Need-add-result (

@@ -20,7 +20,7 @@ unfolding row
 returns c =
     let s = c .before .before .args in
     let late = ap (λ z. toZ w32 (ofZ w32 z)) (c .lateness .ensures) ∙ late-kept (s .a) (s .v .arrival .0) (c .before .before .pre) (omega arith) in
-    (rw (c .before .expected-departure .ensures .0, late) refl, c .before .expected-departure .ensures .1)
+    (rw (c .before .expected-departure .ensures .0, late) refl, omega arith, c .before .expected-departure .ensures .1)
 
 pub row-of-spec : {M : Type 1} → statement M
 row-of-spec = tie.close (tie.spec expected-departure-requires lateness-requires returns)
