@@ -3,12 +3,14 @@
 use Prim.Native.Nat.{ℕ, zero, suc, _+_, _≤_, _<_}
 use mathlib.Core.Path.{_≡_, refl, sym, _∙_, ap}
 use mathlib.Core.Bool.{true, false, _&&_}
-use mathlib.Core.List.{List, [], _∷_, _++_}
+use mathlib.Core.List.{List, [], _∷_, _++_, flatMap}
 use native.Mathlib.Omega.{arith}
 use lib.Dec.{leb, eqb}
-use lib.ListN.{length, set, drop, length-set}
+use lib.ListN.{length, getD, set, take, drop, length-set, length-take, length-append, drop-of-length-le}
+use lib.Seq.{getD-take}
 use borrow.Author.Tests.{le-leb, lt-leb, ne-eqb}
 use Rattle.base.specs.Choice.{if_then_else_}
+use Rattle.base.proofs.Lengths.{drop-next}
 use Rattle.timetable.specs.Types.{Output}
 use Rattle.timetable.specs.Outputs.{output, output-after, put}
 
@@ -55,3 +57,29 @@ module _ {X : Type 0} where
     fits-in k e h =
         let l : length xs ≤ length b = omega (arith, e, h) in
         (sym (rw (le-leb (length xs) (length b) l, e)), put-whole xs b l ∙ sym (rw (le-leb (length xs) (length b) l)))
+
+  -- two parts, the one written behind the other; r and s are the places behind them
+  pub put-two : (at r s : ℕ) (xs ys b c d : List X) → r ≡ at + length xs → c ≡ put at xs b → s ≡ r + length ys → d ≡ put r ys c
+      → (s ≡ at + length (xs ++ ys)) × (d ≡ put at (xs ++ ys) b)
+  put-two at r s xs ys b c d e f g h =
+      (omega (arith, e, g, length-append xs ys), h ∙ rw (e, f) (sym (put-append at xs ys b)))
+
+-- what the first k elements of a row are written as, from the one at i on
+module _ {X Y : Type 0} (f : Y → List X) (ys : List Y) (k : ℕ) (fits : k ≤ length ys) (i : ℕ) (y : Y) where
+  abbrev left : ℕ → List X
+  left j = flatMap f (drop j (take k ys))
+
+  next-part : i < k → left i ≡ f (getD ys i y) ++ left (i + 1)
+  unfolding flatMap
+  next-part h =
+      ap (flatMap f) (drop-next (take k ys) i y (simp length-take (omega arith)) ∙ ap (λ (x : Y). x ∷ drop (i + 1) (take k ys)) (getD-take k ys i y h))
+
+  pub each-on : (at : ℕ) (b : List X) → i < k → put at (left i) b ≡ put (at + length (f (getD ys i y))) (left (i + 1)) (put at (f (getD ys i y)) b)
+  each-on at b h = ap (λ (l : List X). put at l b) (next-part h) ∙ put-append at (f (getD ys i y)) (left (i + 1)) b
+
+  pub each-length : i < k → length (left i) ≡ length (f (getD ys i y)) + length (left (i + 1))
+  each-length h = ap length (next-part h) ∙ length-append (f (getD ys i y)) (left (i + 1))
+
+  pub each-over : k ≤ i → left i ≡ []
+  unfolding flatMap
+  each-over h = ap (flatMap f) (drop-of-length-le (take k ys) {i = i} (simp length-take (omega arith)))

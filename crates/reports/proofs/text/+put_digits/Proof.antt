@@ -7,7 +7,8 @@ use native.Mathlib.Omega.{arith}
 use borrow.Author.Needs.{needs}
 use Rattle.timetable.specs.Outputs.{put}
 use Rattle.reports.specs.Text.{digits}
-use Rattle.reports.proofs.TextLaws.{digits-none, digits-last, digits-more, put-two}
+use Rattle.reports.proofs.TextLaws.{digits-none, digits-last, digits-more}
+use Rattle.timetable.proofs.PutLaws.{put-two}
 use borrow.Fn.Kinds.{In}
 use borrow.Fn.PlainCycle.{Measures, is, falls, and}
 use Rattle.reports.proofs.text.put_digits.Reads as put-digits

@@ -7,9 +7,8 @@ use denote.Ref.{now}
 use lib.ListN.{length, take, drop, getD}
 use borrow.Author.Needs.{needs}
 use Rattle.timetable.specs.Outputs.{put}
-use Rattle.timetable.proofs.PutLaws.{put-append}
+use Rattle.timetable.proofs.PutLaws.{each-on, each-length, each-over}
 use Rattle.reports.specs.Text.{word, head}
-use Rattle.reports.proofs.TextLaws.{words-on, words-length, words-over}
 use Rattle.reports.proofs.text.put_head.Statement.{statement}
 use Rattle.reports.proofs.text.put_head.Tie as tie
 
@@ -56,9 +55,9 @@ loop-again c =
       omega arith,
       omega (arith, w .ensures .2),
       w .kept .0 ∙ l .inv .2,
-      l .inv .3 ∙ omega (arith, w .ensures .0, words-length (s .t4) (s .k) (omega (arith, six)) (l .i) h),
+      l .inv .3 ∙ omega (arith, w .ensures .0, each-length word (s .t4) (s .k) (omega (arith, six)) (l .i) 0 h),
       rw (w .ensures .1, w .ensures .0)
-          (l .inv .4 ∙ words-on (s .t4) (s .k) (omega (arith, six)) (l .i) (l .next) (l .out) (put (l .next) (word (getD (s .t4) (l .i) 0)) (l .out)) h refl),
+          (l .inv .4 ∙ each-on word (s .t4) (s .k) (omega (arith, six)) (l .i) 0 (l .next) (l .out) h),
     )
 
 same-length : tie.Need-same-length Inv-loop μ-loop
@@ -72,7 +71,7 @@ returns c =
     let six : length (s .t4) ≡ 6 = q .good .1 .1 .1 .0 .1 .0 .1 in
     let l = c .before .loop in
     let b = c .before .before .before .before .put-byte .ensures in
-    let none = words-over (s .t4) (s .k) (omega (arith, six)) (l .i) (c .loop-test .left) in
+    let none = each-over word (s .t4) (s .k) (omega (arith, six)) (l .i) 0 (c .loop-test .left) in
     (sym (omega (arith, b .0, rw none at (l .inv .3))), sym (rw (none, b .1, b .0) at (l .inv .4)), omega (arith, b .0, l .inv .1))
 
 pub put-head-spec : {M : Type 1} → statement M

@@ -5,7 +5,7 @@ use denote.Ref.{now}
 use lib.ListN.{take}
 use borrow.Author.Needs.{needs}
 use Rattle.reports.specs.Text.{head, line}
-use Rattle.reports.proofs.TextLaws.{put-two}
+use Rattle.timetable.proofs.PutLaws.{put-two}
 use Rattle.reports.proofs.text.put_line.Statement.{statement}
 use Rattle.reports.proofs.text.put_line.Tie as tie
 

@@ -5,7 +5,7 @@ use native.Mathlib.Omega.{arith}
 use denote.Ref.{now}
 use borrow.Author.Needs.{needs}
 use Rattle.reports.specs.Text.{digits, decimal, word}
-use Rattle.reports.proofs.TextLaws.{put-two}
+use Rattle.timetable.proofs.PutLaws.{put-two}
 use Rattle.reports.proofs.text.put_word.Statement.{statement}
 use Rattle.reports.proofs.text.put_word.Tie as tie
 
