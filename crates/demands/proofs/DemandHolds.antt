@@ -114,10 +114,11 @@ module _ (n : Network) (good : network-refusal n ≡ 0) where
     whole-listed : (sheet-list-refusal n sheet ≡ 0) × (findings-in (sheet-list n sheet) ≡ findings n m)
     unfolding sheet-list-refusal sheet-list
     whole-listed =
-        let g = whole-good m w in
-        (list-formed (eqb (length sheet) 8192) (network-refusal n) (good-sheet n (listed n) sheet)
-        (eq-eqb (length sheet) 8192 (g .size)) good (T-true (good-sheet n (listed n) sheet) (g .fine)),
-        numbers-back (findings n (decode-sheet sheet)) ∙ ap (findings n) (whole-back m w))
+        let g = whole-good m w in (
+          list-formed (eqb (length sheet) 8192) (network-refusal n) (good-sheet n (listed n) sheet)
+              (eq-eqb (length sheet) 8192 (g .size)) good (T-true (good-sheet n (listed n) sheet) (g .fine)),
+          numbers-back (findings n (decode-sheet sheet)) ∙ ap (findings n) (whole-back m w),
+        )
 
     -- the parts that its sheets hold
     reads : (a : ℕ) → T (area-number a) → decode-sheet (sheet-at (divided n sheet) a) ≡ divide (area-of n) m a

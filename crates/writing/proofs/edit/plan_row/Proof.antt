@@ -1,0 +1,21 @@
+-- `writing::edit::plan_row` meets its contract: the numbers in use, one by one. Assumes nothing.
+use mathlib.Core.Path.{refl}
+use native.Mathlib.Omega.{arith}
+use Rattle.timetable.specs.EditsFile.{plan-numbers}
+use Rattle.writing.specs.Writing.{numbers-in}
+use borrow.Author.Needs.{needs}
+use Rattle.writing.proofs.edit.plan_row.Statement.{statement}
+use Rattle.writing.proofs.edit.plan_row.Tie as tie
+
+cast-t3 : tie.Need-cast-t3
+cast-t3 c = search needs
+
+cast-t4 : tie.Need-cast-t4
+cast-t4 c = search needs
+
+returns : tie.Need-returns
+unfolding numbers-in plan-numbers
+returns c = (refl, omega arith)
+
+pub plan-row-spec : {M : Type 1} → statement M
+plan-row-spec = tie.close (tie.spec cast-t3 cast-t4 returns)
