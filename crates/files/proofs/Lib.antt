@@ -2,3 +2,5 @@ pub mod FieldLaws
 pub mod ReadLaws
 pub mod EntryLaws
 pub mod DraftLaws
+pub mod NetworkLaws
+pub mod RelationLaws

@@ -40,7 +40,7 @@ unfolding prefixed
 prefixed-snoc xs a (accepted ys next) = ap (λ (l : List _). accepted l next) (sym (append-snoc xs a ys))
 prefixed-snoc xs a (refused k p) = refl
 
-prefixed-one : {A : Type 0} (a : A) (o : Outcome (List A)) → behind o (λ ys next. accepted (a ∷ ys) next) ≡ prefixed (a ∷ []) o
+pub prefixed-one : {A : Type 0} (a : A) (o : Outcome (List A)) → behind o (λ ys next. accepted (a ∷ ys) next) ≡ prefixed (a ∷ []) o
 unfolding prefixed behind
 prefixed-one a (accepted ys next) = refl
 prefixed-one a (refused k p) = refl
