@@ -4,3 +4,4 @@ pub mod EntryLaws
 pub mod DraftLaws
 pub mod NetworkLaws
 pub mod RelationLaws
+pub mod EditLaws

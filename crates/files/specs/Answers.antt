@@ -21,8 +21,12 @@ use Rattle.files.specs.declared.draft.Draft.{Draft}
 use Rattle.files.specs.declared.network.NetworkRead.{NetworkRead}
 use Rattle.files.specs.declared.relation.RelationRead.{RelationRead}
 use Rattle.files.specs.declared.relation.StationRelationRead.{StationRelationRead}
+use Rattle.files.specs.declared.edit.EditRead.{EditRead}
+use Rattle.files.specs.declared.edit.Cursor.{Cursor}
+use Rattle.files.specs.declared.edit.NextEdit.{NextEdit}
 use Rattle.railway.specs.declared.relation.Relation.{Relation}
 use Rattle.railway.specs.declared.edit.StationRelation.{StationRelation}
+use Rattle.railway.specs.declared.edit.Edit.{Edit}
 use Rattle.files.specs.declared.field.FieldRead.{FieldRead}
 use Rattle.files.specs.declared.field.Span.{Span}
 use Rattle.files.specs.declared.field.Spans.{Spans}
@@ -99,3 +103,11 @@ relation-read (refused k p) = RelationRead.Refused k p
 unfoldable pub station-relation-read : Outcome StationRelation → StationRelationRead
 station-relation-read (accepted r next) = StationRelationRead.Entry r next
 station-relation-read (refused k p) = StationRelationRead.Refused k p
+
+unfoldable pub edit-read : Outcome Edit → EditRead
+edit-read (accepted e next) = EditRead.Entry e next
+edit-read (refused k p) = EditRead.Refused k p
+
+unfoldable pub next-read : Outcome Edit → NextEdit
+next-read (accepted e next) = NextEdit.Entry e (record { at = next })
+next-read (refused k p) = NextEdit.Refused k p

@@ -10,10 +10,10 @@ ghost use Rattle.timetable.specs.EditsFile.{trains-format, pair-of, group-of, r
 ghost use Rattle.timetable.specs.EditsFile.{relation-entry, station-relation-entry};
 ghost use Rattle.files.specs.Answers.{row-read, relation-read, station-relation-read};
 use crate::draft::narrow;
-use crate::field::field;
-use crate::field::refused_row;
 use crate::field::FieldRead;
 use crate::field::RowRead;
+use crate::field::field;
+use crate::field::refused_row;
 use railway::edit::StationRelation;
 use railway::relation::Pair;
 use railway::relation::Relation;

@@ -38,7 +38,7 @@ module _ (file : List ℕ) (rise : Bool) (n i before place : ℕ) where
   ended h = let m : n - i ≡ 0 = omega arith in rw m (trains-over rise before file place)
 
 abbrev Inv-loop : tie.InvT-loop
-Inv-loop file at rise count n values₀ place₀ before₀ i₀ values place before i =     (i ≤ n) × (before ≤ 9999) × ((s : SoFar (left-at file rise n 0 at) i (left-at file rise (n - i) before place)) × (values ≡ padded 8 0 (s .elements)))
+Inv-loop file at rise count n values₀ place₀ before₀ i₀ values place before i = (i ≤ n) × (before ≤ 9999) × ((s : SoFar (left-at file rise n 0 at) i (left-at file rise (n - i) before place)) × (values ≡ padded 8 0 (s .elements)))
 
 abbrev μ-loop : tie.MeasureT-loop
 μ-loop file at rise count n values₀ place₀ before₀ i₀ values place before i = n - i
@@ -69,7 +69,7 @@ returns c =
     let m = c .before .before .before .before .before .least-train .ensures in
     let o = field-refused _ (g .0 .0) (g .0 .1 .0) (sym (c .before .before .before .before .field .ensures) ∙ g .1) in
     let q = stopped (now (s .file)) (s .rise) (s .count) (l .i) (l .before) (l .place) (omega arith) (g .0 .0) (g .0 .1 .0)
-        (ap (λ (k : ℕ). field-at k 9999 (now (s .file)) (l .place)) (sym m) ∙ o) in
+    (ap (λ (k : ℕ). field-at k 9999 (now (s .file)) (l .place)) (sym m) ∙ o) in
     c .refused-row .ensures ∙ sym (ap row-read (stop _ _ _ (l .inv .2 .0) (g .0 .0) (g .0 .1 .0) q))
 
 enum-known-train-2 : tie.Need-enum-known-train-2 Inv-loop μ-loop
@@ -97,7 +97,7 @@ loop-again c =
     let o = field-value _ (g .0 .0) (g .0 .1 .0) (sym (c .before .before .before .field .ensures) ∙ g .1) in
     let b = field-bounded _ 9999 (now (s .file)) (l .place) (g .0 .0) (g .0 .1 .0) o in
     let q = taken (now (s .file)) (s .rise) (s .count) (l .i) (l .before) (l .place) (omega arith) (g .0 .0) (g .0 .1 .0)
-        (ap (λ (k : ℕ). field-at k 9999 (now (s .file)) (l .place)) (sym m) ∙ o) in
+    (ap (λ (k : ℕ). field-at k 9999 (now (s .file)) (l .place)) (sym m) ∙ o) in
     let f = l .inv .2 .0 in
     (omega arith, b .1, (turn _ _ _ f (g .0 .0) _ q, ap (λ (v : List ℕ). set v (l .i) (g .0 .0)) (l .inv .2 .1) ∙ padded-next 8 0 (f .elements) (l .i) (g .0 .0) (f .many) (omega (arith, c .before .before .before .before .before .before .before .before .pre))))
 
