@@ -111,15 +111,35 @@ module _ (o : Outcome (List ℕ)) (r : RowRead) (e : r ≡ row-read o) where
       go (accepted ns next) q = absurd (false≢true (sym t ∙ ap (λ (x : RowRead). x .accepted) q))
       go (refused k p) q = rw q
 
--- a row that is made into something
-module _ {A : Type 0} (make : List ℕ → A) (f : Format (List ℕ)) (file : List ℕ) (at : ℕ) where
-  pub made : (ns : List ℕ) (next : ℕ) → read f file at ≡ accepted ns next → read (f and-then (λ ns. done (make ns))) file at ≡ accepted (make ns) next
+-- what is read and made into something
+module _ {A B : Type 0} (make : B → A) (f : Format B) (file : List ℕ) (at : ℕ) where
+  pub made : (b : B) (next : ℕ) → read f file at ≡ accepted b next → read (f and-then (λ b. done (make b))) file at ≡ accepted (make b) next
   unfolding read behind
-  made ns next e = read-then f (λ ns. done (make ns)) file at ∙ rw e
+  made b next e = read-then f (λ b. done (make b)) file at ∙ rw e
 
-  pub unmade : (k p : ℕ) → read f file at ≡ refused k p → read (f and-then (λ ns. done (make ns))) file at ≡ refused k p
+  pub unmade : (k p : ℕ) → read f file at ≡ refused k p → read (f and-then (λ b. done (make b))) file at ≡ refused k p
   unfolding read behind
-  unmade k p e = read-then f (λ ns. done (make ns)) file at ∙ rw e
+  unmade k p e = read-then f (λ b. done (make b)) file at ∙ rw e
+
+-- one format and then another, by the outcome of the first
+module _ {A B : Type 0} (f : Format A) (g : A → Format B) (file : List ℕ) (at : ℕ) where
+  pub then-on : (a : A) (next : ℕ) → read f file at ≡ accepted a next → read (f and-then g) file at ≡ read (g a) file next
+  unfolding behind
+  then-on a next e = read-then f g file at ∙ rw e
+
+  pub then-stop : (k p : ℕ) → read f file at ≡ refused k p → read (f and-then g) file at ≡ refused k p
+  unfolding behind
+  then-stop k p e = read-then f g file at ∙ rw e
+
+-- a field and then what it calls for
+module _ {A : Type 0} (lo hi : ℕ) (f : ℕ → Format A) (file : List ℕ) (at : ℕ) where
+  pub field-on : (n next : ℕ) → field-at lo hi file at ≡ accepted n next → read (field lo hi f) file at ≡ read (f n) file next
+  unfolding read behind
+  field-on n next e = rw e
+
+  pub field-stop : (k p : ℕ) → field-at lo hi file at ≡ refused k p → read (field lo hi f) file at ≡ refused k p
+  unfolding read behind
+  field-stop k p e = rw e
 
 -- what is known of an accepted row: its numbers stand in the first places, each at most its range's last
 pub record RowTaken (rs : List Range) (file : List ℕ) (at : ℕ) (r : RowRead) : Type 0 where

@@ -40,7 +40,7 @@ unfolding prefixed
 prefixed-snoc xs a (accepted ys next) = ap (λ (l : List _). accepted l next) (sym (append-snoc xs a ys))
 prefixed-snoc xs a (refused k p) = refl
 
-prefixed-one : {A : Type 0} (a : A) (o : Outcome (List A)) → behind o (λ ys next. accepted (a ∷ ys) next) ≡ prefixed (a ∷ []) o
+pub prefixed-one : {A : Type 0} (a : A) (o : Outcome (List A)) → behind o (λ ys next. accepted (a ∷ ys) next) ≡ prefixed (a ∷ []) o
 unfolding prefixed behind
 prefixed-one a (accepted ys next) = refl
 prefixed-one a (refused k p) = refl
@@ -135,3 +135,7 @@ module _ {A : Type 0} (xs : List A) (n : ℕ) (fits : n ≤ length xs) (i : ℕ)
 
   pub used-over : n ≤ i → drop i (take n xs) ≡ []
   used-over h = drop-of-length-le (take n xs) {i = i} (simp length-take (omega arith))
+
+pub map-snoc : {A B : Type 0} (f : A → B) (xs : List A) (x : A) → map f (xs ++ (x ∷ [])) ≡ map f xs ++ (f x ∷ [])
+map-snoc f [] x = refl
+map-snoc f (y ∷ xs) x = ap (λ (l : List _). f y ∷ l) (map-snoc f xs x)

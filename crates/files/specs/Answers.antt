@@ -18,6 +18,15 @@ use Rattle.files.specs.declared.draft.LineRead.{LineRead}
 use Rattle.files.specs.declared.draft.Fault.{Fault}
 use Rattle.files.specs.declared.draft.LinesRead.{LinesRead}
 use Rattle.files.specs.declared.draft.Draft.{Draft}
+use Rattle.files.specs.declared.network.NetworkRead.{NetworkRead}
+use Rattle.files.specs.declared.relation.RelationRead.{RelationRead}
+use Rattle.files.specs.declared.relation.StationRelationRead.{StationRelationRead}
+use Rattle.files.specs.declared.edit.EditRead.{EditRead}
+use Rattle.files.specs.declared.edit.Cursor.{Cursor}
+use Rattle.files.specs.declared.edit.NextEdit.{NextEdit}
+use Rattle.railway.specs.declared.relation.Relation.{Relation}
+use Rattle.railway.specs.declared.edit.StationRelation.{StationRelation}
+use Rattle.railway.specs.declared.edit.Edit.{Edit}
 use Rattle.files.specs.declared.field.FieldRead.{FieldRead}
 use Rattle.files.specs.declared.field.Span.{Span}
 use Rattle.files.specs.declared.field.Spans.{Spans}
@@ -79,3 +88,26 @@ blank-network = network-with [] 0 []
 unfoldable pub draft-read : Outcome Listed → Draft
 draft-read (accepted x next) = record { accepted = true; refusal = 0; place = next; network = network-of x; fault = fault-of (unjoined x) }
 draft-read (refused k p) = record { accepted = false; refusal = k; place = p; network = blank-network; fault = fault-of none }
+
+-- document 01's number and values of a network file: 0 with the network and the place behind it, or the refusal and its place
+unfoldable pub network-answer : Outcome Network → NetworkRead
+network-answer (accepted n next) = record { refusal = 0; place = next; network = n }
+network-answer (refused k p) = record { refusal = k; place = p; network = blank-network }
+
+-- edits
+
+unfoldable pub relation-read : Outcome Relation → RelationRead
+relation-read (accepted r next) = RelationRead.Entry r next
+relation-read (refused k p) = RelationRead.Refused k p
+
+unfoldable pub station-relation-read : Outcome StationRelation → StationRelationRead
+station-relation-read (accepted r next) = StationRelationRead.Entry r next
+station-relation-read (refused k p) = StationRelationRead.Refused k p
+
+unfoldable pub edit-read : Outcome Edit → EditRead
+edit-read (accepted e next) = EditRead.Entry e next
+edit-read (refused k p) = EditRead.Refused k p
+
+unfoldable pub next-read : Outcome Edit → NextEdit
+next-read (accepted e next) = NextEdit.Entry e (record { at = next })
+next-read (refused k p) = NextEdit.Refused k p

@@ -59,7 +59,7 @@ pub fn field(file: &[u8], at: usize, lo: u16, hi: u16) -> FieldRead
     }
 }
 
-fn refused_row(refusal: u8, place: usize) -> RowRead
+pub fn refused_row(refusal: u8, place: usize) -> RowRead
     ensures { λ r. ⌜ r ≡ row-read (refused refusal place) ⌝ }
 {
     RowRead {

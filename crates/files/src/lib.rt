@@ -2,3 +2,5 @@
 pub mod field; // one number, and rows of numbers
 mod draft; // what a network lists, before its lines are tested and the file's end is looked at
 pub mod network; // network files
+mod relation; // relations in files
+pub mod edit; // one edit of a file

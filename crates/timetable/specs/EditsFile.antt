@@ -39,10 +39,18 @@ relation-of kind i ts =
 unfoldable pub most-trains : ℕ → ℕ
 most-trains kind = 2 if eqb kind 3 else 4
 
+-- kind, interval, count of trains, trains: each with what is behind it
+unfoldable pub trains-part : ℕ → ℕ → ℕ → List ℕ → Format Relation
+trains-part kind i k bar = trains-format (not (eqb kind 3)) k 0 bar and-then (λ ts. done (relation-of kind i ts))
+
+unfoldable pub train-count-part : ℕ → ℕ → List ℕ → Format Relation
+train-count-part kind i bar = compared 2 (most-trains kind) bar (λ k left. trains-part kind i k left)
+
+unfoldable pub interval-part : ℕ → List ℕ → Format Relation
+interval-part kind bar = compared 0 240 bar (λ i left. train-count-part kind i left)
+
 unfoldable pub relation-entry : List ℕ → Format Relation
-relation-entry bar =
-    compared 1 3 bar (λ kind left. compared 0 240 left (λ i left. compared 2 (most-trains kind) left (λ k left.
-    trains-format (not (eqb kind 3)) k 0 left and-then (λ ts. done (relation-of kind i ts)))))
+relation-entry bar = compared 1 3 bar (λ kind left. interval-part kind left)
 
 unfoldable pub group-numbers : ℕ → ℕ → Trains → List ℕ
 group-numbers kind i ts = kind ∷ i ∷ length (used ts) ∷ map (λ t. t .0) (used ts)
@@ -192,7 +200,7 @@ read-shift file =
 
 -- The key ring of this module: `unfolding opened` opens every definition above.
 unfoldable pub opened : Unit {0}
-unfolding trains-format pair-of group-of relation-of most-trains relation-entry group-numbers relation-numbers station-relation-entry station-relation-numbers
+unfolding trains-format pair-of group-of relation-of most-trains trains-part train-count-part interval-part relation-entry group-numbers relation-numbers station-relation-entry station-relation-numbers
     plan-ranges plan-of plan-numbers extension-ranges extension-of extension-numbers deletion-ranges deletion-of deletion-numbers report-ranges report-of
     report-numbers edit-ranges edit-of edit-fields edit-entry edit-numbers edits-on edits-format read-edits edits-numbers shift-format read-shift
 opened = tt

@@ -69,15 +69,21 @@ stations-format k = entries station-entry station-bar k (0 ∷ [])
 unfoldable pub lines-format : ℕ → Format (List (Placed LineRow))
 lines-format k = entries line-entry line-bar k (0 ∷ [])
 
--- headway, line count, lines
+-- station count, stations, headway, line count, lines: each with what is behind it
 unfoldable pub lines-part : List StationRow → ℕ → ℕ → Format Listed
 lines-part ss h m = lines-format m and-then (λ ls. done (record { stations = ss; headway = h; lines = ls }))
 
+unfoldable pub count-part : List StationRow → ℕ → Format Listed
+count-part ss h = field 0 32 (λ m. lines-part ss h m)
+
 unfoldable pub headway-part : List StationRow → Format Listed
-headway-part ss = field 1 30 (λ h. field 0 32 (λ m. lines-part ss h m))
+headway-part ss = field 1 30 (λ h. count-part ss h)
+
+unfoldable pub stations-part : ℕ → Format Listed
+stations-part k = stations-format k and-then (λ ss. headway-part ss)
 
 unfoldable pub network-format : Format Listed
-network-format = field 1 16 (λ k. stations-format k and-then headway-part)
+network-format = field 1 16 (λ k. stations-part k)
 
 -- rows that are not used
 unfoldable pub blank-station : StationRow
@@ -120,5 +126,5 @@ network-numbers n =
 -- The key ring of this module: `unfolding opened` opens every definition above.
 unfoldable pub opened : Unit {0}
 unfolding station-ranges station-of station-numbers station-entry line-ranges line-of line-numbers line-fields line-entry station-bar line-bar stations-format lines-format
-    lines-part headway-part network-format blank-station blank-line network-with network-of unjoined unless-unjoined read-network network-numbers
+    lines-part count-part headway-part stations-part network-format blank-station blank-line network-with network-of unjoined unless-unjoined read-network network-numbers
 opened = tt

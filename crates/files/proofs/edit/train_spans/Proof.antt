@@ -1,0 +1,12 @@
+-- `files::edit::train_spans` meets its contract by computation. Assumes nothing.
+use mathlib.Core.Path.{refl}
+use Rattle.files.specs.Answers.{ranges-of}
+use Rattle.files.proofs.edit.train_spans.Statement.{statement}
+use Rattle.files.proofs.edit.train_spans.Tie as tie
+
+returns : tie.Need-returns
+unfolding ranges-of
+returns c = refl
+
+pub train-spans-spec : {M : Type 1} → statement M
+train-spans-spec = tie.close (tie.spec returns)
