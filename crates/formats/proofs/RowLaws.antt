@@ -6,7 +6,8 @@ use mathlib.Core.Bool.{Bool, true, false, _&&_}
 use mathlib.Core.List.{List, [], _∷_, _++_, map, flatMap, append-nil, append-assoc}
 use native.Mathlib.Omega.{arith}
 use lib.Dec.{T, leb, eqb, leb→le, le→leb}
-use lib.ListN.{length, getD}
+use lib.ListN.{length, getD, drop}
+use lib.Seq.{drop-drop, getD-drop}
 use Rattle.base.specs.Choice.{if_then_else_}
 use Rattle.base.specs.Lists.{within}
 use Rattle.base.proofs.Tests.{and-l, and-r, both}
@@ -86,6 +87,32 @@ row-walks (r ∷ rs) bar p (n ∷ ns) ms (x, w) =
     let (q, i, o) = row-walks rs (bar-after n bar) (p + width n) ns ks v in
     let (y, h) = raised (r .lo) (r .hi) bar n x in
     (ap (λ (l : List ℕ). n ∷ l) q ∙ e, rw (sym e) (y, i), rw (sym e) (h, o))
+
+-- the numbers of a list by their index, from one on
+unfoldable pub by-index : ℕ → ℕ → List ℕ → List ℕ
+by-index zero j ns = []
+by-index (suc k) j ns = getD ns j 0 ∷ by-index k (j + 1) ns
+
+pub row-exact : (rs : List Range) (ns : List ℕ) → RowIn rs ns → ns ≡ by-index (length rs) 0 ns
+unfolding RowIn by-index
+row-exact rs ns i = go rs 0 ns ns refl i
+  where
+    go : (rs : List Range) (j : ℕ) (all ns : List ℕ) → drop j all ≡ ns → RowIn rs ns → ns ≡ by-index (length rs) j all
+    go [] j all [] e i = refl
+    go [] j all (n ∷ ns) e i = absurd i
+    go (r ∷ rs) j all [] e i = absurd i
+    go (r ∷ rs) j all (n ∷ ns) e (x, i) =
+        let q : j + 0 ≡ j = omega arith in
+        let head : getD all j 0 ≡ n = ap (λ (k : ℕ). getD all k 0) (sym q) ∙ sym (getD-drop j all 0 0) ∙ ap (λ (l : List ℕ). getD l 0 0) e in
+        let tail : drop (j + 1) all ≡ ns = sym (drop-drop 1 j all) ∙ ap (drop 1) e in
+        ap₂ (λ (m : ℕ) (l : List ℕ). m ∷ l) (sym head) (go rs (j + 1) all ns tail i)
+
+pub row-at : (rs : List Range) (ns : List ℕ) → RowIn rs ns → (i : ℕ) (d : Range) → i < length rs → InRange (getD rs i d .lo) (getD rs i d .hi) (getD ns i 0)
+unfolding RowIn
+row-at [] ns x i d h = absurd (omega arith)
+row-at (r ∷ rs) [] x i d h = absurd x
+row-at (r ∷ rs) (n ∷ ns) (x, y) zero d h = x
+row-at (r ∷ rs) (n ∷ ns) (x, y) (suc i) d h = row-at rs ns y i d (omega arith)
 
 -- entries
 
