@@ -2,3 +2,4 @@ pub mod WalkLaws
 pub mod RowLaws
 pub mod RelationWalks
 pub mod EditWalks
+pub mod EditTrips

@@ -1,0 +1,45 @@
+-- What is promised of files: "round trips give the same back", and "A written file is the only file that reads to that timetable". The proofs are in proofs/;
+-- nothing here is proved. A reader needs the definitions of the crate timetable: Formats (reading, and the bytes of numbers), NetworkFile, EditsFile, TimetableFile.
+--
+-- The letters: file the bytes of a file, at and next places in it, n a network, e an edit, es a list of edits. `T b` says that the test b passes.
+-- `bytes-of (x-numbers x)` is the file that is written for x. A record collects what is promised together. Assumes nothing.
+use Prim.Native.Nat.{ℕ, _+_, _≤_}
+use mathlib.Core.Path.{_≡_}
+use mathlib.Core.List.{List, _++_}
+use lib.Dec.{T}
+use lib.ListN.{length, drop}
+use Rattle.base.specs.Lists.{every}
+use Rattle.numbers.specs.Numbers.{width}
+use Rattle.railway.specs.Edits.{edit-ok}
+use Rattle.timetable.specs.Formats.{Outcome, accepted, read, bytes-of, Placed}
+use Rattle.timetable.specs.EditsFile.{edit-entry, edit-numbers, read-edits, edits-numbers}
+use Rattle.formats.specs.Types.{Edit}
+use Rattle.formats.specs.Walks.{Bytes}
+
+-- edits
+
+-- an edit that was read at a place: in range, and its bytes are those that it is written with
+pub record EditRead (file : List ℕ) (at : ℕ) (e : Edit) (next : ℕ) : Type 0 where
+  pub good : T (edit-ok e)
+  pub bytes : drop at file ≡ bytes-of (edit-numbers e) ++ drop next file
+  pub end : next ≡ at + length (bytes-of (edit-numbers e))
+
+-- every edit in range, written at a place of a file with anything behind it, is read there; and what is read there was written so
+pub record EditRoundTrip : Type 0 where
+  pub back : (e : Edit) (file : List ℕ) (at : ℕ) (rest : List ℕ) → T (edit-ok e) → drop at file ≡ bytes-of (edit-numbers e) ++ rest
+      → read edit-entry file at ≡ accepted e (at + length (bytes-of (edit-numbers e)))
+  pub only : (file : List ℕ) (at : ℕ) (e : Edit) (next : ℕ) → Bytes file → read edit-entry file at ≡ accepted e next → EditRead file at e next
+
+-- "Edits: count (0..1000)"
+pub record EditsRead (file : List ℕ) (es : Placed (List Edit)) (next : ℕ) : Type 0 where
+  pub file-is : file ≡ bytes-of (edits-numbers (es .entry))
+  pub end : next ≡ length file
+  pub few : length (es .entry) ≤ 1000
+  pub good : T (every edit-ok (es .entry))
+  -- the first edit stands behind the count
+  pub first : es .place ≡ width (length (es .entry))
+
+pub record EditsRoundTrip : Type 0 where
+  pub back : (es : List Edit) → length es ≤ 1000 → T (every edit-ok es)
+      → read-edits (bytes-of (edits-numbers es)) ≡ accepted (record { place = width (length es); entry = es }) (length (bytes-of (edits-numbers es)))
+  pub only : (file : List ℕ) (es : Placed (List Edit)) (next : ℕ) → Bytes file → read-edits file ≡ accepted es next → EditsRead file es next
