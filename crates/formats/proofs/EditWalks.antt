@@ -20,18 +20,11 @@ use Rattle.formats.specs.Types.{StationRelation, Plan, Extension, Deleti
 use Rattle.formats.specs.Types.{ReportArrival, ReportDeparture, AddRelation, RemoveRelation, DeleteTrain}
 use Rattle.formats.specs.Walks.{InRange, walks}
 use Rattle.formats.proofs.WalkLaws.{span, walks-at, walks-then, then-walks, walks-made, made-walks}
-use Rattle.formats.proofs.RowLaws.{Over, over-none, raised, raise, in-test, test-in, most-test, test-most, RowIn, walks-row, row-walks, by-index, row-exact, row-at}
+use Rattle.formats.proofs.RowLaws.{Over, over-none, raised, raise, in-test, test-in, most-test, test-most, RowIn, by-index, row-exact, row-at, Fields, walks-fields, fields-walk}
 use Rattle.formats.proofs.RowLaws.{Chain, values, walks-entries, entries-walk, walks-placed, placed-walks, values-plain}
 use Rattle.formats.proofs.RelationWalks.{StationRelationFits, walks-station-relation, station-relation-walks}
 
 -- fields in a row
-
--- numbers in the ranges make a value in range, which is written with them; and a value in range is written with such numbers
-pub record Fields {A : Type 0} (ranges : List Range) (make : List ℕ → A) (numbers : A → List ℕ) (ok : A → Bool) : Type 0 where
-  pub written : (ns : List ℕ) → RowIn ranges ns → ns ≡ numbers (make ns)
-  pub good : (ns : List ℕ) → RowIn ranges ns → T (ok (make ns))
-  pub back : (a : A) → make (numbers a) ≡ a
-  pub within : (a : A) → T (ok a) → RowIn ranges (numbers a)
 
 -- where there is no range
 none : Range
@@ -154,19 +147,6 @@ cancellation-fields = record {
   within = λ c t. (test-in 1 9999 (c .train .0) (omega arith) t, tt);
 }
 
-module _ {A : Type 0} {ranges : List Range} {make : List ℕ → A} {numbers : A → List ℕ} {ok : A → Bool} (f : Fields ranges make numbers ok) (edit : A → Edit) where
-  walks-fields : (p : ℕ) (a : A) → T (ok a) → walks (row ranges [] and-then (λ ns. done (edit (make ns)))) p (numbers a) (edit a)
-  walks-fields p a t =
-      rw (ap edit (f .back a)) at
-      (walks-made (λ ns. edit (make ns)) (row ranges []) p (numbers a) (numbers a) (walks-row ranges [] p (numbers a) (f .within a t) (over-none (numbers a))))
-
-  fields-walk : (p : ℕ) (ns : List ℕ) (e : Edit) → walks (row ranges [] and-then (λ ns. done (edit (make ns)))) p ns e
-      → (a : A) × (ns ≡ numbers a) × T (ok a) × (edit a ≡ e)
-  fields-walk p ns e w =
-      let (ms, v, q) = made-walks (λ ns. edit (make ns)) (row ranges []) p ns e w in
-      let (x, i, o) = row-walks ranges [] p ns ms v in
-      (make ms, x ∙ f .written ms i, f .good ms i, q)
-
 -- edits
 
 -- 1 to 11
@@ -190,22 +170,22 @@ kind-in k l h = record { low = l; high = h; short = omega arith }
 
 -- an edit that holds a relation
 relation-taken : (edit : StationRelation → Edit) (p : ℕ) (ns : List ℕ) (e : Edit) → walks (station-relation-entry [] and-then (λ r. done (edit r))) p ns e
-    → (r : StationRelation) × (ns ≡ station-relation-numbers r) × T (station-relation-ok r) × (edit r ≡ e)
+    → (r : StationRelation) × (ns ≡ station-relation-numbers r) × T (station-relation-ok r) × Over [] (station-relation-numbers r) × (edit r ≡ e)
 relation-taken edit p ns e w =
     let (r, v, q) = made-walks edit (station-relation-entry []) p ns e w in
     let (x, f) = station-relation-walks [] p ns r v in
-    (r, x, f .good, q)
+    (r, x, f .good, f .above, q)
 
 pub walks-edit : (p : ℕ) (e : Edit) → T (edit-ok e) → walks edit-entry p (edit-numbers e) e
 unfolding walks edit-entry edit-fields edit-ranges edit-of edit-numbers edit-ok
-walks-edit p (Place x) t = (kind-in 1 (omega arith) (omega arith), walks-fields plan-fields Place _ x t)
-walks-edit p (Prepend x) t = (kind-in 2 (omega arith) (omega arith), walks-fields extension-fields Prepend _ x t)
-walks-edit p (Append x) t = (kind-in 3 (omega arith) (omega arith), walks-fields extension-fields Append _ x t)
-walks-edit p (DeleteFirst x) t = (kind-in 4 (omega arith) (omega arith), walks-fields deletion-fields DeleteFirst _ x t)
-walks-edit p (DeleteLast x) t = (kind-in 5 (omega arith) (omega arith), walks-fields deletion-fields DeleteLast _ x t)
-walks-edit p (Amend x) t = (kind-in 6 (omega arith) (omega arith), walks-fields plan-fields Amend _ x t)
-walks-edit p (ReportArrival x) t = (kind-in 7 (omega arith) (omega arith), walks-fields report-fields ReportArrival _ x t)
-walks-edit p (ReportDeparture x) t = (kind-in 8 (omega arith) (omega arith), walks-fields report-fields ReportDeparture _ x t)
+walks-edit p (Place x) t = (kind-in 1 (omega arith) (omega arith), walks-fields plan-fields Place [] _ x t (over-none _))
+walks-edit p (Prepend x) t = (kind-in 2 (omega arith) (omega arith), walks-fields extension-fields Prepend [] _ x t (over-none _))
+walks-edit p (Append x) t = (kind-in 3 (omega arith) (omega arith), walks-fields extension-fields Append [] _ x t (over-none _))
+walks-edit p (DeleteFirst x) t = (kind-in 4 (omega arith) (omega arith), walks-fields deletion-fields DeleteFirst [] _ x t (over-none _))
+walks-edit p (DeleteLast x) t = (kind-in 5 (omega arith) (omega arith), walks-fields deletion-fields DeleteLast [] _ x t (over-none _))
+walks-edit p (Amend x) t = (kind-in 6 (omega arith) (omega arith), walks-fields plan-fields Amend [] _ x t (over-none _))
+walks-edit p (ReportArrival x) t = (kind-in 7 (omega arith) (omega arith), walks-fields report-fields ReportArrival [] _ x t (over-none _))
+walks-edit p (ReportDeparture x) t = (kind-in 8 (omega arith) (omega arith), walks-fields report-fields ReportDeparture [] _ x t (over-none _))
 walks-edit p (AddRelation x) t = (
   kind-in 9 (omega arith) (omega arith),
   walks-made AddRelation (station-relation-entry []) _ (station-relation-numbers x) x
@@ -216,26 +196,26 @@ walks-edit p (RemoveRelation x) t = (
   walks-made RemoveRelation (station-relation-entry []) _ (station-relation-numbers x) x
       (walks-station-relation [] _ x (record { good = t; above = over-none (station-relation-numbers x) })),
 )
-walks-edit p (DeleteTrain x) t = (kind-in 11 (omega arith) (omega arith), walks-fields cancellation-fields DeleteTrain _ x t)
+walks-edit p (DeleteTrain x) t = (kind-in 11 (omega arith) (omega arith), walks-fields cancellation-fields DeleteTrain [] _ x t (over-none _))
 
 pub edit-walks : (p : ℕ) (ns : List ℕ) (e : Edit) → walks edit-entry p ns e → (ns ≡ edit-numbers e) × T (edit-ok e)
 unfolding walks edit-entry edit-fields edit-ranges edit-of edit-numbers edit-ok
 edit-walks p [] e w = absurd w
 edit-walks p (k ∷ ns) e (x, w) =
     by-kind (λ k. walks (edit-fields k) (p + width k) ns e → (k ∷ ns ≡ edit-numbers e) × T (edit-ok e))
-    (λ w. through 1 plan-ok (λ x. refl) (λ x t. t) (fields-walk plan-fields Place _ ns e w))
-    (λ w. through 2 extension-ok (λ x. refl) (λ x t. t) (fields-walk extension-fields Prepend _ ns e w))
-    (λ w. through 3 extension-ok (λ x. refl) (λ x t. t) (fields-walk extension-fields Append _ ns e w))
-    (λ w. through 4 deletion-ok (λ x. refl) (λ x t. t) (fields-walk deletion-fields DeleteFirst _ ns e w))
-    (λ w. through 5 deletion-ok (λ x. refl) (λ x t. t) (fields-walk deletion-fields DeleteLast _ ns e w))
-    (λ w. through 6 plan-ok (λ x. refl) (λ x t. t) (fields-walk plan-fields Amend _ ns e w))
-    (λ w. through 7 report-ok (λ x. refl) (λ x t. t) (fields-walk report-fields ReportArrival _ ns e w))
-    (λ w. through 8 report-ok (λ x. refl) (λ x t. t) (fields-walk report-fields ReportDeparture _ ns e w))
+    (λ w. through 1 plan-ok (λ x. refl) (λ x t. t) (fields-walk plan-fields Place [] _ ns e w))
+    (λ w. through 2 extension-ok (λ x. refl) (λ x t. t) (fields-walk extension-fields Prepend [] _ ns e w))
+    (λ w. through 3 extension-ok (λ x. refl) (λ x t. t) (fields-walk extension-fields Append [] _ ns e w))
+    (λ w. through 4 deletion-ok (λ x. refl) (λ x t. t) (fields-walk deletion-fields DeleteFirst [] _ ns e w))
+    (λ w. through 5 deletion-ok (λ x. refl) (λ x t. t) (fields-walk deletion-fields DeleteLast [] _ ns e w))
+    (λ w. through 6 plan-ok (λ x. refl) (λ x t. t) (fields-walk plan-fields Amend [] _ ns e w))
+    (λ w. through 7 report-ok (λ x. refl) (λ x t. t) (fields-walk report-fields ReportArrival [] _ ns e w))
+    (λ w. through 8 report-ok (λ x. refl) (λ x t. t) (fields-walk report-fields ReportDeparture [] _ ns e w))
     (λ w. through 9 station-relation-ok (λ x. refl) (λ x t. t) (relation-taken AddRelation _ ns e w))
     (λ w. through 10 station-relation-ok (λ x. refl) (λ x t. t) (relation-taken RemoveRelation _ ns e w))
-    (λ w. through 11 (λ c. train-ok (c .train)) (λ x. refl) (λ x t. t) (fields-walk cancellation-fields DeleteTrain _ ns e w))
+    (λ w. through 11 (λ c. train-ok (c .train)) (λ x. refl) (λ x t. t) (fields-walk cancellation-fields DeleteTrain [] _ ns e w))
     k (x .low) (x .high) w
   where
     through : {A : Type 0} {numbers : A → List ℕ} {edit : A → Edit} (k : ℕ) (ok : A → Bool) → ((a : A) → edit-numbers (edit a) ≡ k ∷ numbers a) → ((a : A) → T (ok a) → T (edit-ok (edit a)))
-        → (a : A) × (ns ≡ numbers a) × T (ok a) × (edit a ≡ e) → (k ∷ ns ≡ edit-numbers e) × T (edit-ok e)
-    through k ok f g (a, q, t, u) = (ap (λ (l : List ℕ). k ∷ l) q ∙ sym (f a) ∙ ap edit-numbers u, subst (λ (e : Edit). T (edit-ok e)) u (g a t))
+        → (a : A) × (ns ≡ numbers a) × T (ok a) × Over [] (numbers a) × (edit a ≡ e) → (k ∷ ns ≡ edit-numbers e) × T (edit-ok e)
+    through k ok f g (a, q, t, o, u) = (ap (λ (l : List ℕ). k ∷ l) q ∙ sym (f a) ∙ ap edit-numbers u, subst (λ (e : Edit). T (edit-ok e)) u (g a t))

@@ -1,7 +1,7 @@
 -- Rows of numbers and lists of entries, walked: a row gives its own numbers back, each in its range and all above the bar; entries are those of each entry in turn,
 -- each behind the bar that the one before sets. By induction on the ranges, and on the entries. Assumes nothing.
 use Prim.Native.Nat.{ℕ, zero, suc, _+_, _-_, _≤_, _<_, max}
-use mathlib.Core.Path.{_≡_, refl, sym, _∙_, ap, ap₂}
+use mathlib.Core.Path.{_≡_, refl, sym, _∙_, ap, ap₂, subst}
 use mathlib.Core.Bool.{Bool, true, false, _&&_}
 use mathlib.Core.List.{List, [], _∷_, _++_, map, flatMap, append-nil, append-assoc}
 use native.Mathlib.Omega.{arith}
@@ -113,6 +113,26 @@ row-at [] ns x i d h = absurd (omega arith)
 row-at (r ∷ rs) [] x i d h = absurd x
 row-at (r ∷ rs) (n ∷ ns) (x, y) zero d h = x
 row-at (r ∷ rs) (n ∷ ns) (x, y) (suc i) d h = row-at rs ns y i d (omega arith)
+
+-- values of a row: numbers in the ranges make a value in range, which is written with them; and a value in range is written with such numbers
+pub record Fields {A : Type 0} (ranges : List Range) (make : List ℕ → A) (numbers : A → List ℕ) (ok : A → Bool) : Type 0 where
+  pub written : (ns : List ℕ) → RowIn ranges ns → ns ≡ numbers (make ns)
+  pub good : (ns : List ℕ) → RowIn ranges ns → T (ok (make ns))
+  pub back : (a : A) → make (numbers a) ≡ a
+  pub within : (a : A) → T (ok a) → RowIn ranges (numbers a)
+
+module _ {A B : Type 0} {ranges : List Range} {make : List ℕ → A} {numbers : A → List ℕ} {ok : A → Bool} (f : Fields ranges make numbers ok) (g : A → B) where
+  pub walks-fields : (bar : List ℕ) (p : ℕ) (a : A) → T (ok a) → Over bar (numbers a) → walks (row ranges bar and-then (λ ns. done (g (make ns)))) p (numbers a) (g a)
+  walks-fields bar p a t o =
+      rw (ap g (f .back a)) at
+      (walks-made (λ ns. g (make ns)) (row ranges bar) p (numbers a) (numbers a) (walks-row ranges bar p (numbers a) (f .within a t) o))
+
+  pub fields-walk : (bar : List ℕ) (p : ℕ) (ns : List ℕ) (b : B) → walks (row ranges bar and-then (λ ns. done (g (make ns)))) p ns b
+      → (a : A) × (ns ≡ numbers a) × T (ok a) × Over bar (numbers a) × (g a ≡ b)
+  fields-walk bar p ns b w =
+      let (ms, v, q) = made-walks (λ ns. g (make ns)) (row ranges bar) p ns b w in
+      let (x, i, o) = row-walks ranges bar p ns ms v in
+      (make ms, x ∙ f .written ms i, f .good ms i, subst (Over bar) (f .written ms i) o, q)
 
 -- entries
 
