@@ -15,7 +15,7 @@ use Rattle.formats.specs.Types.{Edit}
 use Rattle.formats.specs.Walks.{InRange, walks}
 use Rattle.formats.specs.RoundTrips.{EditRead, EditRoundTrip, EditsRead, EditsRoundTrip}
 use Rattle.formats.proofs.WalkLaws.{span, read-walks, walks-read, file-read, file-walks}
-use Rattle.formats.proofs.RowLaws.{Chain, values, walks-entries, entries-walk, walks-placed, placed-walks, values-plain}
+use Rattle.formats.proofs.RowLaws.{Chain, walks-placed, placed-walks, Entry, walks-plain, plain-walks}
 use Rattle.formats.proofs.EditWalks.{walks-edit, edit-walks}
 
 pub edit-trip : EditRoundTrip
@@ -45,21 +45,18 @@ unfolding Chain every
 chain-every bar [] c = tt
 chain-every bar (e ∷ es) (t, c) = every-cons edit-ok e es t (chain-every [] es c)
 
-map-same : {A : Type 0} (xs : List A) → map (λ x. x) xs ≡ xs
-map-same [] = refl
-map-same (x ∷ xs) = ap (λ (l : List _). x ∷ l) (map-same xs)
+edit-law : Entry (λ bar. edit-entry) edit-numbers fits
+edit-law = record { walk = λ bar p e t. walks-edit p e t; back = λ bar p ns e w. edit-walks p ns e w }
 
 pub walks-edits : (p : ℕ) (es : List Edit) → T (every edit-ok es) → walks (edits-on (length es)) p (flatMap edit-numbers es) es
 unfolding edits-on
-walks-edits p es t =
-    subst (walks (edits-on (length es)) p (flatMap edit-numbers es)) (values-plain edit-numbers p es)
-    (walks-entries (λ bar. edit-entry) no-bar edit-numbers no-bar fits (λ p e. e) (λ p e. refl) (λ bar p e t. walks-edit p e t) es [] p (every-chain [] es t))
+walks-edits p es t = walks-plain (λ bar. edit-entry) edit-numbers no-bar fits edit-law es [] p (every-chain [] es t)
 
 pub edits-walk : (k p : ℕ) (ns : List ℕ) (es : List Edit) → walks (edits-on k) p ns es → (ns ≡ flatMap edit-numbers es) × T (every edit-ok es) × (length es ≡ k)
 unfolding edits-on
 edits-walk k p ns es w =
-    let (x, c, l) = entries-walk (λ bar. edit-entry) no-bar edit-numbers no-bar fits (λ e. e) (λ e. refl) (λ bar p ns e w. edit-walks p ns e w) k [] p ns es w in
-    (x ∙ ap (flatMap edit-numbers) (map-same es), chain-every [] es (subst (Chain no-bar fits []) (map-same es) c), l)
+    let (x, c, l) = plain-walks (λ bar. edit-entry) edit-numbers no-bar fits edit-law k [] p ns es w in
+    (x, chain-every [] es c, l)
 
 pub walks-edits-format : (p : ℕ) (es : List Edit) → length es ≤ 1000 → T (every edit-ok es)
     → walks edits-format p (edits-numbers es) (record { place = p + width (length es); entry = es })

@@ -3,3 +3,4 @@ pub mod RowLaws
 pub mod RelationWalks
 pub mod EditWalks
 pub mod EditTrips
+pub mod NetworkWalks

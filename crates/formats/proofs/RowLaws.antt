@@ -204,3 +204,47 @@ module _ {A : Type 0} (numbers : A → List ℕ) where
   unfolding values
   values-entries p [] = refl
   values-entries p (x ∷ xs) = ap (λ (l : List A). x ∷ l) (values-entries (p + span (numbers x)) xs)
+
+pub map-same : {A : Type 0} (xs : List A) → map (λ x. x) xs ≡ xs
+map-same [] = refl
+map-same (x ∷ xs) = ap (λ (l : List _). x ∷ l) (map-same xs)
+
+-- what a kind of entry is: those that fit behind the bar walk it with their numbers, and no other numbers do
+pub record Entry {A : Type 0} (entry : List ℕ → Format A) (numbers : A → List ℕ) (Fits : List ℕ → A → Type 0) : Type 0 where
+  pub walk : (bar : List ℕ) (p : ℕ) (x : A) → Fits bar x → walks (entry bar) p (numbers x) x
+  pub back : (bar : List ℕ) (p : ℕ) (ns : List ℕ) (x : A) → walks (entry bar) p ns x → (ns ≡ numbers x) × Fits bar x
+
+module _ {A : Type 0} (entry : List ℕ → Format A) (numbers : A → List ℕ) (bar-by : A → List ℕ) (Fits : List ℕ → A → Type 0) (law : Entry entry numbers Fits) where
+  pub walks-plain : (xs : List A) (bar : List ℕ) (p : ℕ) → Chain bar-by Fits bar xs → walks (entries entry bar-by (length xs) bar) p (flatMap numbers xs) xs
+  walks-plain xs bar p c =
+      subst (walks (entries entry bar-by (length xs) bar) p (flatMap numbers xs)) (values-plain numbers p xs)
+      (walks-entries entry bar-by numbers bar-by Fits (λ p x. x) (λ p x. refl) (law .walk) xs bar p c)
+
+  pub plain-walks : (k : ℕ) (bar : List ℕ) (p : ℕ) (ns : List ℕ) (xs : List A) → walks (entries entry bar-by k bar) p ns xs
+      → (ns ≡ flatMap numbers xs) × Chain bar-by Fits bar xs × (length xs ≡ k)
+  plain-walks k bar p ns xs w =
+      let (x, c, l) = entries-walk entry bar-by numbers bar-by Fits (λ x. x) (λ x. refl) (law .back) k bar p ns xs w in
+      (x ∙ ap (flatMap numbers) (map-same xs), subst (Chain bar-by Fits bar) (map-same xs) c, l)
+
+  -- the same with places
+  abbrev pub placed-by : Placed A → List ℕ
+  placed-by v = bar-by (v .entry)
+
+  abbrev pub placed-entry : List ℕ → Format (Placed A)
+  placed-entry bar = placed (entry bar)
+
+  abbrev pub put : ℕ → A → Placed A
+  put p x = record { place = p; entry = x }
+
+  abbrev pub taken : Placed A → A
+  taken v = v .entry
+
+  pub walks-places : (xs : List A) (bar : List ℕ) (p : ℕ) → Chain bar-by Fits bar xs
+      → walks (entries placed-entry placed-by (length xs) bar) p (flatMap numbers xs) (values numbers put p xs)
+  walks-places xs bar p c =
+      walks-entries placed-entry placed-by numbers bar-by Fits put (λ p x. refl) (λ bar p x f. walks-placed (entry bar) p (numbers x) x (law .walk bar p x f)) xs bar p c
+
+  pub places-walk : (k : ℕ) (bar : List ℕ) (p : ℕ) (ns : List ℕ) (vs : List (Placed A)) → walks (entries placed-entry placed-by k bar) p ns vs
+      → (ns ≡ flatMap numbers (map taken vs)) × Chain bar-by Fits bar (map taken vs) × (length vs ≡ k)
+  places-walk k bar p ns vs w =
+      entries-walk placed-entry placed-by numbers bar-by Fits taken (λ v. refl) (λ bar p ns v w. law .back bar p ns (v .entry) (placed-walks (entry bar) p ns v w .0)) k bar p ns vs w
