@@ -4,3 +4,4 @@ pub mod RelationWalks
 pub mod EditWalks
 pub mod EditTrips
 pub mod NetworkWalks
+pub mod NetworkTrips

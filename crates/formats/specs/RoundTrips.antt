@@ -11,10 +11,29 @@ use lib.ListN.{length, drop}
 use Rattle.base.specs.Lists.{every}
 use Rattle.numbers.specs.Numbers.{width}
 use Rattle.railway.specs.Edits.{edit-ok}
+use Rattle.railway.specs.Networks.{station-rows, line-rows, network-refusal}
 use Rattle.timetable.specs.Formats.{Outcome, accepted, read, bytes-of, Placed}
-use Rattle.timetable.specs.EditsFile.{edit-entry, edit-numbers, read-edits, edits-numbers}
-use Rattle.formats.specs.Types.{Edit}
+use Rattle.timetable.specs.NetworkFile.{network-with, read-network, network-numbers}
+use Rattle.timetable.specs.EditsFile.{edit-entry, edit-numbers, read-edits, edits-numbers, Shift, read-shift}
+use Rattle.formats.specs.Types.{Edit, Network}
 use Rattle.formats.specs.Walks.{Bytes}
+
+-- networks
+
+-- the rows that are not used are blank: of a network in memory they may hold anything, of one that was read they are blank
+abbrev pub UnusedBlank : Network → Type 0
+UnusedBlank n = network-with (station-rows n) (n .headway) (line-rows n) ≡ n
+
+-- a network that was read: "A good network is one that 3 and 4 don't refuse."
+pub record NetworkRead (file : List ℕ) (n : Network) (next : ℕ) : Type 0 where
+  pub file-is : file ≡ bytes-of (network-numbers n)
+  pub end : next ≡ length file
+  pub good : network-refusal n ≡ 0
+  pub unused : UnusedBlank n
+
+pub record NetworkRoundTrip : Type 0 where
+  pub back : (n : Network) → network-refusal n ≡ 0 → UnusedBlank n → read-network (bytes-of (network-numbers n)) ≡ accepted n (length (bytes-of (network-numbers n)))
+  pub only : (file : List ℕ) (n : Network) (next : ℕ) → Bytes file → read-network file ≡ accepted n next → NetworkRead file n next
 
 -- edits
 
@@ -43,3 +62,21 @@ pub record EditsRoundTrip : Type 0 where
   pub back : (es : List Edit) → length es ≤ 1000 → T (every edit-ok es)
       → read-edits (bytes-of (edits-numbers es)) ≡ accepted (record { place = width (length es); entry = es }) (length (bytes-of (edits-numbers es)))
   pub only : (file : List ℕ) (es : Placed (List Edit)) (next : ℕ) → Bytes file → read-edits file ≡ accepted es next → EditsRead file es next
+
+-- "network, then edits"
+pub record ShiftRead (file : List ℕ) (x : Shift) (next : ℕ) : Type 0 where
+  pub file-is : file ≡ bytes-of (network-numbers (x .network) ++ edits-numbers (x .edits .entry))
+  pub end : next ≡ length file
+  pub good : network-refusal (x .network) ≡ 0
+  pub unused : UnusedBlank (x .network)
+  pub few : length (x .edits .entry) ≤ 1000
+  pub edits-good : T (every edit-ok (x .edits .entry))
+  -- the first edit stands behind the network and the count
+  pub first : x .edits .place ≡ length (bytes-of (network-numbers (x .network))) + width (length (x .edits .entry))
+
+pub record ShiftRoundTrip : Type 0 where
+  pub back : (n : Network) (es : List Edit) → network-refusal n ≡ 0 → UnusedBlank n → length es ≤ 1000 → T (every edit-ok es)
+      → read-shift (bytes-of (network-numbers n ++ edits-numbers es))
+      ≡ accepted (record { network = n; edits = record { place = length (bytes-of (network-numbers n)) + width (length es); entry = es } })
+      (length (bytes-of (network-numbers n ++ edits-numbers es)))
+  pub only : (file : List ℕ) (x : Shift) (next : ℕ) → Bytes file → read-shift file ≡ accepted x next → ShiftRead file x next
