@@ -5,3 +5,4 @@ pub mod EditWalks
 pub mod EditTrips
 pub mod NetworkWalks
 pub mod NetworkTrips
+pub mod VisitWalks
