@@ -1,19 +1,19 @@
 -- A relation's entry, walked: its numbers are those that the relation is written with, it is in range, and it is above the bar; and such a relation walks it.
 -- The trains as numbers by induction; the four places of a group by how many are in use. Assumes nothing.
-use Prim.Native.Nat.{ℕ, zero, suc, _+_, _≤_, _<_}
+use Prim.Native.Nat.{ℕ, zero, suc, _+_, _-_, _≤_, _<_}
 use mathlib.Core.Path.{_≡_, refl, sym, _∙_, ap, ap₂, subst}
 use mathlib.Core.Bool.{Bool, true, false, not, _&&_}
 use mathlib.Core.List.{List, [], _∷_, _++_, map}
 use mathlib.Core.Logic.{_⊎_, inl, inr}
 use native.Mathlib.Omega.{arith}
 use lib.Dec.{T, leb, eqb, leb→le, le→leb}
-use lib.ListN.{length, getD, length-map}
+use lib.ListN.{length, getD, replicate, length-map}
 use Rattle.base.specs.Choice.{if_then_else_, _if_else_}
 use Rattle.base.specs.Lists.{within}
 use Rattle.base.proofs.Tests.{and-l, and-r, both, parts}
 use Rattle.numbers.specs.Numbers.{width}
 use Rattle.railway.specs.Ranges.{train-ok, interval-ok}
-use Rattle.railway.specs.Relations.{used, trains-ok, pair-ok, relation-ok}
+use Rattle.railway.specs.Relations.{used, trains-ok, pair-ok, relation-ok, group-key, key}
 use Rattle.railway.specs.Edits.{station-relation-ok}
 use Rattle.timetable.specs.Tables.{packed}
 use Rattle.timetable.specs.Formats.{Format, done, field, _and-then_, least, bar-after, compared}
@@ -91,12 +91,17 @@ group-back (a ∷ b ∷ c ∷ d ∷ []) (x, (y, (z, (u, v)))) l m =
     (places-fit (group-of (a ∷ b ∷ c ∷ d ∷ [])) p, ap (map number) (used-four (group-of (a ∷ b ∷ c ∷ d ∷ [])) p (omega (arith, z .low)) (omega (arith, u .low))))
 group-back (a ∷ b ∷ c ∷ d ∷ e ∷ ts) i l m = absurd (omega arith)
 
+-- zeros in the places not used
+abbrev pub unused : ℕ → List ℕ
+unused k = replicate (4 - k) 0
+
 -- the list of a good group's trains
 pub record GroupIn (us : Trains) (ts : List Train) : Type 0 where
   pub least : 2 ≤ length ts
   pub most : length ts ≤ 4
   pub each : TrainsIn true 0 (map number ts)
   pub back : group-of (map number ts) ≡ us
+  pub places : us .a .0 ∷ us .b .0 ∷ us .c .0 ∷ us .d .0 ∷ [] ≡ map number ts ++ unused (length ts)
 
 nobody : (t : Train) → t .0 ≡ 0 → _≡_ {A = Train} (record { 0 = 0 }) t
 nobody t e = ap (λ (k : ℕ). record { 0 = k }) (sym e)
@@ -111,6 +116,7 @@ group-in us t = let p = places us t in go p (p .third) (p .fourth)
       most = omega arith;
       each = (in-train _ _ (omega (arith, p .first-low)) (omega arith), (in-train _ _ (omega (arith, p .second-above)) (p .second-high), tt));
       back = ap₂ (λ (c d : Train). record { a = us .a; b = us .b; c = c; d = d }) (nobody (us .c) e) (nobody (us .d) f);
+      places = ap₂ (λ (c d : ℕ). us .a .0 ∷ us .b .0 ∷ c ∷ d ∷ []) e f;
     })
     go p (inl e) (inr f) = absurd (omega arith)
     go p (inr e) (inl f) = rw (used-three us p (omega arith) f) (record {
@@ -118,6 +124,7 @@ group-in us t = let p = places us t in go p (p .third) (p .fourth)
       most = omega arith;
       each = (in-train _ _ (omega (arith, p .first-low)) (omega arith), (in-train _ _ (omega (arith, p .second-above)) (p .second-high), (in-train _ _ (omega arith) (e .2), tt)));
       back = ap (λ (d : Train). record { a = us .a; b = us .b; c = us .c; d = d }) (nobody (us .d) f);
+      places = ap (λ (d : ℕ). us .a .0 ∷ us .b .0 ∷ us .c .0 ∷ d ∷ []) f;
     })
     go p (inr e) (inr f) = rw (used-four us p (omega arith) (omega arith)) (record {
       least = omega arith;
@@ -130,6 +137,7 @@ group-in us t = let p = places us t in go p (p .third) (p .fourth)
         ),
       );
       back = refl;
+      places = refl;
     })
 
 -- relations
@@ -206,6 +214,7 @@ pub record Made (r : Relation) : Type 0 where
   pub within : RelationIn kind interval trains
   pub value : relation-of kind interval trains ≡ r
   pub written : relation-numbers r ≡ listed kind interval trains
+  pub keyed : key r ≡ kind ∷ interval ∷ length trains ∷ (trains ++ unused (length trains))
 
 module _ (kind i : ℕ) (us : Trains) (t : T (interval-ok i && trains-ok us)) where
   group-within : InRange 1 3 kind → most-trains kind ≡ 4 → not (eqb kind 3) ≡ true → RelationIn kind i (map number (used us))
@@ -222,11 +231,17 @@ module _ (kind i : ℕ) (us : Trains) (t : T (interval-ok i && trains-ok us)) wh
   unfolding group-numbers
   group-written = ap (λ (k : ℕ). kind ∷ i ∷ k ∷ map number (used us)) (sym (length-map (used us) number))
 
+  group-keyed : group-key kind i us ≡ kind ∷ i ∷ length (map number (used us)) ∷ (map number (used us) ++ unused (length (map number (used us))))
+  unfolding group-key
+  group-keyed =
+      let g = group-in us (and-r (interval-ok i) (trains-ok us) t) in
+      rw (length-map (used us) number) (ap (λ (l : List ℕ). kind ∷ i ∷ length (used us) ∷ l) (g .places))
+
   group-value : (make : Trains → Relation) → make (group-of (map number (used us))) ≡ make us
   group-value make = ap make (group-in us (and-r (interval-ok i) (trains-ok us) t) .back)
 
 pub relation-numbered : (r : Relation) → T (relation-ok r) → Made r
-unfolding relation-numbers relation-of relation-ok most-trains pair-ok pair-of TrainsIn
+unfolding relation-numbers relation-of relation-ok most-trains pair-ok pair-of TrainsIn key
 relation-numbered (Connection i us) t = record {
   kind = 1;
   interval = i;
@@ -234,6 +249,7 @@ relation-numbered (Connection i us) t = record {
   within = group-within 1 i us t (test-in 1 3 1 (omega arith) tt) refl refl;
   value = group-value 1 i us t (Connection i);
   written = group-written 1 i us t;
+  keyed = group-keyed 1 i us t;
 }
 relation-numbered (Disconnection i us) t = record {
   kind = 2;
@@ -242,6 +258,7 @@ relation-numbered (Disconnection i us) t = record {
   within = group-within 2 i us t (test-in 1 3 2 (omega arith) tt) refl refl;
   value = group-value 2 i us t (Disconnection i);
   written = group-written 2 i us t;
+  keyed = group-keyed 2 i us t;
 }
 relation-numbered (Dependency i q) t = record {
   kind = 3;
@@ -255,6 +272,7 @@ relation-numbered (Dependency i q) t = record {
   };
   value = refl;
   written = refl;
+  keyed = refl;
 }
 
 -- the entry
