@@ -6,3 +6,4 @@ pub mod EditTrips
 pub mod NetworkWalks
 pub mod NetworkTrips
 pub mod VisitWalks
+pub mod OrderLaws
