@@ -7,3 +7,4 @@ pub mod NetworkWalks
 pub mod NetworkTrips
 pub mod VisitWalks
 pub mod OrderLaws
+pub mod TimetableWalks
