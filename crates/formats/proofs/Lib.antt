@@ -8,3 +8,4 @@ pub mod NetworkTrips
 pub mod VisitWalks
 pub mod OrderLaws
 pub mod TimetableWalks
+pub mod EnterLaws
