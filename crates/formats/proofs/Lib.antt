@@ -9,3 +9,4 @@ pub mod VisitWalks
 pub mod OrderLaws
 pub mod TimetableWalks
 pub mod EnterLaws
+pub mod EnteredTables
