@@ -10,3 +10,4 @@ pub mod OrderLaws
 pub mod TimetableWalks
 pub mod EnterLaws
 pub mod EnteredTables
+pub mod StationLists
