@@ -11,3 +11,5 @@ pub mod TimetableWalks
 pub mod EnterLaws
 pub mod EnteredTables
 pub mod StationLists
+pub mod WrittenTables
+pub mod ReadTables
