@@ -1,6 +1,7 @@
 -- The types of the crates below, under one module for this crate's own files.
 pub use Rattle.railway.specs.declared.sorts.Station.{Station}
 pub use Rattle.railway.specs.declared.sorts.Train.{Train}
+pub use Rattle.railway.specs.declared.sorts.Track.{Track}
 pub use Rattle.railway.specs.declared.visit.Inward.{Inward}
 pub use Rattle.railway.specs.declared.visit.Outward.{Outward}
 pub use Rattle.railway.specs.declared.visit.InLink.{InLink}
