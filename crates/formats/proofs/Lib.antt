@@ -13,3 +13,4 @@ pub mod EnteredTables
 pub mod StationLists
 pub mod WrittenTables
 pub mod ReadTables
+pub mod TimetableTrips

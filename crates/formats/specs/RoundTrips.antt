@@ -1,7 +1,7 @@
 -- What is promised of files: "round trips give the same back", and "A written file is the only file that reads to that timetable". The proofs are in proofs/;
 -- nothing here is proved. A reader needs the definitions of the crate timetable: Formats (reading, and the bytes of numbers), NetworkFile, EditsFile, TimetableFile.
 --
--- The letters: file the bytes of a file, at and next places in it, n a network, e an edit, es a list of edits. `T b` says that the test b passes.
+-- The letters: file the bytes of a file, at and next places in it, n a network, e an edit, es a list of edits, m a timetable. `T b` says that the test b passes.
 -- `bytes-of (x-numbers x)` is the file that is written for x. A record collects what is promised together. Assumes nothing.
 use Prim.Native.Nat.{ℕ, _+_, _≤_}
 use mathlib.Core.Path.{_≡_}
@@ -15,6 +15,9 @@ use Rattle.railway.specs.Networks.{station-rows, line-rows, network-refusal}
 use Rattle.timetable.specs.Formats.{Outcome, accepted, read, bytes-of, Placed}
 use Rattle.timetable.specs.NetworkFile.{network-with, read-network, network-numbers}
 use Rattle.timetable.specs.EditsFile.{edit-entry, edit-numbers, read-edits, edits-numbers, Shift, read-shift}
+use Rattle.timetable.specs.Machine.{Timetable}
+use Rattle.timetable.specs.Good.{Whole}
+use Rattle.timetable.specs.TimetableFile.{read-timetable, timetable-numbers}
 use Rattle.formats.specs.Types.{Edit, Network}
 use Rattle.formats.specs.Walks.{Bytes}
 
@@ -80,3 +83,18 @@ pub record ShiftRoundTrip : Type 0 where
       ≡ accepted (record { network = n; edits = record { place = length (bytes-of (network-numbers n)) + width (length es); entry = es } })
       (length (bytes-of (network-numbers n ++ edits-numbers es)))
   pub only : (file : List ℕ) (x : Shift) (next : ℕ) → Bytes file → read-shift file ≡ accepted x next → ShiftRead file x next
+
+-- timetables
+
+-- a timetable that was read, under a network that is good: "A whole timetable is a good sheet over all stations."
+pub record TimetableRead (n : Network) (file : List ℕ) (m : Timetable) (next : ℕ) : Type 0 where
+  pub file-is : file ≡ bytes-of (timetable-numbers n m)
+  pub end : next ≡ length file
+  pub network-good : network-refusal n ≡ 0
+  pub whole : Whole n m
+
+-- "A written file is the only file that reads to that timetable."
+pub record TimetableRoundTrip : Type 0 where
+  pub back : (n : Network) (m : Timetable) → network-refusal n ≡ 0 → Whole n m
+      → read-timetable n (bytes-of (timetable-numbers n m)) ≡ accepted m (length (bytes-of (timetable-numbers n m)))
+  pub only : (n : Network) (file : List ℕ) (m : Timetable) (next : ℕ) → Bytes file → read-timetable n file ≡ accepted m next → TimetableRead n file m next
