@@ -1,7 +1,7 @@
 -- Edits and lists of edits read back, and only the written file reads to them: the laws of walks, at the formats of edits. Assumes nothing.
-use Prim.Native.Nat.{ℕ, zero, suc, _+_, _≤_, _<_}
-use mathlib.Core.Path.{_≡_, refl, sym, _∙_, ap, ap₂, subst}
-use mathlib.Core.List.{List, [], _∷_, _++_, map, flatMap, append-nil}
+use Prim.Native.Nat.{ℕ, _+_, _≤_}
+use mathlib.Core.Path.{_≡_, sym, _∙_, ap, ap₂, subst}
+use mathlib.Core.List.{List, [], _∷_, _++_, flatMap}
 use native.Mathlib.Omega.{arith}
 use lib.Dec.{T}
 use lib.ListN.{length, drop}
@@ -9,11 +9,11 @@ use Rattle.base.specs.Lists.{every}
 use Rattle.base.proofs.Tests.{every-head, every-tail, every-cons}
 use Rattle.numbers.specs.Numbers.{width}
 use Rattle.railway.specs.Edits.{edit-ok}
-use Rattle.timetable.specs.Formats.{Outcome, accepted, read, read-file, bytes-of, entries, Placed, placed}
+use Rattle.timetable.specs.Formats.{bytes-of, Placed}
 use Rattle.timetable.specs.EditsFile.{edit-entry, edit-numbers, edits-on, edits-format, read-edits, edits-numbers}
 use Rattle.formats.specs.Types.{Edit}
-use Rattle.formats.specs.Walks.{InRange, walks}
-use Rattle.formats.specs.RoundTrips.{EditRead, EditRoundTrip, EditsRead, EditsRoundTrip}
+use Rattle.formats.proofs.Walks.{walks}
+use Rattle.formats.specs.RoundTrips.{EditRoundTrip, EditsRoundTrip}
 use Rattle.formats.proofs.WalkLaws.{span, read-walks, walks-read, file-read, file-walks}
 use Rattle.formats.proofs.RowLaws.{Chain, walks-placed, placed-walks, Entry, walks-plain, plain-walks}
 use Rattle.formats.proofs.EditWalks.{walks-edit, edit-walks}

@@ -1,34 +1,28 @@
 -- An edit's entry, walked: kind by kind, its fields are a row of numbers in their ranges, or a relation. Then lists of edits, which have no order. Assumes nothing.
-use Prim.Native.Nat.{ℕ, zero, suc, _+_, _≤_, _<_}
-use mathlib.Core.Path.{_≡_, refl, sym, _∙_, ap, ap₂, subst}
-use mathlib.Core.Bool.{Bool, true, false, not, _&&_}
-use mathlib.Core.List.{List, [], _∷_, _++_, map, flatMap}
+use Prim.Native.Nat.{ℕ, zero, suc, _+_, _≤_}
+use mathlib.Core.Path.{_≡_, refl, sym, _∙_, ap, subst}
+use mathlib.Core.Bool.{Bool}
+use mathlib.Core.List.{List, [], _∷_}
 use native.Mathlib.Omega.{arith}
-use lib.Dec.{T, leb, eqb, leb→le, le→leb}
-use lib.ListN.{length, getD}
-use Rattle.base.specs.Choice.{if_then_else_, _if_else_}
-use Rattle.base.specs.Lists.{every, within}
-use Rattle.base.proofs.Tests.{and-l, and-r, both, parts, every-head, every-tail, every-cons}
+use lib.Dec.{T}
+use lib.ListN.{getD}
+use Rattle.base.specs.Lists.{within}
+use Rattle.base.proofs.Tests.{both, parts}
 use Rattle.numbers.specs.Numbers.{width}
 use Rattle.railway.specs.Ranges.{train-ok}
 use Rattle.railway.specs.Edits.{plan-ok, extension-ok, deletion-ok, report-ok, station-relation-ok, edit-ok}
-use Rattle.timetable.specs.Formats.{Format, done, field, _and-then_, Range, _to_, row, entries, Placed, placed}
+use Rattle.timetable.specs.Formats.{done, _and-then_, _to_}
 use Rattle.timetable.specs.EditsFile.{plan-ranges, plan-of, plan-numbers, extension-ranges, extension-of, extension-numbers, deletion-ranges, deletion-of, deletion-numbers}
-use Rattle.timetable.specs.EditsFile.{report-ranges, report-of, report-numbers, edit-ranges, edit-of, edit-fields, edit-entry, edit-numbers, edits-on, edits-format, edits-numbers}
+use Rattle.timetable.specs.EditsFile.{report-ranges, report-of, report-numbers, edit-ranges, edit-of, edit-fields, edit-entry, edit-numbers}
 use Rattle.timetable.specs.EditsFile.{station-relation-entry, station-relation-numbers}
 use Rattle.formats.specs.Types.{StationRelation, Plan, Extension, Deletion, Report, Cancellation, Edit, Place, Prepend, Append, DeleteFirst, DeleteLast, Amend}
 use Rattle.formats.specs.Types.{ReportArrival, ReportDeparture, AddRelation, RemoveRelation, DeleteTrain}
-use Rattle.formats.specs.Walks.{InRange, walks}
-use Rattle.formats.proofs.WalkLaws.{span, walks-at, walks-then, then-walks, walks-made, made-walks}
-use Rattle.formats.proofs.RowLaws.{Over, over-none, raised, raise, in-test, test-in, most-test, test-most, RowIn, by-index, row-exact, row-at, Fields, walks-fields, fields-walk}
-use Rattle.formats.proofs.RowLaws.{Chain, values, walks-entries, entries-walk, walks-placed, placed-walks, values-plain}
-use Rattle.formats.proofs.RelationWalks.{StationRelationFits, walks-station-relation, station-relation-walks}
+use Rattle.formats.proofs.Walks.{InRange, walks}
+use Rattle.formats.proofs.WalkLaws.{walks-made, made-walks}
+use Rattle.formats.proofs.RowLaws.{Over, over-none, in-test, test-in, most-test, test-most, RowIn, by-index, row-exact, row-at, Fields, walks-fields, fields-walk}
+use Rattle.formats.proofs.RelationWalks.{walks-station-relation, station-relation-walks}
 
 -- fields in a row
-
--- where there is no range
-none : Range
-none = 0 to 0
 
 pub plan-fields : Fields plan-ranges plan-of plan-numbers plan-ok
 unfolding RowIn by-index plan-ranges plan-of plan-numbers plan-ok
@@ -36,11 +30,11 @@ plan-fields = record { written = row-exact plan-ranges; good = good; back = λ a
   where
     good : (ns : List ℕ) → RowIn plan-ranges ns → T (plan-ok (plan-of ns))
     good ns i =
-        let t₁ = in-test 1 16 (getD ns 0 0) (row-at plan-ranges ns i 0 none (omega arith)) in
-        let t₂ = in-test 1 9999 (getD ns 1 0) (row-at plan-ranges ns i 1 none (omega arith)) in
-        let t₃ = in-test 1 8 (getD ns 2 0) (row-at plan-ranges ns i 2 none (omega arith)) in
-        let t₄ = most-test 2879 (getD ns 3 0) (row-at plan-ranges ns i 3 none (omega arith)) in
-        let t₅ = most-test 2879 (getD ns 4 0) (row-at plan-ranges ns i 4 none (omega arith)) in
+        let t₁ = in-test 1 16 (getD ns 0 0) (row-at plan-ranges ns i 0 (omega arith)) in
+        let t₂ = in-test 1 9999 (getD ns 1 0) (row-at plan-ranges ns i 1 (omega arith)) in
+        let t₃ = in-test 1 8 (getD ns 2 0) (row-at plan-ranges ns i 2 (omega arith)) in
+        let t₄ = most-test 2879 (getD ns 3 0) (row-at plan-ranges ns i 3 (omega arith)) in
+        let t₅ = most-test 2879 (getD ns 4 0) (row-at plan-ranges ns i 4 (omega arith)) in
         search both
 
     fits : (x : Plan) → T (plan-ok x) → RowIn plan-ranges (plan-numbers x)
@@ -64,14 +58,14 @@ extension-fields = record { written = row-exact extension-ranges; good = good; b
   where
     good : (ns : List ℕ) → RowIn extension-ranges ns → T (extension-ok (extension-of ns))
     good ns i =
-        let t₁ = in-test 1 16 (getD ns 0 0) (row-at extension-ranges ns i 0 none (omega arith)) in
-        let t₂ = in-test 1 9999 (getD ns 1 0) (row-at extension-ranges ns i 1 none (omega arith)) in
-        let t₃ = in-test 1 8 (getD ns 2 0) (row-at extension-ranges ns i 2 none (omega arith)) in
-        let t₄ = most-test 2879 (getD ns 3 0) (row-at extension-ranges ns i 3 none (omega arith)) in
-        let t₅ = most-test 2879 (getD ns 4 0) (row-at extension-ranges ns i 4 none (omega arith)) in
-        let t₆ = in-test 1 16 (getD ns 5 0) (row-at extension-ranges ns i 5 none (omega arith)) in
-        let t₇ = in-test 1 32 (getD ns 6 0) (row-at extension-ranges ns i 6 none (omega arith)) in
-        let t₈ = in-test 1 240 (getD ns 7 0) (row-at extension-ranges ns i 7 none (omega arith)) in
+        let t₁ = in-test 1 16 (getD ns 0 0) (row-at extension-ranges ns i 0 (omega arith)) in
+        let t₂ = in-test 1 9999 (getD ns 1 0) (row-at extension-ranges ns i 1 (omega arith)) in
+        let t₃ = in-test 1 8 (getD ns 2 0) (row-at extension-ranges ns i 2 (omega arith)) in
+        let t₄ = most-test 2879 (getD ns 3 0) (row-at extension-ranges ns i 3 (omega arith)) in
+        let t₅ = most-test 2879 (getD ns 4 0) (row-at extension-ranges ns i 4 (omega arith)) in
+        let t₆ = in-test 1 16 (getD ns 5 0) (row-at extension-ranges ns i 5 (omega arith)) in
+        let t₇ = in-test 1 32 (getD ns 6 0) (row-at extension-ranges ns i 6 (omega arith)) in
+        let t₈ = in-test 1 240 (getD ns 7 0) (row-at extension-ranges ns i 7 (omega arith)) in
         search both
 
     fits : (x : Extension) → T (extension-ok x) → RowIn extension-ranges (extension-numbers x)
@@ -104,9 +98,9 @@ deletion-fields = record { written = row-exact deletion-ranges; good = good; bac
   where
     good : (ns : List ℕ) → RowIn deletion-ranges ns → T (deletion-ok (deletion-of ns))
     good ns i =
-        let t₁ = in-test 1 16 (getD ns 0 0) (row-at deletion-ranges ns i 0 none (omega arith)) in
-        let t₂ = in-test 1 9999 (getD ns 1 0) (row-at deletion-ranges ns i 1 none (omega arith)) in
-        let t₃ = in-test 1 16 (getD ns 2 0) (row-at deletion-ranges ns i 2 none (omega arith)) in
+        let t₁ = in-test 1 16 (getD ns 0 0) (row-at deletion-ranges ns i 0 (omega arith)) in
+        let t₂ = in-test 1 9999 (getD ns 1 0) (row-at deletion-ranges ns i 1 (omega arith)) in
+        let t₃ = in-test 1 16 (getD ns 2 0) (row-at deletion-ranges ns i 2 (omega arith)) in
         search both
 
     fits : (x : Deletion) → T (deletion-ok x) → RowIn deletion-ranges (deletion-numbers x)
@@ -124,9 +118,9 @@ report-fields = record { written = row-exact report-ranges; good = good; back = 
   where
     good : (ns : List ℕ) → RowIn report-ranges ns → T (report-ok (report-of ns))
     good ns i =
-        let t₁ = in-test 1 16 (getD ns 0 0) (row-at report-ranges ns i 0 none (omega arith)) in
-        let t₂ = in-test 1 9999 (getD ns 1 0) (row-at report-ranges ns i 1 none (omega arith)) in
-        let t₃ = most-test 2879 (getD ns 2 0) (row-at report-ranges ns i 2 none (omega arith)) in
+        let t₁ = in-test 1 16 (getD ns 0 0) (row-at report-ranges ns i 0 (omega arith)) in
+        let t₂ = in-test 1 9999 (getD ns 1 0) (row-at report-ranges ns i 1 (omega arith)) in
+        let t₃ = most-test 2879 (getD ns 2 0) (row-at report-ranges ns i 2 (omega arith)) in
         search both
 
     fits : (x : Report) → T (report-ok x) → RowIn report-ranges (report-numbers x)
@@ -142,7 +136,7 @@ cancellation-fields : Fields (1 to 9999 ∷ []) (λ ns. record { train = record 
 unfolding RowIn by-index
 cancellation-fields = record {
   written = row-exact (1 to 9999 ∷ []);
-  good = λ ns i. in-test 1 9999 (getD ns 0 0) (row-at (1 to 9999 ∷ []) ns i 0 none (omega arith));
+  good = λ ns i. in-test 1 9999 (getD ns 0 0) (row-at (1 to 9999 ∷ []) ns i 0 (omega arith));
   back = λ c. refl;
   within = λ c t. (test-in 1 9999 (c .train .0) (omega arith) t, tt);
 }

@@ -1,64 +1,31 @@
 -- Entries put into a timetable one by one, in their order: each goes behind those of its station, so the timetable is, station by station, the entries of that
 -- station. None is refused just if each is known and no station has more than its limit. By induction on the entries that are left. Assumes nothing.
-use Prim.Native.Nat.{ℕ, zero, suc, _+_, _≤_, _<_}
-use mathlib.Core.Path.{_≡_, refl, sym, _∙_, ap, ap₂, subst, fun-ext}
-use mathlib.Core.Bool.{Bool, true, false, not, _&&_}
-use mathlib.Core.List.{List, [], _∷_, _++_, map, map-append, append-nil, append-assoc}
+use Prim.Native.Nat.{ℕ, _≤_, _<_}
+use mathlib.Core.Path.{_≡_, refl, sym, _∙_, ap, subst}
+use mathlib.Core.Bool.{Bool, true, false}
+use mathlib.Core.List.{List, [], _∷_, _++_, append-nil}
 use native.Mathlib.Omega.{arith}
-use lib.Dec.{T, ltb, leb, eqb, eqb→eq, eqb-refl, ltb→lt, lt→ltb}
+use lib.Dec.{T, eqb, eqb→eq}
 use lib.ListN.{length, length-append}
 use lib.Seq.{append-snoc}
-use borrow.Author.Tests.{eqb-true, eqb-false, eq-eqb, ne-eqb, leb-false, lt-leb}
+use borrow.Author.Tests.{eqb-true, eq-eqb}
 use Rattle.base.specs.Choice.{if_then_else_, _if_else_}
 use Rattle.base.specs.Lists.{every, keep, each-two}
-use Rattle.base.proofs.Tests.{T-true, true-T, T-false, by-value, both, parts, passed, rest-passed, held, every-head, every-tail, every-cons, every-weaker, every-both, every-keep, every-append}
+use Rattle.base.proofs.Tests.{true-T, by-value, every-head, every-cons, every-append}
 use Rattle.base.proofs.Counts.{keep-append}
-use Rattle.base.proofs.Sorted.{two-head, two-tail, two-cons}
 use Rattle.railway.specs.Ranges.{same-station}
-use Rattle.timetable.specs.Formats.{Outcome, accepted, refused, Placed}
+use Rattle.timetable.specs.Formats.{accepted, refused, Placed}
 use Rattle.timetable.specs.Machine.{Timetable}
 use Rattle.timetable.specs.TimetableFile.{entered}
 use Rattle.formats.specs.Types.{Station}
+use Rattle.formats.proofs.ListLaws.{every-rear, two-front}
 use Rattle.formats.proofs.WalkLaws.{clash}
 use Rattle.formats.proofs.TimetableWalks.{entries-of}
 
--- lists
-
-module _ {A : Type 0} where
-  -- the front and the rear of a list
-  pub every-front : (f : A → Bool) (xs ys : List A) → T (every f (xs ++ ys)) → T (every f xs)
-  unfolding every
-  every-front f [] ys t = tt
-  every-front f (x ∷ xs) ys t = every-cons f x xs (every-head f x (xs ++ ys) t) (every-front f xs ys (every-tail f x (xs ++ ys) t))
-
-  pub every-rear : (f : A → Bool) (xs ys : List A) → T (every f (xs ++ ys)) → T (every f ys)
-  every-rear f [] ys t = t
-  every-rear f (x ∷ xs) ys t = every-rear f xs ys (every-tail f x (xs ++ ys) t)
-
-  pub two-front : (r : A → A → Bool) (xs ys : List A) → T (each-two r (xs ++ ys)) → T (each-two r xs)
-  unfolding each-two
-  two-front r [] ys t = tt
-  two-front r (x ∷ xs) ys t = two-cons r x xs (every-front (r x) xs ys (two-head r x (xs ++ ys) t)) (two-front r xs ys (two-tail r x (xs ++ ys) t))
-
-  -- each is before the last
-  pub two-last : (r : A → A → Bool) (xs : List A) (y : A) → T (each-two r (xs ++ (y ∷ []))) → T (every (λ x. r x y) xs)
-  unfolding every
-  two-last r [] y t = tt
-  two-last r (x ∷ xs) y t =
-      every-cons (λ x. r x y) x xs (every-head (r x) y [] (every-rear (r x) xs (y ∷ []) (two-head r x (xs ++ (y ∷ [])) t)))
-      (two-last r xs y (two-tail r x (xs ++ (y ∷ [])) t))
-
-  -- what is kept passes
-  pub kept-passes : (f : A → Bool) (xs : List A) → T (every f (keep f xs))
-  unfolding every keep
-  kept-passes f [] = tt
-  kept-passes f (x ∷ xs) = go (f x) refl (kept-passes f xs)
-    where
-      go : (b : Bool) → f x ≡ b → T (every f (keep f xs)) → T (every f (if b then x ∷ keep f xs else keep f xs))
-      go true e t = every-cons f x (keep f xs) (true-T (f x) e) t
-      go false e t = t
-
 -- entering
+
+pub station-same : (s k : Station) → T (same-station s k) → s ≡ k
+station-same s k e = ap (λ (i : ℕ). record { 0 = i }) (eqb→eq (s .0) (k .0) e)
 
 -- those of a station
 abbrev pub at : {A : Type 0} → (A → Station) → Station → A → Bool
@@ -81,7 +48,7 @@ module _ {A : Type 0} (station : A → Station) where
       → length (keep (at station k) (snoc xs y)) ≤ most
   many-next xs y k most h l =
       by-value (same-station (station y) k)
-      (λ e. let q : station y ≡ k = ap (λ (i : ℕ). record { 0 = i }) (eqb-true (station y .0) (k .0) e) in
+      (λ e. let q : station y ≡ k = station-same (station y) k (true-T (same-station (station y) k) e) in
       omega (arith, ap length (keep-here xs y k e), length-append (keep (at station k) xs) (y ∷ []), subst (λ (k : Station). length (keep (at station k) xs) < most) q l))
       (λ e. rw (keep-elsewhere xs y k e) h)
 

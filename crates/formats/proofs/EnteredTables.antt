@@ -1,15 +1,15 @@
 -- Visits and relations put into a timetable in their order: a train above all others of its table goes to the end, and so does a relation. Assumes nothing.
-use Prim.Native.Nat.{ℕ, zero, suc, _+_, _≤_, _<_}
-use mathlib.Core.Path.{_≡_, refl, sym, _∙_, ap, ap₂, subst, fun-ext}
-use mathlib.Core.Bool.{Bool, true, false, not, _&&_, _||_}
-use mathlib.Core.List.{List, [], _∷_, _++_, map, map-append, append-nil}
+use Prim.Native.Nat.{ℕ, _<_}
+use mathlib.Core.Path.{_≡_, refl, sym, _∙_, ap, subst, fun-ext}
+use mathlib.Core.Bool.{Bool, false, not, _&&_}
+use mathlib.Core.List.{List, [], _∷_, map, map-append}
 use native.Mathlib.Omega.{arith}
-use lib.Dec.{T, ltb, leb, eqb, eqb-refl, ltb→lt, lt→ltb}
+use lib.Dec.{T, ltb, leb, eqb-refl, ltb→lt, lt→ltb}
 use lib.ListN.{length, length-map}
 use borrow.Author.Tests.{eqb-true, le-ltb, leb-false, lt-leb}
-use Rattle.base.specs.Choice.{if_then_else_, _if_else_}
-use Rattle.base.specs.Lists.{every, keep, each-two, below, same}
-use Rattle.base.proofs.Tests.{T-true, true-T, T-false, by-value, both, parts, passed, rest-passed, held, eqb-turned, every-head, every-tail, every-weaker, every-both, every-keep, every-mapped}
+use Rattle.base.specs.Choice.{_if_else_}
+use Rattle.base.specs.Lists.{every, keep, below, same}
+use Rattle.base.proofs.Tests.{T-true, true-T, T-false, by-value, parts, passed, rest-passed, held, eqb-turned, every-head, every-tail, every-mapped}
 use Rattle.base.proofs.Sorted.{below-cases, below-itself, below-trans, same-equal}
 use Rattle.railway.specs.Ranges.{same-station}
 use Rattle.railway.specs.Relations.{key, precedes, same-relation}
@@ -20,8 +20,9 @@ use Rattle.timetable.specs.Good.{links-good}
 use Rattle.timetable.specs.TimetableFile.{StationVisit, visit-refusal, relation-refusal, enter-visit, enter-relation}
 use Rattle.timetable.proofs.TableLaws.{number}
 use Rattle.formats.specs.Types.{Station, Relation, StationRelation, Network}
+use Rattle.formats.proofs.ListLaws.{two-last, kept-both}
 use Rattle.formats.proofs.OrderLaws.{before, visit-key, relation-key}
-use Rattle.formats.proofs.EnterLaws.{two-last, kept-passes, at, snoc, keep-here, keep-elsewhere, Entering}
+use Rattle.formats.proofs.EnterLaws.{station-same, at, snoc, keep-here, keep-elsewhere, Entering}
 
 -- at the end of a table's lists
 
@@ -43,17 +44,12 @@ insert-last r (x ∷ xs) t =
     )
     (ap (λ (l : List Relation). x ∷ l) (insert-last r xs (every-tail (λ x. precedes x r) x xs t)))
 
--- stations
-
-station-same : (s k : Station) → same-station s k ≡ true → s ≡ k
-station-same s k e = ap (λ (i : ℕ). record { 0 = i }) (eqb-true (s .0) (k .0) e)
-
 -- a table put at one station, elsewhere what was there
 put-made : (s : Station) (tab : Table) (m made : Timetable) → tab ≡ made s → ((k : Station) → same-station s k ≡ false → m k ≡ made k) → put s tab m ≡ made
 unfolding put
 put-made s tab m made here there =
     fun-ext (λ k. by-value (same-station k s)
-    (λ e. rw e (here ∙ ap made (sym (station-same k s e))))
+    (λ e. rw e (here ∙ ap made (sym (station-same k s (true-T (same-station k s) e)))))
     (λ e. rw e (there k (eqb-turned (s .0) (k .0) ∙ e))))
 
 -- not refused: known, and there is room
@@ -92,8 +88,7 @@ trains-below xs y t =
     (λ h. absurd (omega (arith, eqb-true (x .station .0) (y .station .0) (T-true (at visit-station (y .station) x) (search parts)))))
     (λ e v. below-cases (x .train .0) (y .train .0) [] [] v (λ h. lt→ltb (x .train .0) (y .train .0) h) (λ e w. absurd w)))
     (keep (at visit-station (y .station)) xs)
-    (every-both (at visit-station (y .station)) (λ x. before visit-key x y) (keep (at visit-station (y .station)) xs)
-    (kept-passes (at visit-station (y .station)) xs) (every-keep (λ x. before visit-key x y) (at visit-station (y .station)) xs t))
+    (kept-both (at visit-station (y .station)) (λ x. before visit-key x y) xs t)
 
 pub visits-entering : (n : Network) → Entering visit-station (before visit-key) (visit-refusal n) enter-visit with-visits (visit-known n) 24
 unfolding with-visits visit-refusal full-visits enter-visit add-visit
@@ -137,8 +132,7 @@ relations-below xs y t =
     (λ h. absurd (omega (arith, eqb-true (x .station .0) (y .station .0) (T-true (at relation-station (y .station) x) (search parts)))))
     (λ e v. v))
     (keep (at relation-station (y .station)) xs)
-    (every-both (at relation-station (y .station)) (λ x. before relation-key x y) (keep (at relation-station (y .station)) xs)
-    (kept-passes (at relation-station (y .station)) xs) (every-keep (λ x. before relation-key x y) (at relation-station (y .station)) xs t))
+    (kept-both (at relation-station (y .station)) (λ x. before relation-key x y) xs t)
 
 pub relations-entering : (n : Network) (m : Timetable)
     → Entering relation-station (before relation-key) (relation-refusal n) enter-relation (with-relations m) (relation-known n) 6

@@ -1,3 +1,5 @@
+pub mod ListLaws
+pub mod Walks
 pub mod WalkLaws
 pub mod RowLaws
 pub mod RelationWalks

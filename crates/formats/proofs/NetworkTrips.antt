@@ -1,33 +1,32 @@
 -- Networks and the input of `shift` read back, and only the written file reads to them. A network whose unused rows are blank is that of its rows in use; the rows
 -- that walk the format are those of a good network once every line joins two listed stations. Assumes nothing.
-use Prim.Native.Nat.{ℕ, zero, suc, _+_, _-_, _≤_, _<_}
+use Prim.Native.Nat.{ℕ, _+_, _-_, _≤_}
 use mathlib.Core.Path.{_≡_, refl, sym, _∙_, ap, ap₂, subst}
-use mathlib.Core.Bool.{Bool, true, false, false≢true, not, _&&_}
-use mathlib.Core.List.{List, [], _∷_, _++_, map, flatMap}
+use mathlib.Core.List.{List, _∷_, _++_, map, flatMap}
 use mathlib.Core.Option.{Option, none, some}
 use native.Mathlib.Omega.{arith}
-use lib.Dec.{T, ltb, leb, leb→le, le→leb, ltb→lt, lt→ltb}
+use lib.Dec.{T, ltb, leb→le, lt→ltb}
 use lib.ListN.{length, replicate}
 use lib.Seq.{take-append-seam}
-use Rattle.base.specs.Choice.{if_then_else_, _if_else_}
-use Rattle.base.specs.Lists.{every, first, each-two, rising, within}
-use Rattle.base.proofs.Tests.{T-true, true-T, and-l, and-r, both, parts, every-head, every-tail, every-cons, every-weaker, every-map}
+use Rattle.base.specs.Lists.{every, first, rising}
+use Rattle.base.proofs.Tests.{T-true, both, parts, every-weaker, every-map}
 use Rattle.base.proofs.Sorted.{smaller, rising-map, two-map}
 use Rattle.numbers.specs.Numbers.{width}
 use Rattle.railway.specs.Edits.{edit-ok}
 use Rattle.railway.specs.Networks.{station-rows, line-rows, stations-of, station-row-ok, line-row-ok, stations-rise, lines-rise, stations-in-range, lines-in-range}
 use Rattle.railway.specs.Networks.{network-in-range, ends-listed, lines-joined, network-refusal}
 use Rattle.railway.proofs.NetworkLaws.{NetworkFacts, network-facts}
-use Rattle.timetable.specs.Formats.{Outcome, accepted, refused, behind, _and-then_, done, read-file, bytes-of, Placed}
+use Rattle.timetable.specs.Formats.{Outcome, accepted, behind, _and-then_, done, read-file, bytes-of, Placed}
 use Rattle.timetable.specs.NetworkFile.{station-numbers, line-numbers, Listed, network-format, blank-station, blank-line, network-with, network-of, unjoined, unless-unjoined}
 use Rattle.timetable.specs.NetworkFile.{read-network, network-numbers}
 use Rattle.timetable.specs.EditsFile.{edits-format, edits-numbers, Shift, Input, shift-format, read-shift}
 use Rattle.formats.specs.Types.{Edit, StationRow, LineRow, Network}
-use Rattle.formats.specs.Walks.{InRange, walks}
+use Rattle.formats.proofs.Walks.{walks}
 use Rattle.formats.specs.RoundTrips.{UnusedBlank, NetworkRead, NetworkRoundTrip, ShiftRead, ShiftRoundTrip}
-use Rattle.formats.proofs.WalkLaws.{clash, span, span-append, walks-then, then-walks, walks-made, made-walks, file-read, file-walks}
+use Rattle.formats.proofs.ListLaws.{first-none, none-first}
+use Rattle.formats.proofs.WalkLaws.{clash, behind-taken, span, walks-then, then-walks, walks-made, made-walks, file-read, file-walks}
 use Rattle.formats.proofs.RowLaws.{in-test, test-in, most-test, test-most, values-entries}
-use Rattle.formats.proofs.NetworkWalks.{station-number, line-number, StationsRise, LinesRise, line-places, rows-of, rows-numbers, RowsIn, lines-at, walks-network, network-walks}
+use Rattle.formats.proofs.NetworkWalks.{station-number, line-number, line-places, rows-of, rows-numbers, RowsIn, lines-at, walks-network, network-walks}
 use Rattle.formats.proofs.EditTrips.{walks-edits-format, edits-format-walks}
 
 -- the rows of a network made of rows
@@ -60,22 +59,6 @@ module _ (ss : List StationRow) (h : ℕ) (ls : List LineRow) where
       let l₂ : T (every line-row-ok (line-rows (network-with ss h ls))) = rw rows-lines (r .lines .good) in
       let l₃ : T (rising (map (λ r. r .line .0) (line-rows (network-with ss h ls)))) = rw (rows-lines, rising-map line-number ls) (r .lines .order) in
       search both
-
--- no line is refused
-
-first-none : {A : Type 0} (f : A → Bool) (xs : List A) → first (λ x. not (f x)) xs ≡ none → T (every f xs)
-unfolding first every
-first-none f [] e = tt
-first-none f (x ∷ xs) e = go (f x) e (first-none f xs)
-  where
-    go : (b : Bool) → (if not b then some x else first (λ x. not (f x)) xs) ≡ none → (first (λ x. not (f x)) xs ≡ none → T (every f xs)) → T (b && every f xs)
-    go true e ih = ih e
-    go false e ih = let z : _≡_ {A = ℕ} 0 1 = cc in absurd (omega arith)
-
-none-first : {A : Type 0} (f : A → Bool) (xs : List A) → T (every f xs) → first (λ x. not (f x)) xs ≡ none
-unfolding first every
-none-first f [] t = refl
-none-first f (x ∷ xs) t = rw (T-true (f x) (every-head f x xs t)) (none-first f xs (every-tail f x xs t))
 
 -- a listing whose lines are joined is a good network's
 
@@ -161,13 +144,6 @@ module _ (n : Network) (g : network-refusal n ≡ 0) (u : UnusedBlank n) where
   walks-listing p = rw rows-written (walks-network p (station-rows n) (n .headway) (line-rows n) rows-in)
 
 -- the network file
-
--- behind an accepted outcome, and only there
-pub behind-taken : {A B : Type 0} (o : Outcome A) (f : A → ℕ → Outcome B) (b : B) (next : ℕ) → behind o f ≡ accepted b next
-    → (a : A) × (p : ℕ) × (o ≡ accepted a p) × (f a p ≡ accepted b next)
-unfolding behind
-behind-taken (accepted a p) f b next e = (a, p, refl, e)
-behind-taken (refused k p) f b next e = clash b next k p e
 
 unless-taken : {A : Type 0} (l : Option (Placed LineRow)) (a b : A) (p next : ℕ) → unless-unjoined l (accepted a p) ≡ accepted b next → (l ≡ none) × (a ≡ b) × (p ≡ next)
 unfolding unless-unjoined

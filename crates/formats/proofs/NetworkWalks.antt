@@ -1,25 +1,25 @@
 -- The network's format, walked: its numbers are the counts, the rows of stations and lines and the headway, each in range, the rows rising by their number. Rows rise
 -- if each is above the one before it. Assumes nothing.
-use Prim.Native.Nat.{ℕ, zero, suc, _+_, _≤_, _<_}
+use Prim.Native.Nat.{ℕ, _+_, _<_}
 use mathlib.Core.Path.{_≡_, refl, sym, _∙_, ap, ap₂, subst}
-use mathlib.Core.Bool.{Bool, true, false, not, _&&_}
+use mathlib.Core.Bool.{Bool}
 use mathlib.Core.List.{List, [], _∷_, _++_, map, flatMap}
 use native.Mathlib.Omega.{arith}
-use lib.Dec.{T, ltb, leb, leb→le, le→leb, ltb→lt, lt→ltb}
+use lib.Dec.{T, ltb, ltb→lt, lt→ltb}
 use lib.ListN.{length, getD, length-map}
 use Rattle.base.specs.Lists.{every, each-two, within}
-use Rattle.base.proofs.Tests.{and-l, and-r, both, parts, every-head, every-tail, every-cons, every-weaker}
-use Rattle.base.proofs.Sorted.{smaller, smaller-across, two-head, two-tail, two-cons}
+use Rattle.base.proofs.Tests.{both, parts, every-head, every-tail, every-cons, every-weaker}
+use Rattle.base.proofs.Sorted.{smaller, two-head, two-tail, two-cons}
 use Rattle.numbers.specs.Numbers.{width}
 use Rattle.railway.specs.Networks.{station-row-ok, line-row-ok}
-use Rattle.timetable.specs.Formats.{Format, done, field, _and-then_, Range, _to_, least, bar-after, row, entries, Placed, placed}
+use Rattle.timetable.specs.Formats.{least, bar-after, Placed}
 use Rattle.timetable.specs.NetworkFile.{station-ranges, station-of, station-numbers, station-entry, line-ranges, line-of, line-numbers, line-fields, line-entry}
 use Rattle.timetable.specs.NetworkFile.{Listed, station-bar, line-bar, stations-format, lines-format, lines-part, headway-part, network-format}
 use Rattle.formats.specs.Types.{StationRow, LineRow}
-use Rattle.formats.specs.Walks.{InRange, walks}
-use Rattle.formats.proofs.WalkLaws.{span, walks-at, walks-then, then-walks, walks-made, made-walks}
-use Rattle.formats.proofs.RowLaws.{Over, over-none, in-test, test-in, most-test, test-most, RowIn, by-index, row-exact, row-at, Fields, walks-fields, fields-walk}
-use Rattle.formats.proofs.RowLaws.{Chain, values, values-entries, Entry, walks-plain, plain-walks, put, taken, walks-places, places-walk}
+use Rattle.formats.proofs.Walks.{InRange, walks}
+use Rattle.formats.proofs.WalkLaws.{span, walks-then, then-walks, walks-made, made-walks}
+use Rattle.formats.proofs.RowLaws.{Over, over-none, in-test, test-in, RowIn, by-index, row-exact, row-at, Fields, walks-fields, fields-walk}
+use Rattle.formats.proofs.RowLaws.{Chain, values, Entry, walks-plain, plain-walks, walks-places, places-walk}
 
 -- rows that rise by their first number
 
@@ -67,10 +67,6 @@ module _ {A : Type 0} (number : A → ℕ) (more : A → List ℕ) (ok : A → B
 
 -- stations and lines
 
--- where there is no range
-none : Range
-none = 0 to 0
-
 abbrev pub station-number : StationRow → ℕ
 station-number r = r .station .0
 
@@ -83,9 +79,9 @@ station-fields = record { written = row-exact station-ranges; good = good; back 
   where
     good : (ns : List ℕ) → RowIn station-ranges ns → T (station-row-ok (station-of ns))
     good ns i =
-        let t₁ = in-test 1 16 (getD ns 0 0) (row-at station-ranges ns i 0 none (omega arith)) in
-        let t₂ = in-test 1 6 (getD ns 1 0) (row-at station-ranges ns i 1 none (omega arith)) in
-        let t₃ = in-test 1 8 (getD ns 2 0) (row-at station-ranges ns i 2 none (omega arith)) in
+        let t₁ = in-test 1 16 (getD ns 0 0) (row-at station-ranges ns i 0 (omega arith)) in
+        let t₂ = in-test 1 6 (getD ns 1 0) (row-at station-ranges ns i 1 (omega arith)) in
+        let t₃ = in-test 1 8 (getD ns 2 0) (row-at station-ranges ns i 2 (omega arith)) in
         search both
 
     fits : (x : StationRow) → T (station-row-ok x) → RowIn station-ranges (station-numbers x)
@@ -109,12 +105,12 @@ line-row-fields = record { written = row-exact line-ranges; good = good; back = 
   where
     good : (ns : List ℕ) → RowIn line-ranges ns → T (line-row-ok (line-of ns))
     good ns i =
-        let t₁ = in-test 1 32 (getD ns 0 0) (row-at line-ranges ns i 0 none (omega arith)) in
-        let t₂ = in-test 1 16 (getD ns 1 0) (row-at line-ranges ns i 1 none (omega arith)) in
-        let t₃ = in-test 1 16 (getD ns 2 0) (row-at line-ranges ns i 2 none (omega arith)) in
-        let t₄ = in-test 1 3 (getD ns 3 0) (row-at line-ranges ns i 3 none (omega arith)) in
-        let t₅ = in-test 1 240 (getD ns 4 0) (row-at line-ranges ns i 4 none (omega arith)) in
-        let t₆ = in-test 1 9 (getD ns 5 0) (row-at line-ranges ns i 5 none (omega arith)) in
+        let t₁ = in-test 1 32 (getD ns 0 0) (row-at line-ranges ns i 0 (omega arith)) in
+        let t₂ = in-test 1 16 (getD ns 1 0) (row-at line-ranges ns i 1 (omega arith)) in
+        let t₃ = in-test 1 16 (getD ns 2 0) (row-at line-ranges ns i 2 (omega arith)) in
+        let t₄ = in-test 1 3 (getD ns 3 0) (row-at line-ranges ns i 3 (omega arith)) in
+        let t₅ = in-test 1 240 (getD ns 4 0) (row-at line-ranges ns i 4 (omega arith)) in
+        let t₆ = in-test 1 9 (getD ns 5 0) (row-at line-ranges ns i 5 (omega arith)) in
         search both
 
     fits : (x : LineRow) → T (line-row-ok x) → RowIn line-ranges (line-numbers x)

@@ -1,12 +1,12 @@
 -- Entries rise if each is above the bar that the one before it sets. Above a bar is below the other way round, number by number; a relation's numbers are its key
 -- without the places not used, and as the count stands before the trains, both order alike. Assumes nothing.
-use Prim.Native.Nat.{ℕ, zero, suc, _+_, _-_, _≤_, _<_}
-use mathlib.Core.Path.{_≡_, refl, sym, _∙_, ap, ap₂, subst}
-use mathlib.Core.Bool.{Bool, true, false, not, _&&_, _||_}
-use mathlib.Core.List.{List, [], _∷_, _++_, map, append-nil}
+use Prim.Native.Nat.{ℕ, _≤_}
+use mathlib.Core.Path.{_≡_, refl, sym, ap, subst}
+use mathlib.Core.Bool.{Bool, true, false, _&&_, _||_}
+use mathlib.Core.List.{List, [], _∷_, _++_, append-nil}
 use native.Mathlib.Omega.{arith}
 use lib.Dec.{T, ltb, eqb}
-use lib.ListN.{length, replicate}
+use lib.ListN.{length}
 use borrow.Author.Tests.{eqb-true, eqb-false, eq-eqb, ne-eqb}
 use Rattle.base.specs.Choice.{if_then_else_}
 use Rattle.base.specs.Lists.{every, each-two, below}
@@ -15,11 +15,11 @@ use Rattle.base.proofs.Sorted.{two-head, two-tail, two-step, below-smaller, bel
 use Rattle.railway.specs.Relations.{relation-ok, key}
 use Rattle.railway.specs.Edits.{station-relation-ok}
 use Rattle.timetable.specs.Formats.{least, bar-after}
-use Rattle.timetable.specs.EditsFile.{relation-numbers, station-relation-numbers}
-use Rattle.timetable.specs.TimetableFile.{StationVisit, visit-numbers}
-use Rattle.formats.specs.Types.{Relation, StationRelation}
+use Rattle.timetable.specs.EditsFile.{station-relation-numbers}
+use Rattle.timetable.specs.TimetableFile.{StationVisit}
+use Rattle.formats.specs.Types.{StationRelation}
 use Rattle.formats.proofs.RowLaws.{Over, over-none, Chain}
-use Rattle.formats.proofs.RelationWalks.{Made, relation-numbered, unused, StationRelationFits}
+use Rattle.formats.proofs.RelationWalks.{relation-numbered, unused, StationRelationFits}
 use Rattle.formats.proofs.VisitWalks.{visit-row, visit-ok, VisitFits}
 
 -- one number of the bar, and then the next

@@ -1,34 +1,33 @@
 -- Visits and relations in range, rising, known and within the limits make a whole timetable, and are those that it is written with. Assumes nothing.
-use Prim.Native.Nat.{ℕ, zero, suc, _+_, _≤_, _<_}
 use mathlib.Core.Path.{_≡_, refl, sym, _∙_, ap, ap₂, subst, fun-ext}
-use mathlib.Core.Bool.{Bool, true, false, not, _&&_, _||_}
-use mathlib.Core.List.{List, [], _∷_, _++_, map, flatMap}
+use mathlib.Core.Bool.{true, not, _&&_}
+use mathlib.Core.List.{List, [], _∷_, map, flatMap}
 use mathlib.Core.Option.{Option, none, some}
 use native.Mathlib.Omega.{arith}
-use lib.Dec.{T, ltb, leb, eqb, not-T, eqb→eq, eqb-refl, ltb→lt, lt→ltb}
-use lib.ListN.{length, length-map}
-use Rattle.base.specs.Lists.{any, every, keep, is, each-two, below}
-use Rattle.base.proofs.Tests.{T-true, true-T, T-false, not-T-false, and-l, and-r, both, parts, every-head, every-tail, every-weaker, every-both, every-keep, every-mapped}
+use lib.Dec.{T, leb, not-T, eqb→eq, lt→ltb}
+use lib.ListN.{length-map}
+use Rattle.base.specs.Lists.{every, keep, is, below}
+use Rattle.base.proofs.Tests.{not-T-false, and-l, and-r, both, parts, every-head, every-tail, every-weaker, every-both, every-keep, every-mapped}
 use Rattle.base.proofs.Counts.{keep-none}
 use Rattle.base.proofs.Sorted.{smaller, two-map, two-weaker, two-keep, below-cases}
-use Rattle.railway.specs.Ranges.{station-ok, train-ok, track-ok, minute-ok, same-station}
+use Rattle.railway.specs.Ranges.{train-ok, track-ok, minute-ok}
 use Rattle.railway.specs.Relations.{relation-ok, key, precedes}
 use Rattle.railway.specs.Edits.{station-relation-ok}
 use Rattle.railway.specs.Networks.{stations-of, station-row, listed, track-known, network-refusal}
-use Rattle.railway.proofs.NetworkLaws.{NetworkFacts, network-facts}
+use Rattle.railway.proofs.NetworkLaws.{network-facts}
 use Rattle.railway.proofs.RowLaws.{listed-found}
-use Rattle.timetable.specs.Tables.{Entry, Table, empty}
-use Rattle.timetable.specs.Machine.{Timetable}
+use Rattle.timetable.specs.Tables.{Entry, empty}
 use Rattle.timetable.specs.Good.{Whole, links-good, values-good, visit-good, entry-good}
 use Rattle.timetable.specs.TimetableFile.{StationVisit, visits-at, relations-at}
-use Rattle.timetable.proofs.TableLaws.{number, GoodVisits, GoodRelations, GoodTable, table-fits}
+use Rattle.timetable.proofs.TableLaws.{number, GoodVisits, GoodRelations, table-fits}
 use Rattle.formats.specs.Types.{Station, Track, Relation, StationRelation, StationRow, Network}
+use Rattle.formats.proofs.ListLaws.{kept-passes, kept-both}
 use Rattle.formats.proofs.VisitWalks.{visit-ok}
 use Rattle.formats.proofs.OrderLaws.{before, visit-key, relation-key}
 use Rattle.formats.proofs.TimetableWalks.{VisitsIn, RelationsIn}
-use Rattle.formats.proofs.EnterLaws.{at, kept-passes, Clear}
+use Rattle.formats.proofs.EnterLaws.{station-same, at, Clear}
 use Rattle.formats.proofs.EnteredTables.{visit-station, to-entry, with-visits, visit-known, visits-entering, relation-station, to-relation, with-relations, relation-known, relations-entering}
-use Rattle.formats.proofs.StationLists.{flatMap-same, regathered}
+use Rattle.formats.proofs.StationLists.{regathered}
 
 -- a station whose track is known is listed
 pub track-listed : (n : Network) (s : Station) (t : Track) → T (track-known n s t) → T (listed n s)
@@ -38,13 +37,6 @@ track-listed n s t u = subst T (sym (listed-found n s)) (go (station-row n s) u)
     go : (o : Option StationRow) → T (is (λ r. leb (t .0) (r .tracks)) o) → T (is (λ (r : StationRow). true) o)
     go none u = u
     go (some r) u = tt
-
-station-same : (s k : Station) → T (same-station s k) → s ≡ k
-station-same s k e = ap (λ (i : ℕ). record { 0 = i }) (eqb→eq (s .0) (k .0) e)
-
--- what a station keeps, all of which passes a test
-kept-both : {A : Type 0} (f p : A → Bool) (xs : List A) → T (every p xs) → T (every (λ x. f x && p x) (keep f xs))
-kept-both f p xs t = every-both f p (keep f xs) (kept-passes f xs) (every-keep p f xs t)
 
 -- a station that is not listed keeps nothing
 unlisted-none : {A : Type 0} (station : A → Station) (n : Network) (xs : List A) → T (every (λ x. listed n (station x)) xs) → (k : Station) → T (not (listed n k))

@@ -1,28 +1,28 @@
 -- A relation's entry, walked: its numbers are those that the relation is written with, it is in range, and it is above the bar; and such a relation walks it.
 -- The trains as numbers by induction; the four places of a group by how many are in use. Assumes nothing.
-use Prim.Native.Nat.{ℕ, zero, suc, _+_, _-_, _≤_, _<_}
+use Prim.Native.Nat.{ℕ, zero, suc, _+_, _-_, _≤_}
 use mathlib.Core.Path.{_≡_, refl, sym, _∙_, ap, ap₂, subst}
 use mathlib.Core.Bool.{Bool, true, false, not, _&&_}
 use mathlib.Core.List.{List, [], _∷_, _++_, map}
-use mathlib.Core.Logic.{_⊎_, inl, inr}
+use mathlib.Core.Logic.{inl, inr}
 use native.Mathlib.Omega.{arith}
-use lib.Dec.{T, leb, eqb, leb→le, le→leb}
+use lib.Dec.{T, eqb}
 use lib.ListN.{length, getD, replicate, length-map}
 use Rattle.base.specs.Choice.{if_then_else_, _if_else_}
 use Rattle.base.specs.Lists.{within}
 use Rattle.base.proofs.Tests.{and-l, and-r, both, parts}
 use Rattle.numbers.specs.Numbers.{width}
-use Rattle.railway.specs.Ranges.{train-ok, interval-ok}
+use Rattle.railway.specs.Ranges.{interval-ok}
 use Rattle.railway.specs.Relations.{used, trains-ok, pair-ok, relation-ok, group-key, key}
 use Rattle.railway.specs.Edits.{station-relation-ok}
 use Rattle.timetable.specs.Tables.{packed}
-use Rattle.timetable.specs.Formats.{Format, done, field, _and-then_, least, bar-after, compared}
+use Rattle.timetable.specs.Formats.{least, bar-after, compared}
 use Rattle.timetable.specs.EditsFile.{trains-format, pair-of, group-of, relation-of, most-trains, relation-entry, group-numbers, relation-numbers}
 use Rattle.timetable.specs.EditsFile.{station-relation-entry, station-relation-numbers}
-use Rattle.timetable.proofs.TableLaws.{Further, Places, places, places-fit, used-two, used-three, used-four, train-low, train-high, train-fits}
-use Rattle.formats.specs.Types.{Station, Train, Trains, Pair, Relation, Connection, Disconnection, Dependency, StationRelation}
-use Rattle.formats.specs.Walks.{InRange, walks}
-use Rattle.formats.proofs.WalkLaws.{span, walks-at, walks-then, then-walks, walks-made, made-walks}
+use Rattle.timetable.proofs.TableLaws.{Further, Places, places, places-fit, used-two, used-three, used-four}
+use Rattle.formats.specs.Types.{Train, Trains, Relation, Connection, Disconnection, Dependency, StationRelation}
+use Rattle.formats.proofs.Walks.{InRange, walks}
+use Rattle.formats.proofs.WalkLaws.{walks-made, made-walks}
 use Rattle.formats.proofs.RowLaws.{Over, raised, raise, in-test, test-in, most-test, test-most}
 
 -- trains as numbers, each in range, rising where they must

@@ -1,20 +1,19 @@
 -- Rows of numbers and lists of entries, walked: a row gives its own numbers back, each in its range and all above the bar; entries are those of each entry in turn,
 -- each behind the bar that the one before sets. By induction on the ranges, and on the entries. Assumes nothing.
-use Prim.Native.Nat.{ℕ, zero, suc, _+_, _-_, _≤_, _<_, max}
+use Prim.Native.Nat.{ℕ, zero, suc, _+_, _≤_, _<_, max}
 use mathlib.Core.Path.{_≡_, refl, sym, _∙_, ap, ap₂, subst}
-use mathlib.Core.Bool.{Bool, true, false, _&&_}
-use mathlib.Core.List.{List, [], _∷_, _++_, map, flatMap, append-nil, append-assoc}
+use mathlib.Core.Bool.{Bool}
+use mathlib.Core.List.{List, [], _∷_, _++_, map, flatMap, map-id}
 use native.Mathlib.Omega.{arith}
-use lib.Dec.{T, leb, eqb, leb→le, le→leb}
+use lib.Dec.{T, leb, leb→le, le→leb}
 use lib.ListN.{length, getD, drop}
 use lib.Seq.{drop-drop, getD-drop}
-use Rattle.base.specs.Choice.{if_then_else_}
 use Rattle.base.specs.Lists.{within}
 use Rattle.base.proofs.Tests.{and-l, and-r, both}
 use Rattle.numbers.specs.Numbers.{width}
-use Rattle.timetable.specs.Formats.{Format, done, field, here, _and-then_, Range, _to_, least, bar-after, compared, row, entries, Placed, placed}
-use Rattle.formats.specs.Walks.{InRange, walks}
-use Rattle.formats.proofs.WalkLaws.{span, walks-at, walks-then, then-walks, walks-made, made-walks}
+use Rattle.timetable.specs.Formats.{Format, done, _and-then_, Range, _to_, least, bar-after, compared, row, entries, Placed, placed}
+use Rattle.formats.proofs.Walks.{InRange, walks}
+use Rattle.formats.proofs.WalkLaws.{span, walks-then, then-walks, walks-made, made-walks}
 
 -- ranges as tests
 
@@ -107,12 +106,16 @@ row-exact rs ns i = go rs 0 ns ns refl i
         let tail : drop (j + 1) all ≡ ns = sym (drop-drop 1 j all) ∙ ap (drop 1) e in
         ap₂ (λ (m : ℕ) (l : List ℕ). m ∷ l) (sym head) (go rs (j + 1) all ns tail i)
 
-pub row-at : (rs : List Range) (ns : List ℕ) → RowIn rs ns → (i : ℕ) (d : Range) → i < length rs → InRange (getD rs i d .lo) (getD rs i d .hi) (getD ns i 0)
+-- where there is no range
+abbrev pub no-range : Range
+no-range = 0 to 0
+
+pub row-at : (rs : List Range) (ns : List ℕ) → RowIn rs ns → (i : ℕ) → i < length rs → InRange (getD rs i no-range .lo) (getD rs i no-range .hi) (getD ns i 0)
 unfolding RowIn
-row-at [] ns x i d h = absurd (omega arith)
-row-at (r ∷ rs) [] x i d h = absurd x
-row-at (r ∷ rs) (n ∷ ns) (x, y) zero d h = x
-row-at (r ∷ rs) (n ∷ ns) (x, y) (suc i) d h = row-at rs ns y i d (omega arith)
+row-at [] ns x i h = absurd (omega arith)
+row-at (r ∷ rs) [] x i h = absurd x
+row-at (r ∷ rs) (n ∷ ns) (x, y) zero h = x
+row-at (r ∷ rs) (n ∷ ns) (x, y) (suc i) h = row-at rs ns y i (omega arith)
 
 -- values of a row: numbers in the ranges make a value in range, which is written with them; and a value in range is written with such numbers
 pub record Fields {A : Type 0} (ranges : List Range) (make : List ℕ → A) (numbers : A → List ℕ) (ok : A → Bool) : Type 0 where
@@ -205,10 +208,6 @@ module _ {A : Type 0} (numbers : A → List ℕ) where
   values-entries p [] = refl
   values-entries p (x ∷ xs) = ap (λ (l : List A). x ∷ l) (values-entries (p + span (numbers x)) xs)
 
-pub map-same : {A : Type 0} (xs : List A) → map (λ x. x) xs ≡ xs
-map-same [] = refl
-map-same (x ∷ xs) = ap (λ (l : List _). x ∷ l) (map-same xs)
-
 -- what a kind of entry is: those that fit behind the bar walk it with their numbers, and no other numbers do
 pub record Entry {A : Type 0} (entry : List ℕ → Format A) (numbers : A → List ℕ) (Fits : List ℕ → A → Type 0) : Type 0 where
   pub walk : (bar : List ℕ) (p : ℕ) (x : A) → Fits bar x → walks (entry bar) p (numbers x) x
@@ -224,7 +223,7 @@ module _ {A : Type 0} (entry : List ℕ → Format A) (numbers : A → List ℕ)
       → (ns ≡ flatMap numbers xs) × Chain bar-by Fits bar xs × (length xs ≡ k)
   plain-walks k bar p ns xs w =
       let (x, c, l) = entries-walk entry bar-by numbers bar-by Fits (λ x. x) (λ x. refl) (law .back) k bar p ns xs w in
-      (x ∙ ap (flatMap numbers) (map-same xs), subst (Chain bar-by Fits bar) (map-same xs) c, l)
+      (x ∙ ap (flatMap numbers) (map-id xs), subst (Chain bar-by Fits bar) (map-id xs) c, l)
 
   -- the same with places
   abbrev pub placed-by : Placed A → List ℕ

@@ -1,58 +1,23 @@
 -- Lists of what belongs to stations, over stations that rise: gathered station by station they rise, and each station keeps its own; and a list that rises is
 -- gathered from what its stations keep. By induction on the stations. Assumes nothing.
-use Prim.Native.Nat.{ℕ, zero, suc, _+_, _*_, _≤_, _<_}
+use Prim.Native.Nat.{ℕ, _≤_, _<_}
 use mathlib.Core.Path.{_≡_, refl, sym, _∙_, ap, ap₂, subst}
-use mathlib.Core.Bool.{Bool, true, false, not, _&&_, _||_}
-use mathlib.Core.List.{List, [], _∷_, _++_, map, flatMap, append-nil}
+use mathlib.Core.Bool.{Bool, true, false, not, _&&_}
+use mathlib.Core.List.{List, [], _∷_, _++_, flatMap, append-nil}
 use native.Mathlib.Omega.{arith}
-use lib.Dec.{T, ltb, leb, eqb, not-T, leb→le, le→leb, eqb→eq, eqb-refl, ltb→lt, lt→ltb}
-use lib.ListN.{length, length-append}
-use borrow.Author.Tests.{eqb-true, eqb-false, eq-eqb, ne-eqb, lt-ltb, le-ltb, ltb-true, ltb-false}
+use lib.Dec.{T, ltb, leb, eqb, not-T, leb→le, le→leb, eqb→eq, ltb→lt, lt→ltb}
+use borrow.Author.Tests.{eqb-true, eqb-false, ltb-true, ltb-false}
 use Rattle.base.specs.Choice.{if_then_else_}
-use Rattle.base.specs.Lists.{any, every, keep, each-two, below}
-use Rattle.base.proofs.Tests.{T-true, true-T, T-false, not-T-false, by-value, and-l, and-r, both, parts, or-l, or-r, or-cases, every-head, every-tail, every-cons, every-weaker, every-both, every-keep, every-flatMap, every-true}
+use Rattle.base.specs.Lists.{any, every, keep, each-two}
+use Rattle.base.proofs.Tests.{true-T, not-T-false, by-value, and-l, and-r, or-cases, every-head, every-tail, every-weaker, every-flatMap}
 use Rattle.base.proofs.Counts.{keep-append, keep-none, keep-every}
-use Rattle.base.proofs.Sorted.{smaller, two-head, two-tail, two-cons, two-keep, two-append, below-smaller, below-cases}
+use Rattle.base.proofs.Sorted.{smaller, two-head, two-tail, two-keep, two-append, below-smaller, below-cases}
 use Rattle.railway.specs.Ranges.{same-station}
 use Rattle.railway.proofs.NetworkLaws.{station-number}
 use Rattle.formats.specs.Types.{Station}
+use Rattle.formats.proofs.ListLaws.{kept-both, keep-keep, flatMap-same, none-any}
 use Rattle.formats.proofs.OrderLaws.{before}
-use Rattle.formats.proofs.EnterLaws.{kept-passes, at}
-
--- what is kept of what is kept, where the one test is within the other
-pub keep-keep : {A : Type 0} (p q : A → Bool) → ((x : A) → T (p x) → T (q x)) → (xs : List A) → keep p (keep q xs) ≡ keep p xs
-unfolding keep
-keep-keep p q h [] = refl
-keep-keep p q h (x ∷ xs) = go (q x) refl (p x) refl (keep-keep p q h xs)
-  where
-    go : (b : Bool) → q x ≡ b → (c : Bool) → p x ≡ c → keep p (keep q xs) ≡ keep p xs
-        → keep p (if b then x ∷ keep q xs else keep q xs) ≡ (if c then x ∷ keep p xs else keep p xs)
-    go true e true f ih = rw f (ap (λ (l : List _). x ∷ l) ih)
-    go true e false f ih = rw f ih
-    go false e true f ih = absurd (subst T e (h x (true-T (p x) f)))
-    go false e false f ih = ih
-
-pub flatMap-same : {A B : Type 0} (f g : A → List B) (p : A → Bool) → ((x : A) → T (p x) → f x ≡ g x) → (xs : List A) → T (every p xs) → flatMap f xs ≡ flatMap g xs
-unfolding flatMap
-flatMap-same f g p h [] t = refl
-flatMap-same f g p h (x ∷ xs) t = ap₂ (λ (a b : List _). a ++ b) (h x (every-head p x xs t)) (flatMap-same f g p h xs (every-tail p x xs t))
-
--- lists of at most w elements each
-pub flatMap-length : {A B : Type 0} (f : A → List B) (w : ℕ) (p : A → Bool) → ((x : A) → T (p x) → length (f x) ≤ w) → (xs : List A) → T (every p xs)
-    → length (flatMap f xs) ≤ length xs * w
-unfolding flatMap
-flatMap-length f w p h [] t = omega arith
-flatMap-length f w p h (x ∷ xs) t =
-    omega (arith, length-append (f x) (flatMap f xs), h x (every-head p x xs t), flatMap-length f w p h xs (every-tail p x xs t))
-
-pub none-any : {A : Type 0} (f : A → Bool) (xs : List A) → any f xs ≡ false → T (every (λ x. not (f x)) xs)
-unfolding any every
-none-any f [] e = tt
-none-any f (x ∷ xs) e = go (f x) e (none-any f xs)
-  where
-    go : (b : Bool) → b || any f xs ≡ false → (any f xs ≡ false → T (every (λ x. not (f x)) xs)) → T (not b && every (λ x. not (f x)) xs)
-    go true e ih = absurd (true-T false (sym e))
-    go false e ih = ih e
+use Rattle.formats.proofs.EnterLaws.{station-same, at}
 
 -- a station behind another
 abbrev later : Station → Station → Bool
@@ -113,7 +78,7 @@ module _ {A : Type 0} (station : A → Station) (more : A → List ℕ) where
         keep-append (at station k) (g s) (flatMap g ss)
         ∙ by-value (same-station k s)
         (λ e.
-        let q : s ≡ k = ap (λ (i : ℕ). record { 0 = i }) (sym (eqb-true (k .0) (s .0) e)) in
+        let q : s ≡ k = sym (station-same k s (true-T (same-station k s) e)) in
         ap₂ (λ (a b : List A). a ++ b) (subst (λ (k : Station). keep (at station k) (g s) ≡ g k) q (keep-every (at station s) (g s) (own s)))
         (keep-none (at station k) (flatMap g ss)
         (every-weaker (λ x. ltb (s .0) (station x .0)) (λ x. not (at station k x))
@@ -181,5 +146,4 @@ module _ {A : Type 0} (station : A → Station) (more : A → List ℕ) where
           (λ x u. or-cases (same-station (station x) s) (any (same-station (station x)) ss) (and-r (after s x) (any (same-station (station x)) (s ∷ ss)) u)
           (λ e. absurd (omega (arith, eqb→eq (station x .0) (s .0) e, ltb→lt (s .0) (station x .0) (and-l (after s x) (any (same-station (station x)) (s ∷ ss)) u)))) (λ v. v))
           (keep (after s) xs)
-          (every-both (after s) (λ x. any (same-station (station x)) (s ∷ ss)) (keep (after s) xs) (kept-passes (after s) xs)
-          (every-keep (λ x. any (same-station (station x)) (s ∷ ss)) (after s) xs t))
+          (kept-both (after s) (λ x. any (same-station (station x)) (s ∷ ss)) xs t)

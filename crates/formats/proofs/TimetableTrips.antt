@@ -1,31 +1,29 @@
 -- Timetables read back, and only the written file reads to them. What is read is put in station by station, so it is written again as it was read. Assumes nothing.
-use Prim.Native.Nat.{ℕ, zero, suc, _+_, _≤_, _<_}
+use Prim.Native.Nat.{ℕ, _+_}
 use mathlib.Core.Path.{_≡_, refl, sym, _∙_, ap, ap₂, subst}
 use mathlib.Core.Bool.{Bool, true, false, not}
-use mathlib.Core.List.{List, [], _∷_, _++_, map, flatMap}
+use mathlib.Core.List.{List, flatMap}
 use native.Mathlib.Omega.{arith}
 use lib.Dec.{T, eqb}
 use lib.ListN.{length}
-use borrow.Author.Tests.{eq-eqb, ne-eqb}
+use borrow.Author.Tests.{ne-eqb}
 use Rattle.base.specs.Choice.{if_then_else_, _if_else_}
 use Rattle.base.specs.Lists.{each-two}
 use Rattle.base.proofs.Tests.{true-T}
 use Rattle.numbers.specs.Numbers.{width}
 use Rattle.railway.specs.Networks.{stations-of, network-in-range, lines-joined, network-refusal}
-use Rattle.timetable.specs.Formats.{Outcome, accepted, refused, behind, read-file, bytes-of, Placed}
+use Rattle.timetable.specs.Formats.{Outcome, accepted, refused, behind, read-file, bytes-of}
 use Rattle.timetable.specs.EditsFile.{station-relation-numbers}
 use Rattle.timetable.specs.Machine.{Timetable, nothing-placed}
 use Rattle.timetable.specs.Good.{Whole}
 use Rattle.timetable.specs.TimetableFile.{StationVisit, visit-numbers, Entries, timetable-format, visit-refusal, relation-refusal, enter-visit, enter-relation, entered, timetable-of}
 use Rattle.timetable.specs.TimetableFile.{read-timetable, visits-at, relations-at, timetable-numbers}
 use Rattle.formats.specs.Types.{StationRelation, Network}
-use Rattle.formats.specs.Walks.{Bytes}
-use Rattle.formats.specs.RoundTrips.{TimetableRead, TimetableRoundTrip}
-use Rattle.formats.proofs.WalkLaws.{clash, span, file-read, file-walks}
+use Rattle.formats.specs.RoundTrips.{Bytes, TimetableRead, TimetableRoundTrip}
+use Rattle.formats.proofs.WalkLaws.{clash, behind-taken, span, file-read, file-walks}
 use Rattle.formats.proofs.RowLaws.{values-entries}
-use Rattle.formats.proofs.NetworkTrips.{behind-taken}
 use Rattle.formats.proofs.OrderLaws.{before, visit-key, relation-key}
-use Rattle.formats.proofs.TimetableWalks.{set-out, entries-of, VisitsIn, RelationsIn, file-numbers, file-entries, walks-timetable, timetable-walks}
+use Rattle.formats.proofs.TimetableWalks.{entries-of, VisitsIn, RelationsIn, file-numbers, file-entries, walks-timetable, timetable-walks}
 use Rattle.formats.proofs.EnterLaws.{Clear, enters-all, clears-all}
 use Rattle.formats.proofs.EnteredTables.{visit-station, with-visits, visit-known, visits-entering, no-visits, relation-station, with-relations, relation-known, relations-entering, no-relations}
 use Rattle.formats.proofs.WrittenTables.{visits-in, visits-clear, relations-in, relations-clear, written-back}

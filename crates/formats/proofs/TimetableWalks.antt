@@ -1,21 +1,19 @@
 -- The timetable's format, walked: its numbers are the two counts and those of visits and relations in range, rising. Assumes nothing.
-use Prim.Native.Nat.{ℕ, zero, suc, _+_, _≤_, _<_}
+use Prim.Native.Nat.{ℕ, _+_}
 use mathlib.Core.Path.{_≡_, refl, sym, _∙_, ap, ap₂, subst}
-use mathlib.Core.Bool.{Bool}
 use mathlib.Core.List.{List, [], _∷_, _++_, map, flatMap}
-use native.Mathlib.Omega.{arith}
 use lib.Dec.{T}
 use lib.ListN.{length, length-map}
 use Rattle.base.specs.Lists.{every, each-two}
 use Rattle.numbers.specs.Numbers.{width}
 use Rattle.railway.specs.Edits.{station-relation-ok}
-use Rattle.timetable.specs.Formats.{Format, done, field, _and-then_, entries, Placed, placed}
+use Rattle.timetable.specs.Formats.{done, field, _and-then_, Placed}
 use Rattle.timetable.specs.EditsFile.{station-relation-entry, station-relation-numbers}
 use Rattle.timetable.specs.TimetableFile.{StationVisit, visit-entry, visit-numbers, visit-bar, relation-bar, Entries, visits-format, relations-format, timetable-format}
 use Rattle.formats.specs.Types.{StationRelation}
-use Rattle.formats.specs.Walks.{InRange, walks}
+use Rattle.formats.proofs.Walks.{InRange, walks}
 use Rattle.formats.proofs.WalkLaws.{span, walks-then, then-walks, walks-made, made-walks}
-use Rattle.formats.proofs.RowLaws.{Chain, values, Entry, walks-places, places-walk}
+use Rattle.formats.proofs.RowLaws.{values, Entry, walks-places, places-walk}
 use Rattle.formats.proofs.RelationWalks.{StationRelationFits, walks-station-relation, station-relation-walks}
 use Rattle.formats.proofs.VisitWalks.{visit-ok, VisitFits, visit-law}
 use Rattle.formats.proofs.OrderLaws.{before, visit-key, visits-chain, chain-visits, relation-key, relations-chain, chain-relations}

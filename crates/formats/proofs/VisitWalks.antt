@@ -1,23 +1,23 @@
 -- A visit's entry, walked: its first seven numbers are a row, then come the links, each a single 0 for none. Assumes nothing.
-use Prim.Native.Nat.{ℕ, zero, suc, _+_, _≤_, _<_}
+use Prim.Native.Nat.{ℕ, zero, suc, _+_}
 use mathlib.Core.Path.{_≡_, refl, sym, _∙_, ap, ap₂, subst}
-use mathlib.Core.Bool.{Bool, true, false, not, _&&_}
-use mathlib.Core.List.{List, [], _∷_, _++_, map, append-nil, append-assoc}
+use mathlib.Core.Bool.{Bool, true, false, _&&_}
+use mathlib.Core.List.{List, [], _∷_, _++_}
 use native.Mathlib.Omega.{arith}
-use lib.Dec.{T, leb, eqb, leb→le, le→leb}
-use lib.ListN.{length, getD}
-use borrow.Author.Tests.{eqb-true, eqb-false, ne-eqb, eq-eqb}
+use lib.Dec.{T, eqb}
+use lib.ListN.{getD}
+use borrow.Author.Tests.{eqb-true, eqb-false, ne-eqb}
 use Rattle.base.specs.Choice.{if_then_else_, _if_else_}
 use Rattle.base.specs.Lists.{within}
-use Rattle.base.proofs.Tests.{and-l, and-r, both, parts}
+use Rattle.base.proofs.Tests.{both, parts}
 use Rattle.numbers.specs.Numbers.{width}
 use Rattle.railway.specs.Ranges.{station-ok, train-ok, track-ok, line-ok, minute-ok, run-ok}
-use Rattle.timetable.specs.Formats.{Format, done, field, _and-then_, Range, _to_, least, bar-after, row}
+use Rattle.timetable.specs.Formats.{done, field, _and-then_, row}
 use Rattle.timetable.specs.TimetableFile.{StationVisit, visit-ranges, status-number, in-link-entry, out-link-entry, in-link-numbers, out-link-numbers, station-visit-of, visit-entry, visit-numbers}
-use Rattle.formats.specs.Types.{Station, Train, InLink, OutLink, Visit}
-use Rattle.formats.specs.Walks.{InRange, walks}
+use Rattle.formats.specs.Types.{InLink, OutLink}
+use Rattle.formats.proofs.Walks.{InRange, walks}
 use Rattle.formats.proofs.WalkLaws.{span, walks-then, then-walks, walks-made, made-walks}
-use Rattle.formats.proofs.RowLaws.{Over, over-none, in-test, test-in, most-test, test-most, RowIn, walks-row, row-walks, by-index, row-exact, row-at, Entry}
+use Rattle.formats.proofs.RowLaws.{Over, in-test, test-in, most-test, test-most, RowIn, walks-row, row-walks, by-index, row-exact, row-at, Entry}
 
 -- links
 
@@ -161,25 +161,22 @@ row-back e =
 
 -- the numbers of a row, and links, make a visit in range that is written with them
 module _ (ns : List ℕ) (r : RowIn visit-ranges ns) (i : InLink) (o : OutLink) where
-  none : Range
-  none = 0 to 0
-
   row-written : ns ≡ visit-row (station-visit-of ns i o)
   unfolding station-visit-of visit-ranges by-index
   row-written =
       row-exact visit-ranges ns r
       ∙ ap₂ (λ (a d : ℕ). getD ns 0 0 ∷ getD ns 1 0 ∷ getD ns 2 0 ∷ getD ns 3 0 ∷ a ∷ getD ns 5 0 ∷ d ∷ [])
-      (sym (back-status (getD ns 4 0) (row-at visit-ranges ns r 4 none (omega arith))))
-      (sym (back-status (getD ns 6 0) (row-at visit-ranges ns r 6 none (omega arith))))
+      (sym (back-status (getD ns 4 0) (row-at visit-ranges ns r 4 (omega arith))))
+      (sym (back-status (getD ns 6 0) (row-at visit-ranges ns r 6 (omega arith))))
 
   row-good : T (in-link-ok i) → T (out-link-ok o) → T (visit-ok (station-visit-of ns i o))
   unfolding station-visit-of visit-ranges visit-ok
   row-good u v =
-      let t₁ = in-test 1 16 (getD ns 0 0) (row-at visit-ranges ns r 0 none (omega arith)) in
-      let t₂ = in-test 1 9999 (getD ns 1 0) (row-at visit-ranges ns r 1 none (omega arith)) in
-      let t₃ = in-test 1 8 (getD ns 2 0) (row-at visit-ranges ns r 2 none (omega arith)) in
-      let t₄ = most-test 2879 (getD ns 3 0) (row-at visit-ranges ns r 3 none (omega arith)) in
-      let t₅ = most-test 2879 (getD ns 5 0) (row-at visit-ranges ns r 5 none (omega arith)) in
+      let t₁ = in-test 1 16 (getD ns 0 0) (row-at visit-ranges ns r 0 (omega arith)) in
+      let t₂ = in-test 1 9999 (getD ns 1 0) (row-at visit-ranges ns r 1 (omega arith)) in
+      let t₃ = in-test 1 8 (getD ns 2 0) (row-at visit-ranges ns r 2 (omega arith)) in
+      let t₄ = most-test 2879 (getD ns 3 0) (row-at visit-ranges ns r 3 (omega arith)) in
+      let t₅ = most-test 2879 (getD ns 5 0) (row-at visit-ranges ns r 5 (omega arith)) in
       search both
 
 -- the entry

@@ -1,30 +1,57 @@
 -- Reading a format from bytes is walking it with the numbers that the bytes write: what is read was written by numbers that walk the format to the same value, and
 -- such numbers, written, are read to it. By induction on the format; each number by the laws of numbers. Assumes nothing.
-use Prim.Native.Nat.{ℕ, zero, suc, _+_, _-_, _≤_, _<_}
+use Prim.Native.Nat.{ℕ, zero, suc, _+_, _/_, _%_, _≤_, _<_}
 use mathlib.Core.Path.{_≡_, refl, sym, _∙_, ap, ap₂}
 use mathlib.Core.Bool.{Bool, true, false, _&&_}
-use mathlib.Core.List.{List, [], _∷_, _++_, map, flatMap, append-nil, append-assoc}
+use mathlib.Core.List.{List, [], _∷_, _++_, flatMap, append-nil, append-assoc}
 use native.Mathlib.Omega.{arith}
-use lib.Dec.{leb}
-use lib.ListN.{length, getD, take, drop, length-append, take-append-drop, drop-of-length-le}
+use lib.Dec.{ltb, leb}
+use lib.ListN.{length, take, drop, length-append, take-append-drop, drop-of-length-le}
 use lib.Seq.{drop-drop, getD-drop, drop-append-seam}
-use borrow.Author.Tests.{leb-true, le-leb}
+use borrow.Author.Tests.{leb-true, le-leb, ltb-true}
 use Rattle.base.specs.Choice.{if_then_else_}
-use Rattle.base.specs.Lists.{within}
-use Rattle.numbers.specs.Numbers.{read-number, write-number, width}
+use Rattle.numbers.specs.Numbers.{read-number, write-groups, write-number, width}
 use Rattle.numbers.specs.declared.Reading.{Reading}
 use Rattle.numbers.specs.declared.Reading.the-variants.{Value, Refused}
-use Rattle.numbers.proofs.GroupLaws.{cap, Small, read-bounded}
+use Rattle.numbers.proofs.GroupLaws.{cap, Small, small-tail, read-bounded}
 use Rattle.numbers.proofs.RoundTrip.{number-back, number-same}
 use Rattle.timetable.specs.Formats.{Format, done, field, here, Outcome, accepted, refused, _and-then_, placed-field, field-at, behind, read, ended, read-file, bytes-of}
-use Rattle.timetable.specs.Formats.{Range, least, bar-after, compared, row, entries, Placed, placed}
-use Rattle.formats.specs.Walks.{Bytes, InRange, walks}
+use Rattle.formats.specs.RoundTrips.{WrittenIsBytes}
+use Rattle.formats.proofs.Walks.{InRange, walks}
 
 -- accepted is not refused
 pub clash {ℓ} : {P : Type ℓ} {A : Type 0} (a : A) (next k p : ℕ) → refused k p ≡ accepted a next → P
 clash a next k p e = let z : _≡_ {A = ℕ} 0 1 = cc in absurd (omega arith)
 
+-- an accepted value stands behind an accepted value
+pub behind-taken : {A B : Type 0} (o : Outcome A) (f : A → ℕ → Outcome B) (b : B) (next : ℕ) → behind o f ≡ accepted b next
+    → (a : A) × (p : ℕ) × (o ≡ accepted a p) × (f a p ≡ accepted b next)
+unfolding behind
+behind-taken (accepted a p) f b next e = (a, p, refl, e)
+behind-taken (refused k p) f b next e = clash b next k p e
+
 -- bytes of numbers in a row
+
+small-append : (xs ys : List ℕ) → Small xs → Small ys → Small (xs ++ ys)
+small-append [] ys s t i = t i
+small-append (x ∷ xs) ys s t zero = s 0
+small-append (x ∷ xs) ys s t (suc i) = small-append xs ys (small-tail x xs s) t i
+
+small-groups : (k n : ℕ) → Small (write-groups k n)
+unfolding write-groups
+small-groups zero n i = omega arith
+small-groups (suc k) n i = go (ltb n 128) refl (small-groups k (n / 128)) i
+  where
+    go : (b : Bool) → ltb n 128 ≡ b → Small (write-groups k (n / 128)) → Small (if b then n ∷ [] else (128 + n % 128) ∷ write-groups k (n / 128))
+    go true e ih zero = omega (arith, ltb-true n 128 e)
+    go true e ih (suc i) = omega arith
+    go false e ih zero = omega arith
+    go false e ih (suc i) = ih i
+
+pub written-is-bytes : WrittenIsBytes
+unfolding bytes-of flatMap write-number
+written-is-bytes [] i = omega arith
+written-is-bytes (n ∷ ns) i = small-append (write-groups 3 n) (bytes-of ns) (small-groups 3 n) (written-is-bytes ns) i
 
 pub bytes-append : (ns ms : List ℕ) → bytes-of (ns ++ ms) ≡ bytes-of ns ++ bytes-of ms
 unfolding bytes-of flatMap
@@ -102,7 +129,7 @@ pub record Written {A : Type 0} (f : Format A) (file : List ℕ) (at : ℕ) (a :
   pub end : next ≡ at + span numbers
   pub bytes : drop at file ≡ bytes-of numbers ++ drop next file
 
-pub read-walks : {A : Type 0} (f : Format A) (file : List ℕ) (at : ℕ) (a : A) (next : ℕ) → Bytes file → read f file at ≡ accepted a next → Written f file at a next
+pub read-walks : {A : Type 0} (f : Format A) (file : List ℕ) (at : ℕ) (a : A) (next : ℕ) → Small file → read f file at ≡ accepted a next → Written f file at a next
 unfolding read behind walks bytes-of flatMap
 read-walks (done b) file at a next s e =
     let x : b ≡ a = cc in
@@ -157,7 +184,7 @@ pub record FileOf {A : Type 0} (f : Format A) (file : List ℕ) (a : A) (next : 
   pub end : next ≡ span numbers
   pub bytes : file ≡ bytes-of numbers
 
-pub file-walks : {A : Type 0} (f : Format A) (file : List ℕ) (a : A) (next : ℕ) → Bytes file → read-file f file ≡ accepted a next → FileOf f file a next
+pub file-walks : {A : Type 0} (f : Format A) (file : List ℕ) (a : A) (next : ℕ) → Small file → read-file f file ≡ accepted a next → FileOf f file a next
 unfolding read-file ended
 file-walks f file a next s e = go (read f file 0) refl e
   where

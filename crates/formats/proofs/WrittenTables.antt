@@ -1,16 +1,16 @@
 -- The visits and relations of a whole timetable as they are written: in range, rising, known, within the limits; and station by station they are the timetable.
 -- Assumes nothing.
-use Prim.Native.Nat.{ℕ, zero, suc, _+_, _*_, _≤_, _<_, min}
-use mathlib.Core.Path.{_≡_, refl, sym, _∙_, ap, ap₂, subst, fun-ext}
-use mathlib.Core.Bool.{Bool, true, false, not, _&&_, _||_}
-use mathlib.Core.List.{List, [], _∷_, _++_, map, flatMap}
+use Prim.Native.Nat.{_*_, _≤_}
+use mathlib.Core.Path.{_≡_, refl, sym, _∙_, ap, ap₂, fun-ext}
+use mathlib.Core.Bool.{Bool, true, false, _&&_}
+use mathlib.Core.List.{List, [], _∷_, map, flatMap}
 use native.Mathlib.Omega.{arith}
-use lib.Dec.{T, ltb, leb, eqb, not-T, eqb→eq, eqb-refl, ltb→lt, lt→ltb, leb→le}
+use lib.Dec.{T, leb, eqb-refl, ltb→lt, leb→le}
 use lib.ListN.{length, length-map, length-take}
-use Rattle.base.specs.Lists.{any, every, keep, each-two, below}
-use Rattle.base.proofs.Tests.{T-true, true-T, T-false, by-value, and-l, and-r, both, parts, every-weaker, every-both, every-map, every-mapped, every-flatMap, every-true}
+use Rattle.base.specs.Lists.{every, keep, each-two, below}
+use Rattle.base.proofs.Tests.{true-T, by-value, and-l, and-r, both, parts, every-weaker, every-both, every-mapped, every-flatMap, every-true}
 use Rattle.base.proofs.Sorted.{smaller, two-map, two-weaker, below-equal, below-smaller}
-use Rattle.railway.specs.Ranges.{station-ok, train-ok, track-ok, minute-ok, same-station}
+use Rattle.railway.specs.Ranges.{station-ok, train-ok, track-ok, minute-ok}
 use Rattle.railway.specs.Relations.{relation-ok, key, precedes}
 use Rattle.railway.specs.Edits.{station-relation-ok}
 use Rattle.railway.specs.Networks.{station-rows, stations-of, station-row-ok, listed, track-known, network-refusal}
@@ -21,14 +21,14 @@ use Rattle.timetable.specs.Machine.{Timetable}
 use Rattle.timetable.specs.Good.{Whole, in-good, out-good, links-good, values-good, visit-good, entry-good}
 use Rattle.timetable.specs.TimetableFile.{StationVisit, visits-at, relations-at}
 use Rattle.timetable.proofs.TableLaws.{number, GoodTable, table-facts}
-use Rattle.formats.specs.Types.{Station, InLink, OutLink, Visit, Relation, StationRelation, StationRow, Network}
-use Rattle.formats.proofs.RowLaws.{test-in, map-same}
+use Rattle.formats.specs.Types.{Station, InLink, OutLink, Visit, Relation, StationRelation, Network}
+use Rattle.formats.proofs.ListLaws.{flatMap-length}
 use Rattle.formats.proofs.VisitWalks.{in-link-ok, out-link-ok, visit-ok}
 use Rattle.formats.proofs.OrderLaws.{before, visit-key, relation-key}
 use Rattle.formats.proofs.TimetableWalks.{VisitsIn, RelationsIn}
 use Rattle.formats.proofs.EnterLaws.{at, Clear}
 use Rattle.formats.proofs.EnteredTables.{visit-station, to-entry, with-visits, visit-known, visits-entering, relation-station, to-relation, with-relations, relation-known, relations-entering}
-use Rattle.formats.proofs.StationLists.{flatMap-length, gathered-order, gathered-none, gathered-own}
+use Rattle.formats.proofs.StationLists.{gathered-order, gathered-none, gathered-own}
 
 -- links in range
 

@@ -1,25 +1,33 @@
--- What is promised of files: "round trips give the same back", and "A written file is the only file that reads to that timetable". The proofs are in proofs/;
+-- What is promised of files: what is written reads back to the same, and nothing but the written file reads to it. Document 01, "Files"; docs/DECISIONS.md, "Files":
+-- "A written file is the only file that reads to that timetable, as every number has one shortest form and every order is strict." The proofs are in proofs/;
 -- nothing here is proved. A reader needs the definitions of the crate timetable: Formats (reading, and the bytes of numbers), NetworkFile, EditsFile, TimetableFile.
 --
 -- The letters: file the bytes of a file, at and next places in it, n a network, e an edit, es a list of edits, m a timetable. `T b` says that the test b passes.
 -- `bytes-of (x-numbers x)` is the file that is written for x. A record collects what is promised together. Assumes nothing.
-use Prim.Native.Nat.{ℕ, _+_, _≤_}
+use Prim.Native.Nat.{ℕ, _+_, _≤_, _<_}
 use mathlib.Core.Path.{_≡_}
 use mathlib.Core.List.{List, _++_}
 use lib.Dec.{T}
-use lib.ListN.{length, drop}
+use lib.ListN.{length, getD, drop}
 use Rattle.base.specs.Lists.{every}
 use Rattle.numbers.specs.Numbers.{width}
 use Rattle.railway.specs.Edits.{edit-ok}
 use Rattle.railway.specs.Networks.{station-rows, line-rows, network-refusal}
-use Rattle.timetable.specs.Formats.{Outcome, accepted, read, bytes-of, Placed}
+use Rattle.timetable.specs.Formats.{accepted, read, bytes-of, Placed}
 use Rattle.timetable.specs.NetworkFile.{network-with, read-network, network-numbers}
 use Rattle.timetable.specs.EditsFile.{edit-entry, edit-numbers, read-edits, edits-numbers, Shift, read-shift}
 use Rattle.timetable.specs.Machine.{Timetable}
 use Rattle.timetable.specs.Good.{Whole}
 use Rattle.timetable.specs.TimetableFile.{read-timetable, timetable-numbers}
 use Rattle.formats.specs.Types.{Edit, Network}
-use Rattle.formats.specs.Walks.{Bytes}
+
+-- a file is bytes
+abbrev pub Bytes : List ℕ → Type 0
+Bytes file = (i : ℕ) → getD file i 0 < 256
+
+-- what is written is a file, whatever the numbers
+abbrev pub WrittenIsBytes : Type 0
+WrittenIsBytes = (ns : List ℕ) → Bytes (bytes-of ns)
 
 -- networks
 
