@@ -56,10 +56,6 @@ trains-walk rise (suc k) before bar p (n ∷ ns) ts (x, w) =
 abbrev number : Train → ℕ
 number t = t .0
 
--- a train's place
-trained : (t : ℕ) → Train
-trained t = record { 0 = t }
-
 in-train : (lo t : ℕ) → lo ≤ t → t ≤ 9999 → InRange lo 9999 t
 in-train lo t l h = record { low = l; high = h; short = omega arith }
 

@@ -48,15 +48,13 @@ small-groups (suc k) n i = go (ltb n 128) refl (small-groups k (n / 128)) i
     go false e ih zero = omega arith
     go false e ih (suc i) = ih i
 
-pub written-is-bytes : WrittenIsBytes
+small-bytes : (ns : List ℕ) → Small (bytes-of ns)
 unfolding bytes-of flatMap write-number
-written-is-bytes [] i = omega arith
-written-is-bytes (n ∷ ns) i = small-append (write-groups 3 n) (bytes-of ns) (small-groups 3 n) (written-is-bytes ns) i
+small-bytes [] i = omega arith
+small-bytes (n ∷ ns) i = small-append (write-groups 3 n) (bytes-of ns) (small-groups 3 n) (small-bytes ns) i
 
-pub bytes-append : (ns ms : List ℕ) → bytes-of (ns ++ ms) ≡ bytes-of ns ++ bytes-of ms
-unfolding bytes-of flatMap
-bytes-append [] ms = refl
-bytes-append (n ∷ ns) ms = ap (λ (l : List ℕ). write-number n ++ l) (bytes-append ns ms) ∙ sym (append-assoc (write-number n) (bytes-of ns) (bytes-of ms))
+pub written-is-bytes : WrittenIsBytes
+written-is-bytes ns i = omega (arith, small-bytes ns i)
 
 -- how many bytes they take
 abbrev pub span : List ℕ → ℕ
@@ -65,9 +63,6 @@ span ns = length (bytes-of ns)
 pub span-cons : (n : ℕ) (ns : List ℕ) → span (n ∷ ns) ≡ width n + span ns
 unfolding bytes-of flatMap width
 span-cons n ns = length-append (write-number n) (bytes-of ns)
-
-pub span-append : (ns ms : List ℕ) → span (ns ++ ms) ≡ span ns + span ms
-span-append ns ms = ap length (bytes-append ns ms) ∙ length-append (bytes-of ns) (bytes-of ms)
 
 -- one number
 
