@@ -1,0 +1,4 @@
+pub mod PutLaws
+pub mod BuildLaws
+pub mod ListLaws
+pub mod CallLaws

@@ -1,0 +1,390 @@
+// The numbers of a list of findings, in their order: stations rising, rules rising, first and second rising. Each function puts its numbers into the lent buffer
+// from a place on and answers the place behind them; on a buffer that is too short it only counts.
+ghost use mathlib.Core.Path.{_≡_};
+ghost use Prim.Native.Nat.{_+_, _≤_, min};
+ghost use lib.ListN.{length, drop};
+ghost use mathlib.Core.Bool.{_||_};
+ghost use lib.Dec.{eqb};
+ghost use Rattle.sheet.specs.Changes.{table-in};
+ghost use Rattle.sheet.specs.Sheets.{decode-sheet};
+ghost use Rattle.rules.specs.Parts.{entry, entry-at};
+ghost use Rattle.findings.specs.Builder.{Puts, broken, in-broken, out-broken, far-broken, clash, against, facing, step, walk, unmet-numbers};
+ghost use Rattle.findings.specs.Builder.{own-numbers, far-numbers, station-numbers, all-numbers};
+use crate::put;
+use crate::scope;
+use crate::scope::Scope;
+use railway::network::Network;
+use railway::sorts::Station;
+use railway::sorts::Train;
+use railway::visit::InLink;
+use railway::visit::Inward;
+use railway::visit::OutLink;
+use railway::visit::Outward;
+use railway::visit::Visit;
+use records::bytes;
+use records::record;
+use rules::entries;
+use rules::lines;
+use rules::links;
+use rules::relations;
+use rules::stays;
+use sheet::page;
+
+// The page of a station; an empty part where there is no such station.
+fn page_of(sheet: &[u8], s: Station) -> &[u8]
+    requires { ⌜ length (now sheet) ≡ 8192 ⌝ }
+    ensures { λ r. ⌜ table-in (now r) ≡ decode-sheet (now (sheet .entry)) s ⌝ }
+{
+    if s.valid() {
+        let at = 512 * (bytes::size(s.0) - 1);
+        let end = at + 512;
+        return &sheet[at..end];
+    }
+    &sheet[0..0]
+}
+
+// Rules that tell of one train: 1, 5, 6, 7, 8, 9
+
+fn is_out_broken(
+    sheet: &[u8],
+    n: Network,
+    scope: Scope,
+    s: Station,
+    rule: u16,
+    t: Train,
+    v: Visit,
+    o: Outward,
+) -> bool
+    requires { ⌜ length (now sheet) ≡ 8192 ⌝ }
+    ensures { λ r. ⌜ r ≡ out-broken n scope (decode-sheet (now (sheet .entry))) s rule (entry t v) o ⌝ }
+{
+    if scope::is_taken(n, scope, s, o.station) {
+        let there = page_of(sheet, o.station);
+        if rule == 7 {
+            return !links::is_out_answered(s, t, o, there);
+        }
+        return links::breaks_9(s, t, v, o, there);
+    }
+    false
+}
+
+fn is_in_broken(sheet: &[u8], n: Network, scope: Scope, s: Station, t: Train, i: Inward) -> bool
+    requires { ⌜ length (now sheet) ≡ 8192 ⌝ }
+    ensures { λ r. ⌜ r ≡ in-broken n scope (decode-sheet (now (sheet .entry))) s t i ⌝ }
+{
+    if scope::is_taken(n, scope, s, i.station) {
+        let there = page_of(sheet, i.station);
+        return !links::is_in_answered(s, t, i, there);
+    }
+    false
+}
+
+// 7, 8 and 9, where the visit has the link and the list takes its far station.
+fn is_far_broken(
+    sheet: &[u8],
+    n: Network,
+    scope: Scope,
+    s: Station,
+    rule: u16,
+    t: Train,
+    v: Visit,
+) -> bool
+    requires { ⌜ length (now sheet) ≡ 8192 ⌝ }
+    ensures { λ r. ⌜ r ≡ far-broken n scope (decode-sheet (now (sheet .entry))) s rule (entry t v) ⌝ }
+{
+    if rule == 8 {
+        let link = v.inward;
+        match link {
+            InLink::Nothing => {
+                return false;
+            }
+            InLink::From(i) => {
+                return is_in_broken(sheet, n, scope, s, t, i);
+            }
+        }
+    }
+    let link = v.outward;
+    match link {
+        OutLink::Nothing => false,
+        OutLink::To(o) => is_out_broken(sheet, n, scope, s, rule, t, v, o),
+    }
+}
+
+fn is_broken(
+    sheet: &[u8],
+    here: &[u8],
+    n: Network,
+    scope: Scope,
+    s: Station,
+    rule: u16,
+    t: Train,
+    v: Visit,
+) -> bool
+    requires { ⌜ length (now sheet) ≡ 8192 ⌝ }
+    ensures { λ r. ⌜ r ≡ broken n scope (decode-sheet (now (sheet .entry))) (table-in (now (here .entry))) s rule (entry t v) ⌝ }
+{
+    if rule == 1 {
+        return stays::breaks_1(v);
+    }
+    if rule == 5 {
+        return stays::breaks_5(n, v);
+    }
+    if rule == 6 {
+        return lines::breaks_6(n, here, t, v);
+    }
+    is_far_broken(sheet, n, scope, s, rule, t, v)
+}
+
+// Rules that tell of two trains: 2, 3, 10
+
+fn does_clash(
+    here: &[u8],
+    n: Network,
+    s: Station,
+    rule: u16,
+    t: Train,
+    v: Visit,
+    u: Train,
+    w: Visit,
+) -> bool
+    ensures { λ r. ⌜ r ≡ clash n (table-in (now (here .entry))) s rule (entry t v) (entry u w) ⌝ }
+{
+    if rule == 2 {
+        return stays::breaks_2(v, w);
+    }
+    if rule == 3 {
+        return stays::breaks_3(n.headway, v, w);
+    }
+    let link = v.outward;
+    match link {
+        OutLink::Nothing => false,
+        OutLink::To(o) => lines::breaks_10(n, s, here, t, v, o, u, w),
+    }
+}
+
+// t with each train of a page from an index on.
+fn tell_against(
+    out: &mut [u16],
+    at: usize,
+    there: &[u8],
+    from: usize,
+    here: &[u8],
+    n: Network,
+    s: Station,
+    rule: u16,
+    t: Train,
+    v: Visit,
+) -> usize
+    requires { ⌜ at ≤ 1900000 ⌝ }
+    ensures { λ r. ⌜ Puts at (against n (table-in (now (here .entry))) s rule (entry t v) (drop from (table-in (now (there .entry)) .visits))) (now (out .entry)) r (now (out .exit)) 96 ⌝ }
+{
+    let k = page::visit_count(there);
+    let mut to = at;
+    let mut i = from;
+    while i < k {
+        let r = entries::entry_record(there, i);
+        let u = record::train_in(r);
+        let w = record::visit_in(r);
+        let found = does_clash(here, n, s, rule, t, v, u, w);
+        to = put::tell(out, to, found, s, rule, t.0, u.0);
+        i += 1;
+    }
+    to
+}
+
+// 10: t with each train at the far station of its out-link, where the list takes that.
+fn tell_facing(
+    out: &mut [u16],
+    at: usize,
+    sheet: &[u8],
+    here: &[u8],
+    n: Network,
+    scope: Scope,
+    s: Station,
+    t: Train,
+    v: Visit,
+) -> usize
+    requires { ⌜ (length (now sheet) ≡ 8192) × (at ≤ 1900000) ⌝ }
+    ensures { λ r. ⌜ Puts at (facing n scope (decode-sheet (now (sheet .entry))) (table-in (now (here .entry))) s (entry t v)) (now (out .entry)) r (now (out .exit)) 96 ⌝ }
+{
+    let link = v.outward;
+    match link {
+        OutLink::Nothing => at,
+        OutLink::To(o) => {
+            if scope::is_taken(n, scope, s, o.station) {
+                return tell_against(out, at, page_of(sheet, o.station), 0, here, n, s, 10, t, v);
+            }
+            at
+        }
+    }
+}
+
+// A rule at a station
+
+fn is_paired(rule: u16) -> bool
+    ensures { λ r. ⌜ r ≡ (eqb rule 2 || eqb rule 3) ⌝ }
+{
+    if rule == 2 {
+        return true;
+    }
+    rule == 3
+}
+
+// One visit, by its index.
+fn tell_one(
+    out: &mut [u16],
+    at: usize,
+    sheet: &[u8],
+    here: &[u8],
+    n: Network,
+    scope: Scope,
+    s: Station,
+    rule: u16,
+    i: usize,
+) -> usize
+    requires { ⌜ (length (now sheet) ≡ 8192) × (at ≤ 1900000) × (i ≤ 24) ⌝ }
+    ensures { λ r. ⌜ Puts at (step n scope (decode-sheet (now (sheet .entry))) (table-in (now (here .entry))) s rule (entry-at i (now (here .entry))) (drop (i + 1) (table-in (now (here .entry)) .visits))) (now (out .entry)) r (now (out .exit)) 96 ⌝ }
+{
+    let r = entries::entry_record(here, i);
+    let t = record::train_in(r);
+    let v = record::visit_in(r);
+    if is_paired(rule) {
+        return tell_against(out, at, here, i + 1, here, n, s, rule, t, v);
+    }
+    if rule == 10 {
+        return tell_facing(out, at, sheet, here, n, scope, s, t, v);
+    }
+    let found = is_broken(sheet, here, n, scope, s, rule, t, v);
+    put::tell(out, at, found, s, rule, t.0, 0)
+}
+
+// All visits of the station.
+fn tell_rule(
+    out: &mut [u16],
+    at: usize,
+    sheet: &[u8],
+    here: &[u8],
+    n: Network,
+    scope: Scope,
+    s: Station,
+    rule: u16,
+) -> usize
+    requires { ⌜ (length (now sheet) ≡ 8192) × (at ≤ 1800000) ⌝ }
+    ensures { λ r. ⌜ Puts at (walk n scope (decode-sheet (now (sheet .entry))) (table-in (now (here .entry))) s rule (table-in (now (here .entry)) .visits)) (now (out .entry)) r (now (out .exit)) 2304 ⌝ }
+{
+    let k = page::visit_count(here);
+    let mut to = at;
+    let mut i: usize = 0;
+    while i < k {
+        to = tell_one(out, to, sheet, here, n, scope, s, rule, i);
+        i += 1;
+    }
+    to
+}
+
+// 4: the relations of the station, by their rank.
+fn tell_unmet(out: &mut [u16], at: usize, here: &[u8], s: Station) -> usize
+    requires { ⌜ at ≤ 1900000 ⌝ }
+    ensures { λ r. ⌜ Puts at (unmet-numbers (table-in (now (here .entry))) s 1 (table-in (now (here .entry)) .relations)) (now (out .entry)) r (now (out .exit)) 24 ⌝ }
+{
+    let k = page::relation_count(here);
+    let mut to = at;
+    let mut i: usize = 0;
+    let mut rank: u16 = 1;
+    while i < k {
+        let q = record::relation_in(entries::relation_record(here, i));
+        let met = relations::is_met(here, q);
+        to = put::tell(out, to, !met, s, 4, rank, 0);
+        i += 1;
+        rank += 1;
+    }
+    to
+}
+
+// A station
+
+// Rules 1 to 6.
+fn tell_own(
+    out: &mut [u16],
+    at: usize,
+    sheet: &[u8],
+    here: &[u8],
+    n: Network,
+    scope: Scope,
+    s: Station,
+) -> usize
+    requires { ⌜ (length (now sheet) ≡ 8192) × (at ≤ 1700000) ⌝ }
+    ensures { λ r. ⌜ Puts at (own-numbers n scope (decode-sheet (now (sheet .entry))) (table-in (now (here .entry))) s) (now (out .entry)) r (now (out .exit)) 11544 ⌝ }
+{
+    let a = tell_rule(out, at, sheet, here, n, scope, s, 1);
+    let b = tell_rule(out, a, sheet, here, n, scope, s, 2);
+    let c = tell_rule(out, b, sheet, here, n, scope, s, 3);
+    let d = tell_unmet(out, c, here, s);
+    let e = tell_rule(out, d, sheet, here, n, scope, s, 5);
+    tell_rule(out, e, sheet, here, n, scope, s, 6)
+}
+
+// Rules 7 to 10.
+fn tell_far(
+    out: &mut [u16],
+    at: usize,
+    sheet: &[u8],
+    here: &[u8],
+    n: Network,
+    scope: Scope,
+    s: Station,
+) -> usize
+    requires { ⌜ (length (now sheet) ≡ 8192) × (at ≤ 1700000) ⌝ }
+    ensures { λ r. ⌜ Puts at (far-numbers n scope (decode-sheet (now (sheet .entry))) (table-in (now (here .entry))) s) (now (out .entry)) r (now (out .exit)) 9216 ⌝ }
+{
+    let a = tell_rule(out, at, sheet, here, n, scope, s, 7);
+    let b = tell_rule(out, a, sheet, here, n, scope, s, 8);
+    let c = tell_rule(out, b, sheet, here, n, scope, s, 9);
+    tell_rule(out, c, sheet, here, n, scope, s, 10)
+}
+
+fn tell_station(
+    out: &mut [u16],
+    at: usize,
+    sheet: &[u8],
+    n: Network,
+    scope: Scope,
+    s: Station,
+) -> usize
+    requires { ⌜ (length (now sheet) ≡ 8192) × (at ≤ 1600000) ⌝ }
+    ensures { λ r. ⌜ Puts at (station-numbers n scope (decode-sheet (now (sheet .entry))) s) (now (out .entry)) r (now (out .exit)) 20760 ⌝ }
+{
+    let here = page_of(sheet, s);
+    if scope::is_taken(n, scope, s, s) {
+        let to = tell_own(out, at, sheet, here, n, scope, s);
+        return tell_far(out, to, sheet, here, n, scope, s);
+    }
+    tell_far(out, at, sheet, here, n, scope, s)
+}
+
+// As many rows as are in use, at most those that there are.
+fn in_use(n: Network) -> usize
+    ensures { λ r. ⌜ r ≡ min (n .stationcount) 16 ⌝ }
+{
+    if n.stationcount < 16 {
+        return bytes::size(n.stationcount);
+    }
+    16
+}
+
+// All stations, from the buffer's start.
+pub fn tell_all(out: &mut [u16], sheet: &[u8], n: Network, scope: Scope) -> usize
+    requires { ⌜ length (now sheet) ≡ 8192 ⌝ }
+    ensures { λ r. ⌜ Puts 0 (all-numbers n scope (decode-sheet (now (sheet .entry)))) (now (out .entry)) r (now (out .exit)) 332160 ⌝ }
+{
+    let rows = n.stations;
+    let k = in_use(n);
+    let mut to: usize = 0;
+    let mut i: usize = 0;
+    while i < k {
+        let row = rows[i];
+        to = tell_station(out, to, sheet, n, scope, row.station);
+        i += 1;
+    }
+    to
+}
