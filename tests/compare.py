@@ -2,8 +2,8 @@
 """Runs generated files through the programs and through the second implementation, and compares what they print.
 
 All comes from one seed:
- - Files, good and damaged ones of `shift` and of `inspect`: both outputs must be equal byte for byte. Where the damage alone
-   tells what must be printed, and for examples of document 01, both must print that too.
+ - Files, good and damaged ones of `shift` and of `inspect`, examples of document 01, and every single fault in one small file
+   of each program: both outputs must be equal byte for byte. Where it is known what must be printed, both must print that.
  - Reorderings: a file of edits in an order that keeps the order of every two edits with a common area. Each edit's answer,
    the findings, the totals and the tally must be those of the first order.
  - The second implementation's outputs tell what was reached: every refusal, every rule, every limit has to be. They must also
@@ -22,7 +22,7 @@ import sys
 import tempfile
 import time
 
-from damage import damage
+from damage import damage, sweep
 from drafts import Draft, encode
 from orders import areas_named, reordered
 from timetables import make_inspect
@@ -83,6 +83,9 @@ FIXED = [
     ("(k)", "shift", numbers(NETWORK + "25, " + ", ".join(f"1 1 {train} 1 {9 * train} {9 * train}" for train in range(1, 26))),
      b"".join(b"E %d 0 0\n" % edit for edit in range(1, 25)) + b"E 25 12 0\nT 24 0 0\nA 24 1 24 0\n"),
 ]
+
+# Single faults at every number of one file of each program.
+SWEEP = list(sweep())
 
 
 # ---------------------------------------------------------------------------------------------------------------- runs
@@ -238,6 +241,11 @@ def do_fixed(index):
     return ("fixed files", *compare(name, program, data, expected))
 
 
+def do_sweep(index):
+    program, what, data, expected = SWEEP[index]
+    return ("files of the sweep", *compare(f"{program} sweep {what}", program, data, expected))
+
+
 def do_file(index):
     """`shift` and `inspect` take turns, and so do good and damaged files."""
     r = random.Random(f"{OPTIONS.seed} file {index}")
@@ -291,7 +299,7 @@ def do_orders(index):
 
 def job(one):
     what, index = one
-    return {"fixed": do_fixed, "file": do_file, "orders": do_orders}[what](index)
+    return {"fixed": do_fixed, "sweep": do_sweep, "file": do_file, "orders": do_orders}[what](index)
 
 
 def begin(options):
@@ -321,7 +329,8 @@ def main():
     options.save = os.path.join(tempfile.gettempdir(), f"compare-{os.getpid()}")
 
     began = time.time()
-    jobs = [("fixed", index) for index in range(len(FIXED) if options.files else 0)]
+    jobs = [("fixed", index) for index in range(len(FIXED))] + [("sweep", index) for index in range(len(SWEEP))]
+    jobs = jobs if options.files else []
     jobs += [("file", index) for index in range(options.files)]
     jobs += [("orders", index) for index in range(-(-options.reorderings // ORDERS_PER_FILE))]
     counts, marks, orders, wrong = collections.Counter(), collections.Counter(), 0, 0

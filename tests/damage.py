@@ -1,9 +1,8 @@
 """Damaged files, each with the output that it must give where the damage alone tells it."""
 
-from drafts import LONGEST_INPUT, Draft
-from encode import encode
+from drafts import LONGEST_INPUT, Draft, Network, encode
 from timetables import Inspect, in_order
-from traffic import Visit
+from traffic import Shift, Visit
 
 
 def damage(r, good, index):
@@ -83,40 +82,27 @@ def out_of_range(r, good):
 
 def out_of_order(r, good):
     """An entry that falls at some number of its key, or that is equal to the one before."""
-    draft = good.draft
-    pairs = [(one, other) for group in draft.groups for one, other in zip(group, group[1:])]
-    if not pairs:
+    groups = [group for group in good.draft.groups if len(group) > 1]
+    if not groups:
         return out_of_range(r, good)
-    groups = [group for group in draft.groups if len(group) > 1]
     group = r.choice(groups)
     rank = r.randrange(1, len(group))
     before, now = group[rank - 1], group[rank]
-    draft = draft.copy()
-    depth = r.randrange(len(before) + 1)
-    equal = depth == len(before)
-    at = len(before) - 1 if equal else depth
-    low = draft.ranges[before[at]][0]
-    if not equal and draft.values[before[at]] <= low:
-        return out_of_range(r, good)
-    values = [draft.values[index] for index in before[:at]]
-    if len(now) <= at:
-        # The entry is shorter than the one before: give it further numbers in front of its rest.
-        return longer_entry(r, good, draft, before, now, at, equal)
-    for index, value in zip(now, values):
-        draft.values[index] = value
-    value = draft.values[before[at]]
-    return fault_in(r, draft, now[at], value if equal else r.randint(low, value - 1))
-
-
-def longer_entry(r, good, draft, before, now, at, equal):
-    place = sum(len(encode(value)) for value in draft.values[:now[0]])
-    key = [draft.values[index] for index in before[:at + 1]]
-    if not equal:
-        key[at] = r.randint(draft.ranges[before[at]][0], key[at] - 1)
-    spelt = [encode(value) for value in key]
-    rest = b"".join(map(encode, draft.values[now[-1] + 1:]))
-    data = draft.bytes()[:place] + b"".join(spelt) + rest
-    return data, must(3, place + sum(map(len, spelt[:-1])))
+    draft = good.draft.copy()
+    key = [draft.values[index] for index in before]
+    if r.random() < 0.3:
+        at, fault = len(key) - 1, key[-1]
+    else:
+        lows = [draft.ranges[index][0] for index in before]
+        falling = [at for at, value in enumerate(key) if value > lows[at]]
+        if not falling:
+            return out_of_range(r, good)
+        at = r.choice(falling)
+        fault = r.choice([key[at] - 1, r.randint(lows[at], key[at] - 1)])
+    # The key of the entry before up to the fault, in place of as many numbers of this entry's own.
+    behind = now[min(at, len(now) - 1)] + 1
+    draft.values = draft.values[:now[0]] + key[:at] + [fault] + draft.values[behind:]
+    return fault_in(r, draft, now[0] + at, fault)
 
 
 def trains_out_of_order(r, good):
@@ -302,3 +288,43 @@ def relation_at_unlisted(r, good):
     relations = [(r.choice(lower), (1, 5, (3, 4)))] if lower else []
     draft = remade(good, good.visits, relations + [(station, (3, 1, (1, 1)))])
     return draft.bytes(), must(7, draft.place(draft.groups[-1][-1][0]))
+
+
+# ------------------------------------------------------------------------------------------------------------- sweeps
+
+
+def rich_files():
+    """A small file of each program that has every sort of number."""
+    network = Network({2: (1, 2), 3: (6, 8), 16: (1, 1)}, 3, {1: (2, 3, 3, 10, 1), 5: (16, 2, 1, 130, 9), 32: (3, 16, 2, 4, 2)})
+    four, three, two = (1, 5, (7, 8, 130, 9999)), (2, 150, (7, 8, 9)), (3, 0, (300, 7))
+    edits = [
+        (1, 2, 7, 1, 100, 130), (3, 3, 7, 8, 142, 150, 2, 1, 12), (2, 16, 7, 1, 0, 5, 2, 5, 131), (6, 3, 7, 2, 142, 2879),
+        (7, 2, 7, 99), (8, 2, 7, 131), (9, 2, four), (9, 3, three), (9, 3, two), (10, 3, three), (5, 3, 7, 2), (4, 16, 7, 2),
+        (11, 7),
+    ]
+    visits = {
+        (2, 7): Visit(1, 100, 130, (16, 5), (3, 1, 12), 1, 0),
+        (2, 300): Visit(2, 90, 2879, None, (3, 1, 240), 0, 0),
+        (3, 7): Visit(8, 142, 142, (2, 1), None, 1, 1),
+        (16, 7): Visit(1, 0, 5, None, (2, 5, 131)),
+    }
+    relations = {2: [four, three, (2, 150, (7, 8, 10))], 3: [two, (3, 0, (300, 8))], 16: [three]}
+    return {"shift": Shift(network, edits), "inspect": Inspect(network, visits, relations)}
+
+
+def sweep():
+    """Every end of the rich files, and every single number of them at fault or at the ends of its range."""
+    for program, good in rich_files().items():
+        draft, data = good.draft, good.draft.bytes()
+        yield program, "whole", data, None
+        for end in range(len(data)):
+            yield program, f"first {end} bytes", data[:end], must(1, end)
+        for index, (value, (low, high)) in enumerate(zip(draft.values, draft.ranges)):
+            place, spelling = draft.place(index), encode(value)
+            longer = spelling[:-1] + bytes([spelling[-1] | 0x80, 0])
+            yield program, f"number {index} longer", draft.bytes_with(index, longer), must(2, place)
+            yield program, f"number {index} with a third byte", draft.bytes_with(index, b"\x80\x80\x80"), must(2, place)
+            for other in sorted({low - 1, low, high, high + 1} - {-1, value}):
+                changed = draft.copy()
+                changed.values[index] = other
+                yield program, f"number {index} as {other}", changed.bytes(), None if low <= other <= high else must(3, place)

@@ -256,7 +256,8 @@ def main():
                        "--inspect", programs["inspect"]]
             if name.startswith("REORDERED"):
                 command += ["--reference-shift", programs["shift"], "--reference-inspect", programs["inspect"], "--files", "0"]
-            run = subprocess.run(command, stdout=subprocess.PIPE, stderr=subprocess.STDOUT, text=True)
+            run = subprocess.run(command, stdout=subprocess.PIPE, stderr=subprocess.STDOUT, text=True,
+                                 env={**os.environ, "TMPDIR": folder})
             found = run.returncode == 1 and "DIFFERENCE" in run.stdout
             first = run.stdout.split("\n")[1].strip() if found else "NOT FOUND"
             print(f"{name}: {first}", flush=True)

@@ -18,12 +18,20 @@ def in_order(relations):
     return [(at, one) for at in sorted(relations) for one in sorted(relations[at], key=relation_key)]
 
 
+class Placer(Picture):
+    """A picture that is filled without edits."""
+
+    def track_known(self, station):
+        return self.r.randint(1, self.r.choice([1, self.network.stations[station][1]]))
+
+
 def make_journeys(r, network, picture, count, ring):
     """Trains along lines, their links answered, some round in a ring."""
     for train in picture.trains[:count]:
         at = r.choice(list(network.stations))
         arrival = picture.time()
         stations = [at]
+        line = run = None
         length = r.choice([1, 2, 3, 4, 16])
         while True:
             if sum(key[0] == at for key in picture.visits) >= 24 or (at, train) in picture.visits:
@@ -31,8 +39,8 @@ def make_journeys(r, network, picture, count, ring):
             departure = picture.stay(arrival)
             visit = picture.visits[at, train] = Visit(picture.track_known(at), arrival, departure)
             if len(stations) > 1:
-                visit.before = (stations[-2], line)  # noqa: F821 (set when the journey went on)
-                picture.visits[stations[-2], train].after = (at, line, run)  # noqa: F821
+                visit.before = (stations[-2], line)
+                picture.visits[stations[-2], train].after = (at, line, run)
             ways = network.out_of(at)
             home = [way for way in ways if way[1] == stations[0]]
             if ring and home and len(stations) > 1 and r.random() < 0.7:
@@ -48,11 +56,6 @@ def make_journeys(r, network, picture, count, ring):
             stations.append(at)
             arrival = clamp(departure + run, TIME)
             arrival = arrival if r.random() < 0.7 else picture.near(arrival)
-
-
-class Placer(Picture):
-    def track_known(self, station):
-        return self.r.randint(1, self.r.choice([1, self.network.stations[station][1]]))
 
 
 def loosen(r, network, picture, much):

@@ -146,12 +146,18 @@ class Picture:
         return (kind, at, train, far)
 
     def delete_wrongly(self):
+        """Mostly a deletion at an end that is none, or towards a station that isn't next."""
         if not self.visits:
             return None
         at, train = self.r.choice(list(self.visits))
+        visit = self.visits[at, train]
+        linked = [(5, visit.before[0])] if visit.before else []
+        linked += [(4, visit.after[0])] if visit.after else []
+        if linked and self.r.random() < 0.6:
+            kind, far = self.r.choice(linked)
+            return (kind, at, train, far)
         others = [station for station, other in self.visits if other == train]
-        far = self.r.choice(others + [self.station()])
-        return (self.r.choice([4, 5]), at, train, far)
+        return (self.r.choice([4, 5]), at, train, self.r.choice(others + [self.station()]))
 
     def amend(self):
         if not self.visits:
@@ -353,9 +359,9 @@ def make_shift(r, index):
     """A good file of `shift`; the index chooses its sort, so that a run of files has all of them."""
     sort = index % 20
     if sort == 0:
-        network = make_network(r, stations=r.choice([1, 2, 2, 2, 3]), tracks=r.choice([1, 2, 8]))
+        network = make_network(r, stations=r.choice([1, 2, 2, 2, 2, 3]), tracks=r.choice([1, 2, 8]))
         picture = Picture(r, network, make_trains(r, 40), width=r.choice([20, 200, 2000]))
-        return Shift(network, make_edits(r, picture, CROWDING, r.randint(60, 160)))
+        return Shift(network, make_edits(r, picture, CROWDING, r.randint(80, 200)))
     if sort == 1 and index % 40 == 1:
         network = make_network(r, stations=r.choice([4, 8, 16]), lines=32, areas=6)
         picture = Picture(r, network, make_trains(r, r.choice([10, 40])), width=r.choice([60, 600]))
