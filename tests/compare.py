@@ -333,6 +333,8 @@ def main():
     jobs = jobs if options.files else []
     jobs += [("file", index) for index in range(options.files)]
     jobs += [("orders", index) for index in range(-(-options.reorderings // ORDERS_PER_FILE))]
+    # Mixed, so that a difference of whatever sort shows early.
+    random.Random(options.seed).shuffle(jobs)
     counts, marks, orders, wrong = collections.Counter(), collections.Counter(), 0, 0
     with multiprocessing.Pool(options.jobs, begin, (options,)) as pool:
         for sort, texts, reached_here, *changed in pool.imap(job, jobs, chunksize=8):

@@ -355,9 +355,37 @@ def journey_of_all(r):
     return Shift(network, edits)
 
 
+def full_station(r):
+    """A full station, and extensions to it that have other faults besides, or none."""
+    full, near, third = stations = r.sample(range(1, 17), 3)
+    tracks = r.randint(1, 7)
+    network = Network(
+        {station: (r.randint(1, 6), tracks) for station in sorted(stations)}, 3,
+        {1: (full, near, 3, 5, 1), 2: (near, third, 3, 5, 1)})
+    trains = make_trains(r, 32)
+    r.shuffle(trains)
+    inside, outside = trains[:24], trains[24:]
+    edits = [(1, full, train, 1, 9 * rank, 9 * rank) for rank, train in enumerate(inside[:r.choice([23, 24, 24])])]
+    for train in outside[:-1]:
+        # At the neighbour alone, or linked with the third station one way or the other.
+        edits.append((1, near, train, 1, 100, 110))
+        linked = r.choice([(), (3, third, train, 1, 120, 121, near, 2, 5), (2, third, train, 1, 80, 81, near, 2, 5)])
+        edits += [linked] if linked else []
+    tries = []
+    for train in r.sample(trains, 8) + outside:
+        track = r.choice([1, 1, 1, tracks + 1])
+        tries.append((r.choice([2, 3]), full, train, track, 90, 91, near, r.choice([1, 1, 1, 1, 2]), 9))
+        tries.append((1, full, train, track, 90, 91))
+    tries += [(11, r.choice(trains)) for _ in range(r.choice([0, 0, 2]))]
+    r.shuffle(tries)
+    return Shift(network, edits + tries)
+
+
 def make_shift(r, index):
     """A good file of `shift`; the index chooses its sort, so that a run of files has all of them."""
     sort = index % 20
+    if sort == 0 and index % 40 == 0:
+        return full_station(r)
     if sort == 0:
         network = make_network(r, stations=r.choice([1, 2, 2, 2, 2, 3]), tracks=r.choice([1, 2, 8]))
         picture = Picture(r, network, make_trains(r, 40), width=r.choice([20, 200, 2000]))
