@@ -23,7 +23,7 @@ import tempfile
 import time
 
 from damage import damage, sweep
-from drafts import Draft, encode
+from drafts import Draft, encode, parse
 from orders import areas_named, reordered
 from timetables import make_inspect
 from traffic import make_rooms, make_shift
@@ -41,11 +41,11 @@ ORDERS_NEEDED = 200
 
 
 def numbers(text):
-    return b"".join(encode(int(word)) for word in text.replace(",", " ").split())
+    return b"".join(map(encode, parse(text)))
 
 
-LISTING = numbers("""2, 1 1 2, 2 2 1, 3, 1, 1 1 2 3 10 1, 4, 1 1 7 1 100 102, 3 2 7 1 115 115 1 1 12, 1 1 7 1 100 102,
-                     9 1 1 5 2 7 9""")
+with open(os.path.join(HERE, "..", "tools", "sample.txt")) as sample:
+    LISTING = numbers(sample.read())
 LISTING_PRINTS = b"E 1 0 0\nE 2 0 0\nE 3 8 0\nE 4 0 0\nF 1 4 1 0\nF 1 9 7 0\nT 2 1 2\nA 3 1 2 0\n"
 NETWORK = "2, 1 1 2, 2 2 2, 3, 1, 1 1 2 3 10 1, "
 

@@ -5,7 +5,7 @@ import sys
 from copy import copy
 
 sys.path.insert(0, os.path.join(os.path.dirname(os.path.abspath(__file__)), "..", "tools"))
-from encode import encode  # noqa: E402
+from encode import encode, parse  # noqa: E402, F401
 
 LONGEST_INPUT = 16384
 LAST_MINUTE = 2879
