@@ -1,0 +1,15 @@
+//! A second implementation of document 01, written from its text alone, on one central timetable.
+//!
+//! It is meant to be compared with, so it is naive on purpose: maps and sets for the state, whole lists of findings that
+//! are collected and sorted, no sheets and no division. Comments quote the sentence of document 01 that a function reads.
+
+pub mod edits;
+pub mod findings;
+pub mod machine;
+pub mod network;
+pub mod number;
+pub mod programs;
+pub mod projection;
+pub mod railway;
+pub mod tally;
+pub mod timetable;

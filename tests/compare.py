@@ -1,0 +1,370 @@
+#!/usr/bin/env python3
+"""Runs generated files through the programs and through the second implementation, and compares what they print.
+
+All comes from one seed:
+ - Files, good and damaged ones of `shift` and of `inspect`, examples of document 01, and every single fault in one small file
+   of each program: both outputs must be equal byte for byte. Where it is known what must be printed, both must print that.
+ - Reorderings: a file of edits in an order that keeps the order of every two edits with a common area. Each edit's answer,
+   the findings, the totals and the tally must be those of the first order.
+ - The second implementation's outputs tell what was reached: every refusal, every rule, every limit has to be. They must also
+   be sound: findings rising, each once among the areas and pairs, the tally fitting, the timetable written as it was read.
+
+The exit status is 1 if anything differs, is unsound or was never reached. Files of a difference are kept in a temporary folder.
+"""
+
+import argparse
+import collections
+import multiprocessing
+import os
+import random
+import subprocess
+import sys
+import tempfile
+import time
+
+from damage import damage, sweep
+from drafts import Draft, encode, parse
+from orders import areas_named, reordered
+from timetables import make_inspect
+from traffic import make_rooms, make_shift
+
+HERE = os.path.dirname(os.path.abspath(__file__))
+BUILT = os.path.join(HERE, "..", "reference", "target", "release")
+
+# Reorderings that change the order, of one file.
+ORDERS_PER_FILE = 4
+# So many must have changed the order (demand 3), unless fewer were asked for.
+ORDERS_NEEDED = 200
+
+
+# --------------------------------------------------------------------------------------------------------- fixed files
+
+
+def numbers(text):
+    return b"".join(map(encode, parse(text)))
+
+
+with open(os.path.join(HERE, "..", "tools", "sample.txt")) as sample:
+    LISTING = numbers(sample.read())
+LISTING_PRINTS = b"E 1 0 0\nE 2 0 0\nE 3 8 0\nE 4 0 0\nF 1 4 1 0\nF 1 9 7 0\nT 2 1 2\nA 3 1 2 0\n"
+NETWORK = "2, 1 1 2, 2 2 2, 3, 1, 1 1 2 3 10 1, "
+
+# Name, program, bytes, and what they print or none. The letters are document 01's examples.
+FIXED = [
+    ("the listing", "shift", LISTING, LISTING_PRINTS),
+    ("(b)", "shift", b"\x80\0", b"R 2 0\n"),
+    ("(b) in a timetable", "inspect", b"\x80\0", b"R 2 0\n"),
+    ("no bytes", "shift", b"", b"R 1 0\n"),
+    ("no bytes of a timetable", "inspect", b"", b"R 1 0\n"),
+    ("no edits", "shift", numbers(NETWORK + "0"), b"T 0 0 0\nA 0 0 0 0\n"),
+    ("no visits", "inspect", numbers(NETWORK + "0, 0"), b"T 0 0 0\nW 1\n"),
+    ("(c) found", "shift", numbers(NETWORK + "2, 1 1 7 1 100 102, 1 1 8 1 102 104"),
+     b"E 1 0 0\nE 2 0 0\nF 1 2 7 8\nT 2 0 1\nA 2 0 2 0\n"),
+    ("(c) not found", "shift", numbers(NETWORK + "2, 1 1 7 1 100 102, 1 1 8 1 103 104"),
+     b"E 1 0 0\nE 2 0 0\nT 2 0 0\nA 2 0 2 0\n"),
+    ("(d) found", "inspect", numbers(NETWORK + "2, 1 7 1 100 0 102 0 0 2 1 12, 1 8 2 100 0 104 0 0 2 1 12, 0"), None),
+    ("(d) not found", "inspect", numbers(NETWORK + "2, 1 7 1 100 0 102 0 0 2 1 12, 1 8 2 100 0 105 0 0 2 1 12, 0"), None),
+    ("(e) met", "shift", numbers(NETWORK + "3, 1 1 7 1 100 110, 1 1 8 2 105 112, 9 1 1 5 2 7 8"),
+     b"E 1 0 0\nE 2 0 0\nE 3 0 0\nT 2 1 0\nA 3 0 2 0\n"),
+    ("(e) unmet", "shift", numbers(NETWORK + "3, 1 1 7 1 100 110, 1 1 8 2 106 112, 9 1 1 5 2 7 8"),
+     b"E 1 0 0\nE 2 0 0\nE 3 0 0\nF 1 4 1 0\nT 2 1 1\nA 3 0 2 0\n"),
+    ("(f) met, and (g)", "shift", numbers(NETWORK + "3, 1 1 7 1 100 104, 9 1 3 4 2 7 7, 11 9"),
+     b"E 1 0 0\nE 2 0 0\nE 3 0 0\nT 1 1 0\nA 3 0 1 0\n"),
+    ("(f) unmet, and (g)", "shift", numbers(NETWORK + "3, 1 1 7 1 100 103, 9 1 3 4 2 7 7, 11 9"),
+     b"E 1 0 0\nE 2 0 0\nE 3 0 0\nF 1 4 1 0\nT 1 1 1\nA 3 0 1 0\n"),
+    ("(h)", "shift", numbers(NETWORK + "3, 9 1 1 5 3 7 8 9, 9 1 1 5 2 7 8, 11 9"),
+     b"E 1 0 0\nE 2 0 0\nE 3 0 0\nF 1 4 1 0\nT 0 1 1\nA 3 0 0 0\n"),
+    ("(i) found", "inspect", numbers(NETWORK + "2, 1 7 1 90 0 100 0 0 2 1 12, 1 8 2 90 0 111 0 0 2 1 12, 0"), None),
+    ("(i) not found", "inspect", numbers(NETWORK + "2, 1 7 1 90 0 100 0 0 2 1 12, 1 8 2 90 0 112 0 0 2 1 12, 0"), None),
+    ("(j) found", "inspect",
+     numbers(NETWORK + "3, 1 7 1 90 0 100 0 0 2 1 12, 1 8 2 100 0 120 0 2 1 0, 2 8 1 70 0 80 0 0 1 1 10, 0"), None),
+    ("(j) not found", "inspect",
+     numbers(NETWORK + "3, 1 7 1 90 0 100 0 0 2 1 12, 1 8 2 99 0 120 0 2 1 0, 2 8 1 70 0 80 0 0 1 1 10, 0"), None),
+    ("(k)", "shift", numbers(NETWORK + "25, " + ", ".join(f"1 1 {train} 1 {9 * train} {9 * train}" for train in range(1, 26))),
+     b"".join(b"E %d 0 0\n" % edit for edit in range(1, 25)) + b"E 25 12 0\nT 24 0 0\nA 24 1 24 0\n"),
+]
+
+# Single faults at every number of one file of each program.
+SWEEP = list(sweep())
+
+
+# ---------------------------------------------------------------------------------------------------------------- runs
+
+
+def run(program, data):
+    """What a program prints, and a word about how it ended if it ended badly."""
+    try:
+        done = subprocess.run([program], input=data, stdout=subprocess.PIPE, stderr=subprocess.DEVNULL, timeout=OPTIONS.timeout)
+    except subprocess.TimeoutExpired:
+        return b"", f"no end within {OPTIONS.timeout} seconds"
+    # A death by a signal is no ending; nor is a panic.
+    ended = f"exit status {done.returncode}" if done.returncode < 0 or done.returncode == 101 else ""
+    return done.stdout, ended
+
+
+def first_difference(one, other):
+    """The first differing line of two outputs, as (number from 1, line, line)."""
+    ones, others = one.split(b"\n"), other.split(b"\n")
+    for count in range(max(len(ones), len(others))):
+        pair = [lines[count].decode(errors="replace") if count < len(lines) else "(ends)" for lines in (ones, others)]
+        if pair[0] != pair[1]:
+            return count + 1, pair[0], pair[1]
+    return 0, "", ""
+
+
+def differences(name, wanted):
+    """Compares outputs by pairs: wanted lists (what, output, what, output); gives a text for each pair that differs."""
+    found = []
+    for what, one, other_what, other in wanted:
+        if one != other:
+            line, mine, yours = first_difference(one, other)
+            found.append(f"{name}: output line {line} differs\n    {what}: {mine}\n    {other_what}: {yours}")
+    return found
+
+
+def save(name, data):
+    os.makedirs(OPTIONS.save, exist_ok=True)
+    path = os.path.join(OPTIONS.save, name.replace(" ", "-").replace("(", "").replace(")", "").replace(",", ""))
+    with open(path, "wb") as file:
+        file.write(data)
+    return path
+
+
+def compare(name, program, data, expected, edits=None):
+    """One file through both programs. Gives (texts of differences, what was reached)."""
+    mine, ended = run(OPTIONS.programs[program], data)
+    theirs, their_end = run(OPTIONS.references[program], data)
+    wanted = [("program", mine, "reference", theirs)]
+    if expected is not None:
+        wanted.append(("reference", theirs, "must print", expected))
+        wanted.append(("program", mine, "must print", expected))
+    texts = differences(name, wanted)
+    texts += [f"{name}: reference: {fault}" for fault in unsound(program, theirs)]
+    texts += [f"{name}: {who}: {how}" for who, how in (("program", ended), ("reference", their_end)) if how]
+    if texts:
+        texts.append(f"    the file: {save(name, data)}")
+    return texts, reached(program, theirs, edits)
+
+
+def unsound(program, output):
+    """What document 01 says of any output, whatever was read: a check of the second implementation itself."""
+    rows = collections.defaultdict(list)
+    for line in output.decode().splitlines():
+        letter, *rest = line.split()
+        rows[letter].append(list(map(int, rest)))
+    if rows["R"]:
+        return [] if output.count(b"\n") == 1 else ["prints more than the refusal"]
+    faults = []
+    (visits, _, findings), = rows["T"]
+    if any(one >= other for one, other in zip(rows["F"], rows["F"][1:])) or len(rows["F"]) != findings:
+        faults.append("findings do not rise, or are miscounted")
+    if program == "shift":
+        (accepted, refused, added, removed), = rows["A"]
+        if added - removed != visits or accepted + refused != len(rows["E"]):
+            faults.append("the tally does not fit")
+    else:
+        parts = [row[1:] for row in rows["D"]] + [row[2:] for row in rows["P"]]
+        if sorted(parts) != rows["F"]:
+            faults.append("the areas' and pairs' findings are not each central finding once")
+        if rows["W"] != [[1]]:
+            faults.append("a timetable is written otherwise than it was read")
+    return faults
+
+
+# ------------------------------------------------------------------------------------------------------------- reached
+
+RULES_ACROSS = range(7, 11)
+# What can be refused to each kind of edit, by number; 0 is an accepted one.
+ANSWERS = {
+    1: (0, 7, 8, 12), 2: (0, 7, 8, 9, 10, 12), 3: (0, 7, 8, 9, 10, 12), 4: (0, 7, 9, 10), 5: (0, 7, 9, 10), 6: (0, 7, 9, 11),
+    7: (0, 7, 9), 8: (0, 7, 9), 9: (0, 7, 8, 12), 10: (0, 7, 9), 11: (0,),
+}
+# All that a run has to reach. Rules 7 and 8 never occur in `shift`: from an empty timetable every link stays answered.
+TO_REACH = (
+    [f"shift R {refusal}" for refusal in range(1, 6)]
+    + [f"shift E {refusal}" for refusal in (0, 7, 8, 9, 10, 11, 12)]
+    + [f"shift edit {kind} answer {refusal}" for kind in ANSWERS for refusal in ANSWERS[kind]]
+    + [f"shift F rule {rule}" for rule in (1, 2, 3, 4, 5, 6, 9, 10)]
+    + ["shift 2 or more removed", "shift 16 removed", "shift 1000 edits"]
+    + [f"inspect R {refusal}" for refusal in (1, 2, 3, 4, 5, 7, 12)]
+    + [f"inspect {letter} rule {rule}" for letter in "FD" for rule in range(1, 11)]
+    + [f"inspect P rule {rule}" for rule in RULES_ACROSS]
+    + ["inspect 16 rows", "inspect early", "inspect late", "inspect beyond the last minute", "inspect written again"]
+    + ["inspect 384 visits", "inspect 96 relations"]
+)
+
+
+def reached(program, output, edits):
+    """What a file reached, by the reference's output; each counts once in a file."""
+    marks = set()
+    rows = collections.Counter()
+    for line in output.decode().splitlines():
+        letter, *rest = line.split()
+        rest = list(map(int, rest))
+        if letter == "R":
+            marks.add(f"R {rest[0]}")
+        elif letter == "E":
+            marks.add(f"E {rest[1]}")
+            if edits is not None:
+                marks.add(f"edit {edits[rest[0] - 1][0]} answer {rest[1]}")
+            if rest[2] >= 2:
+                marks.add("2 or more removed")
+            if rest[2] == 16:
+                marks.add("16 removed")
+            if rest[0] == 1000:
+                marks.add("1000 edits")
+        elif letter in "FDP":
+            marks.add(f"{letter} rule {rest[-3]}")
+        elif letter == "T":
+            if rest[0] == 384:
+                marks.add("384 visits")
+            if rest[1] == 96:
+                marks.add("96 relations")
+        elif letter == "J":
+            rows[tuple(rest[:2])] += 1
+            if rest[5]:
+                marks.add("late" if rest[5] > 0 else "early")
+            if rest[3] > 2879:
+                marks.add("beyond the last minute")
+        elif letter == "W" and rest == [1]:
+            marks.add("written again")
+    if 16 in rows.values():
+        marks.add("16 rows")
+    return {f"{program} {mark}" for mark in marks}
+
+
+# ---------------------------------------------------------------------------------------------------------------- jobs
+
+
+def do_fixed(index):
+    name, program, data, expected = FIXED[index]
+    return ("fixed files", *compare(name, program, data, expected))
+
+
+def do_sweep(index):
+    program, what, data, expected = SWEEP[index]
+    return ("files of the sweep", *compare(f"{program} sweep {what}", program, data, expected))
+
+
+def do_file(index):
+    """`shift` and `inspect` take turns, and so do good and damaged files."""
+    r = random.Random(f"{OPTIONS.seed} file {index}")
+    program, damaged, rank = "shift" if index % 2 == 0 else "inspect", index // 2 % 2 == 1, index // 4
+    sort = r.randrange(1000) if damaged else rank
+    good = make_shift(r, sort) if program == "shift" else make_inspect(r, sort)
+    name = f"{program} seed {OPTIONS.seed} file {index}"
+    if not damaged:
+        return (f"good files of {program}", *compare(name, program, good.draft.bytes(), None, getattr(good, "edits", None)))
+    data, expected = damage(r, good, rank)
+    return (f"damaged files of {program}", *compare(name + " damaged", program, data, expected))
+
+
+def do_orders(index):
+    """One file of edits, and reorderings of it."""
+    r = random.Random(f"{OPTIONS.seed} order {index}")
+    good = make_rooms(r)
+    name = f"shift seed {OPTIONS.seed} order {index}"
+    data = good.draft.bytes()
+    texts, marks = compare(name, "shift", data, None, good.edits)
+    first, _ = run(OPTIONS.programs["shift"], data)
+    lines = first.decode(errors="replace").splitlines()
+    answers = [line.split()[2:] for line in lines if line.startswith("E ")]
+    if texts or len(answers) != len(good.edits):
+        return "first orders", texts, marks, 0
+    named = [areas_named(good.network, edit, int(answer[0])) for edit, answer in zip(good.edits, answers)]
+    tail = [line for line in lines if not line.startswith("E ")]
+    seen = {tuple(range(len(named)))}
+    for attempt in range(3 * ORDERS_PER_FILE):
+        if len(seen) > ORDERS_PER_FILE:
+            break
+        order = tuple(reordered(r, named))
+        draft = Draft()
+        draft.put_network(good.network)
+        draft.put_edits([good.edits[at] for at in order])
+        if order in seen or draft.bytes() == data:
+            continue
+        seen.add(order)
+        # The edit that stood at a position has the same answer where it stands now; all else is as it was.
+        expected = [" ".join(["E", str(rank), *answers[at]]) for rank, at in enumerate(order, 1)] + tail
+        expected = "".join(line + "\n" for line in expected).encode()
+        output, ended = run(OPTIONS.programs["shift"], draft.bytes())
+        found = differences(f"{name} reordering {attempt}", [("reordered", output, "as in the first order", expected)])
+        found += [f"{name} reordering {attempt}: program: {ended}"] if ended else []
+        if found:
+            found.append(f"    the first order: {save(name, data)}")
+            found.append(f"    the reordering: {save(f'{name} reordering {attempt}', draft.bytes())}")
+        texts += found
+    return "first orders", texts, marks, len(seen) - 1
+
+
+def job(one):
+    what, index = one
+    return {"fixed": do_fixed, "sweep": do_sweep, "file": do_file, "orders": do_orders}[what](index)
+
+
+def begin(options):
+    global OPTIONS
+    OPTIONS = options
+
+
+def main():
+    parser = argparse.ArgumentParser(description=__doc__, formatter_class=argparse.RawDescriptionHelpFormatter)
+    parser.add_argument("--shift", required=True, help="the program `shift`")
+    parser.add_argument("--inspect", required=True, help="the program `inspect`")
+    parser.add_argument("--reference-shift", default=os.path.join(BUILT, "shift"), help="the second implementation's")
+    parser.add_argument("--reference-inspect", default=os.path.join(BUILT, "inspect"), help="the second implementation's")
+    parser.add_argument("--seed", type=int, default=1, help="default 1")
+    parser.add_argument("--files", type=int, default=2400, help="generated files, default 2400; none: only reorderings")
+    parser.add_argument("--reorderings", type=int, default=400, help="reorderings that change the order, about; default 400")
+    parser.add_argument("--jobs", type=int, default=2, help="processes, default 2")
+    parser.add_argument("--stop", action="store_true", help="stop at the first difference")
+    parser.add_argument("--timeout", type=float, default=60, help="seconds for one run of a program, default 60")
+    options = parser.parse_args()
+    options.programs = {"shift": os.path.abspath(options.shift), "inspect": os.path.abspath(options.inspect)}
+    options.references = {
+        "shift": os.path.abspath(options.reference_shift), "inspect": os.path.abspath(options.reference_inspect)}
+    for path in [*options.programs.values(), *options.references.values()]:
+        if not os.access(path, os.X_OK):
+            parser.error(f"{path} is no program")
+    options.save = os.path.join(tempfile.gettempdir(), f"compare-{os.getpid()}")
+
+    began = time.time()
+    jobs = [("fixed", index) for index in range(len(FIXED))] + [("sweep", index) for index in range(len(SWEEP))]
+    jobs = jobs if options.files else []
+    jobs += [("file", index) for index in range(options.files)]
+    jobs += [("orders", index) for index in range(-(-options.reorderings // ORDERS_PER_FILE))]
+    # Mixed, so that a difference of whatever sort shows early.
+    random.Random(options.seed).shuffle(jobs)
+    counts, marks, orders, wrong = collections.Counter(), collections.Counter(), 0, 0
+    with multiprocessing.Pool(options.jobs, begin, (options,)) as pool:
+        for sort, texts, reached_here, *changed in pool.imap(job, jobs, chunksize=8):
+            counts[sort] += 1
+            marks.update(reached_here)
+            orders += sum(changed)
+            if texts:
+                wrong += 1
+                print("DIFFERENCE", *texts, sep="\n  ", flush=True)
+                if options.stop:
+                    return 1
+
+    print(f"seed {options.seed}, {time.time() - began:.0f} seconds")
+    for sort, count in sorted(counts.items()):
+        print(f"{count:6} {sort}")
+    print(f"{orders:6} reorderings that change the order")
+    print("Reached, in so many files:")
+    for mark in TO_REACH:
+        print(f"{marks[mark]:6} {mark}")
+    for mark in sorted(set(marks) - set(TO_REACH)):
+        print(f"{marks[mark]:6} {mark} (not asked for)")
+    missed = [mark for mark in TO_REACH if not marks[mark]]
+    if missed:
+        print("NEVER REACHED:", ", ".join(missed))
+    too_few = orders < min(ORDERS_NEEDED, options.reorderings)
+    if too_few:
+        print(f"TOO FEW REORDERINGS: {orders}")
+    print(f"{sum(counts.values())} files and {orders} reorderings compared, {wrong} with a difference")
+    return 1 if wrong or missed or too_few else 0
+
+
+if __name__ == "__main__":
+    sys.exit(main())

@@ -1,0 +1,330 @@
+"""Damaged files, each with the output that it must give where the damage alone tells it."""
+
+from drafts import LONGEST_INPUT, Draft, Network, encode
+from timetables import Inspect, in_order
+from traffic import Shift, Visit
+
+
+def damage(r, good, index):
+    """A damaged file from a good one: its bytes and the output that it must give, or none where that is left open."""
+    ways = [truncated, surplus, longer_spelling, third_byte, out_of_range, out_of_order, trains_out_of_order, bad_ends,
+            changed_bytes, two_faults, oversize, ends_and_more]
+    if isinstance(good, Inspect):
+        ways += [unknown, out_of_order, unknown, over_limit, limit_and_unknown, relation_at_unlisted]
+    data, expected = ways[index % len(ways)](r, good)
+    return data, expected
+
+
+def must(refusal, place):
+    return f"R {refusal} {place}\n".encode()
+
+
+def truncated(r, good):
+    data = good.draft.bytes()
+    end = r.choice([r.randrange(len(data)), len(data) - 1, r.randrange(min(len(data), 20))])
+    return data[:end], must(1, end)
+
+
+def surplus(r, good):
+    data = good.draft.bytes()
+    more = bytes(r.choice([0, 1, 0x80, 0xFF, r.randrange(256)]) for _ in range(r.choice([1, 1, 2, 3, 50])))
+    return data + more, must(1, len(data))
+
+
+def longer_spelling(r, good):
+    """A number with a last group of 0."""
+    draft = good.draft
+    index = draft.any_index(r)
+    spelling = encode(draft.values[index])
+    longer = spelling[:-1] + bytes([spelling[-1] | 0x80]) + (b"\0" if r.random() < 0.6 or len(spelling) == 2 else b"\x80\0")
+    data, place = draft.bytes_with(index, longer), draft.place(index)
+    if r.random() < 0.2:
+        data = data[:place + len(longer)]
+    return data, must(2, place)
+
+
+def third_byte(r, good):
+    """A third byte with the top bit set, perhaps the file's last."""
+    draft = good.draft
+    index = draft.any_index(r)
+    spelling = bytes(r.choice([0x80, 0xFF, r.randrange(0x80, 0x100)]) for _ in range(3))
+    place = draft.place(index)
+    data = draft.bytes_with(index, spelling + r.choice([b"", b"\0", b"\x01", b"\x80\x01"]))
+    if r.random() < 0.4:
+        data = data[:place + 3]
+    return data, must(2, place)
+
+
+def fault_in(r, draft, index, fault):
+    """A draft with a value that is at fault; what stands behind it may be anything, or be gone."""
+    draft = draft.copy()
+    draft.values[index] = fault
+    place = draft.place(index)
+    data = draft.bytes()
+    if r.random() < 0.15:
+        data = data[:place + len(encode(fault))]
+    elif r.random() < 0.15:
+        data += b"\x80\0"
+    return data, must(3, place)
+
+
+def out_of_range(r, good):
+    draft = good.draft
+    index = draft.any_index(r)
+    if r.random() < 0.6:
+        # Numbers of which a file has few, such as the headway, have their turn as often as others.
+        bounds = r.choice(sorted(set(draft.ranges)))
+        index = r.choice([at for at, one in enumerate(draft.ranges) if one == bounds])
+    low, high = draft.ranges[index]
+    faults = [high + 1, high + 1, r.randint(high + 1, 2097151), 2097151] + ([low - 1, low - 1] if low > 0 else [])
+    return fault_in(r, draft, index, r.choice(faults))
+
+
+def out_of_order(r, good):
+    """An entry that falls at some number of its key, or that is equal to the one before."""
+    groups = [group for group in good.draft.groups if len(group) > 1]
+    if not groups:
+        return out_of_range(r, good)
+    group = r.choice(groups)
+    rank = r.randrange(1, len(group))
+    before, now = group[rank - 1], group[rank]
+    draft = good.draft.copy()
+    key = [draft.values[index] for index in before]
+    if r.random() < 0.3:
+        at, fault = len(key) - 1, key[-1]
+    else:
+        lows = [draft.ranges[index][0] for index in before]
+        falling = [at for at, value in enumerate(key) if value > lows[at]]
+        if not falling:
+            return out_of_range(r, good)
+        at = r.choice(falling)
+        fault = r.choice([key[at] - 1, r.randint(lows[at], key[at] - 1)])
+    # The key of the entry before up to the fault, in place of as many numbers of this entry's own.
+    behind = now[min(at, len(now) - 1)] + 1
+    draft.values = draft.values[:now[0]] + key[:at] + [fault] + draft.values[behind:]
+    return fault_in(r, draft, now[0] + at, fault)
+
+
+def trains_out_of_order(r, good):
+    """Within a connection or disconnection a train that isn't above the one before it."""
+    draft = good.draft
+    rising = [trains for _, trains, rises in draft.relations if rises]
+    if not rising:
+        return out_of_range(r, good)
+    trains = r.choice(rising)
+    rank = r.randrange(1, len(trains))
+    before = draft.values[trains[rank - 1]]
+    return fault_in(r, draft, trains[rank], r.choice([before, before, r.randint(1, before)]))
+
+
+def with_bad_ends(r, good):
+    """A draft with bad ends of some lines, and the first byte of the first such line; none if it has no lines."""
+    draft = good.draft.copy()
+    if not draft.lines:
+        return None
+    unlisted = [number for number in range(1, 17) if number not in good.network.stations]
+    chosen = sorted(r.sample(draft.lines, min(len(draft.lines), r.choice([1, 1, 2]))))
+    for index in chosen:
+        what = r.randrange(3)
+        if what == 0 or not unlisted:
+            draft.values[index + 2] = draft.values[index + 1]
+        else:
+            draft.values[index + what] = r.choice(unlisted)
+    return draft, draft.place(chosen[0])
+
+
+def bad_ends(r, good):
+    bad = with_bad_ends(r, good)
+    return (bad[0].bytes(), must(4, bad[1])) if bad else truncated(r, good)
+
+
+def ends_and_more(r, good):
+    """Bad ends and another fault, which comes first wherever it stands."""
+    bad = with_bad_ends(r, good)
+    if not bad:
+        return surplus(r, good)
+    data = bad[0].bytes()
+    if r.random() < 0.5:
+        return data + b"\0", must(1, len(data))
+    end = r.randrange(bad[1], len(data))
+    return data[:end], must(1, end)
+
+
+def changed_bytes(r, good):
+    """Bytes changed, dropped or put in anywhere: what comes of it is left to the programs."""
+    data = bytearray(good.draft.bytes())
+    for _ in range(r.choice([1, 1, 1, 2, 3])):
+        at = r.randrange(len(data)) if data else 0
+        what = r.randrange(4)
+        if what == 0 and data:
+            data[at] ^= 1 << r.randrange(8)
+        elif what == 1 and data:
+            data[at] = r.randrange(256)
+        elif what == 2 and data:
+            del data[at]
+        else:
+            data.insert(at, r.choice([0, 1, 2, 0x80, r.randrange(256)]))
+    return bytes(data), None
+
+
+def two_faults(r, good):
+    """Two numbers out of range: the first by place decides."""
+    draft = good.draft.copy()
+    indices = sorted(r.sample(range(len(draft.values)), 2))
+    for index in indices:
+        draft.values[index] = draft.ranges[index][1] + r.choice([1, 1, 200])
+    return draft.bytes(), must(3, draft.place(indices[0]))
+
+
+def oversize(r, good):
+    data = good.draft.bytes()
+    if r.random() < 0.3:
+        data = bytes(r.randrange(256) for _ in range(20))
+    length = r.choice([LONGEST_INPUT, LONGEST_INPUT + 1, LONGEST_INPUT + 1, LONGEST_INPUT + 2, 20000, 49152, 70000])
+    data += bytes(r.choice([b"\0", b"\1", b"\x80"]) * (length - len(data)))
+    return data, must(5, 0) if length > LONGEST_INPUT else None
+
+
+def unknown(r, good):
+    """A visit with a track, a line or a station that the network doesn't have, or a line that doesn't run that way."""
+    draft, network = good.draft.copy(), good.network
+    if not draft.visits:
+        return out_of_range(r, good)
+    first, track, before, after = r.choice(draft.visits)
+    station = draft.values[first]
+    tracks = network.stations[station][1]
+    what = r.randrange(3)
+    if what == 1 and draft.values[before]:
+        wrong = [(line, far) for line in range(1, 33) for far in range(1, 17) if (line, far, station) not in network.ways]
+        change(r, draft, before, wrong)
+    elif what == 2 and draft.values[after]:
+        wrong = [(line, far) for line in range(1, 33) for far in range(1, 17) if (line, station, far) not in network.ways]
+        change(r, draft, after, wrong)
+    elif tracks < 8:
+        draft.values[track] = r.randint(tracks + 1, 8)
+    else:
+        return out_of_range(r, good)
+    return draft.bytes(), must(7, draft.place(first))
+
+
+def change(r, draft, index, wrong):
+    """Another line or another far station of a link; the nearer mistakes are chosen more often."""
+    far, line = draft.values[index:index + 2]
+    near = [pair for pair in wrong if pair[0] == line or pair[1] == far]
+    line, far = r.choice(near if near and r.random() < 0.8 else wrong)
+    draft.values[index:index + 2] = far, line
+
+
+def crowded(r, good, station, extra):
+    """The visits with more than 24 at a station; the first byte of the 25th is found by `entry_of`."""
+    visits = dict(good.visits)
+    here = {train for at, train in visits if at == station}
+    while len(here) < 24 + extra:
+        train = r.randint(1, 9999)
+        if train not in here:
+            here.add(train)
+            visits[station, train] = Visit(1, 100, 100)
+    return visits
+
+
+def remade(good, visits, relations):
+    draft = Draft()
+    draft.put_network(good.network)
+    draft.put_timetable(visits, relations)
+    return draft
+
+
+def entry_of(draft, station, rank):
+    """The index of the rank-th visit entry (from 1) of a station."""
+    return [entry for entry in draft.visits if draft.values[entry[0]] == station][rank - 1]
+
+
+def over_limit(r, good):
+    """The 25th visit, or the 7th relation, of a station."""
+    station = r.choice(list(good.network.stations))
+    if r.random() < 0.5:
+        visits = crowded(r, good, station, r.choice([1, 1, 2, 5]))
+        if len(visits) > 384:
+            return out_of_range(r, good)
+        draft = remade(good, visits, [])
+        return draft.bytes(), must(12, draft.place(entry_of(draft, station, 25)[0]))
+    relations = set()
+    while len(relations) < r.choice([7, 7, 8, 10]):
+        relations.add((r.choice([1, 2]), r.randint(0, 9), tuple(sorted(r.sample(range(1, 300), r.choice([2, 3, 4]))))))
+        relations.add((3, r.randint(0, 9), (r.randint(1, 300), r.randint(1, 300))))
+    lower = [at for at in good.network.stations if at < station]
+    before = [(r.choice(lower), (3, 1, (1, 1)))] if lower and r.random() < 0.5 else []
+    draft = remade(good, good.visits, before + in_order({station: relations}))
+    return draft.bytes(), must(12, draft.place(draft.groups[-1][len(before) + 6][0]))
+
+
+def limit_and_unknown(r, good):
+    """7 and 12 in one file: the first entry decides, and 7 within an entry."""
+    station = r.choice(list(good.network.stations))
+    tracks = good.network.stations[station][1]
+    visits = crowded(r, good, station, 3)
+    if tracks == 8 or len(visits) > 384:
+        return over_limit(r, good)
+    draft = remade(good, visits, [])
+    rank = r.choice([1, 23, 24, 25, 26, 27])
+    entry = entry_of(draft, station, rank)
+    draft.values[entry[1]] = tracks + 1
+    if rank <= 25:
+        return draft.bytes(), must(7, draft.place(entry[0]))
+    return draft.bytes(), must(12, draft.place(entry_of(draft, station, 25)[0]))
+
+
+def relation_at_unlisted(r, good):
+    """A relation, or a visit, at a station that isn't listed."""
+    unlisted = [number for number in range(1, 17) if number not in good.network.stations]
+    if not unlisted:
+        return unknown(r, good)
+    station = r.choice(unlisted)
+    if r.random() < 0.3:
+        visits = {**good.visits, (station, 7): Visit(1, 100, 102)}
+        draft = remade(good, visits, [])
+        return draft.bytes(), must(7, draft.place(entry_of(draft, station, 1)[0]))
+    lower = [at for at in good.network.stations if at < station]
+    relations = [(r.choice(lower), (1, 5, (3, 4)))] if lower else []
+    draft = remade(good, good.visits, relations + [(station, (3, 1, (1, 1)))])
+    return draft.bytes(), must(7, draft.place(draft.groups[-1][-1][0]))
+
+
+# ------------------------------------------------------------------------------------------------------------- sweeps
+
+
+def rich_files():
+    """A small file of each program that has every sort of number."""
+    network = Network({2: (1, 2), 3: (6, 8), 16: (1, 1)}, 3, {1: (2, 3, 3, 10, 1), 5: (16, 2, 1, 130, 9), 32: (3, 16, 2, 4, 2)})
+    four, three, two = (1, 5, (7, 8, 130, 9999)), (2, 150, (7, 8, 9)), (3, 0, (300, 7))
+    edits = [
+        (1, 2, 7, 1, 100, 130), (3, 3, 7, 8, 142, 150, 2, 1, 12), (2, 16, 7, 1, 0, 5, 2, 5, 131), (6, 3, 7, 2, 142, 2879),
+        (7, 2, 7, 99), (8, 2, 7, 131), (9, 2, four), (9, 3, three), (9, 3, two), (10, 3, three), (5, 3, 7, 2), (4, 16, 7, 2),
+        (11, 7),
+    ]
+    visits = {
+        (2, 7): Visit(1, 100, 130, (16, 5), (3, 1, 12), 1, 0),
+        (2, 300): Visit(2, 90, 2879, None, (3, 1, 240), 0, 0),
+        (3, 7): Visit(8, 142, 142, (2, 1), None, 1, 1),
+        (16, 7): Visit(1, 0, 5, None, (2, 5, 131)),
+    }
+    relations = {2: [four, three, (2, 150, (7, 8, 10))], 3: [two, (3, 0, (300, 8))], 16: [three]}
+    return {"shift": Shift(network, edits), "inspect": Inspect(network, visits, relations)}
+
+
+def sweep():
+    """Every end of the rich files, and every single number of them at fault or at the ends of its range."""
+    for program, good in rich_files().items():
+        draft, data = good.draft, good.draft.bytes()
+        yield program, "whole", data, None
+        for end in range(len(data)):
+            yield program, f"first {end} bytes", data[:end], must(1, end)
+        for index, (value, (low, high)) in enumerate(zip(draft.values, draft.ranges)):
+            place, spelling = draft.place(index), encode(value)
+            longer = spelling[:-1] + bytes([spelling[-1] | 0x80, 0])
+            yield program, f"number {index} longer", draft.bytes_with(index, longer), must(2, place)
+            yield program, f"number {index} with a third byte", draft.bytes_with(index, b"\x80\x80\x80"), must(2, place)
+            for other in sorted({low - 1, low, high, high + 1} - {-1, value}):
+                changed = draft.copy()
+                changed.values[index] = other
+                yield program, f"number {index} as {other}", changed.bytes(), None if low <= other <= high else must(3, place)

@@ -1,0 +1,182 @@
+"""Files as drafts: their numbers with the ranges of document 01, and where damage can be done. Networks."""
+
+import os
+import sys
+from copy import copy
+
+sys.path.insert(0, os.path.join(os.path.dirname(os.path.abspath(__file__)), "..", "tools"))
+from encode import encode, parse  # noqa: E402, F401
+
+LONGEST_INPUT = 16384
+LAST_MINUTE = 2879
+
+# The ranges of document 01, by what a number is.
+STATION, AREA, TRAIN, LINE, TRACK = (1, 16), (1, 6), (1, 9999), (1, 32), (1, 8)
+TIME, INTERVAL, RUN, STATUS = (0, LAST_MINUTE), (0, 240), (1, 240), (0, 1)
+PLAN = (STATION, TRAIN, TRACK, TIME, TIME)
+FIELDS = {
+    1: PLAN,
+    2: PLAN + (STATION, LINE, RUN),
+    3: PLAN + (STATION, LINE, RUN),
+    4: (STATION, TRAIN, STATION),
+    5: (STATION, TRAIN, STATION),
+    6: PLAN,
+    7: (STATION, TRAIN, TIME),
+    8: (STATION, TRAIN, TIME),
+    11: (TRAIN,),
+}
+
+
+def clamp(value, bounds):
+    return max(bounds[0], min(bounds[1], value))
+
+
+class Draft:
+    """A file as its numbers, each with its range, and with the places at which damage can be done."""
+
+    def __init__(self):
+        self.values = []
+        self.ranges = []
+        self.groups = []  # lists of entries that have to rise; an entry is the list of its key's indices
+        self.lines = []  # index of a line's first number
+        self.visits = []  # (index of the first number, index of the track, of the in-link, of the out-link)
+        self.relations = []  # (index of the first number, indices of the trains, whether they rise)
+        self.network_end = 0  # the index behind the network
+
+    def put(self, value, bounds):
+        self.values.append(value)
+        self.ranges.append(bounds)
+        return len(self.values) - 1
+
+    def copy(self):
+        other = Draft()
+        other.__dict__ = {name: copy(value) for name, value in self.__dict__.items()}
+        return other
+
+    def any_index(self, r):
+        """The index of a number anywhere, in the network or near the end."""
+        count = len(self.values)
+        return r.choice([r.randrange(count), r.randrange(self.network_end), count - r.randint(1, min(count, 12))])
+
+    def place(self, index):
+        return sum(len(encode(value)) for value in self.values[:index])
+
+    def bytes(self):
+        return b"".join(map(encode, self.values))
+
+    def bytes_with(self, index, spelling):
+        """The file with one number spelt otherwise."""
+        parts = [encode(value) for value in self.values]
+        parts[index] = spelling
+        return b"".join(parts)
+
+    def put_relation(self, relation):
+        """A relation is (kind, interval, trains). Gives the indices of its numbers."""
+        kind, interval, trains = relation
+        indices = [self.put(kind, (1, 3)), self.put(interval, INTERVAL)]
+        indices.append(self.put(len(trains), (2, 2) if kind == 3 else (2, 4)))
+        at = [self.put(train, TRAIN) for train in trains]
+        self.relations.append((indices[0], at, kind != 3))
+        return indices + at
+
+    def put_network(self, network):
+        self.put(len(network.stations), (1, 16))
+        entries = []
+        for number, (area, tracks) in sorted(network.stations.items()):
+            entries.append([self.put(number, STATION)])
+            self.put(area, AREA)
+            self.put(tracks, TRACK)
+        self.groups.append(entries)
+        self.put(network.headway, (1, 30))
+        self.put(len(network.lines), (0, 32))
+        entries = []
+        for number, (first, second, kind, least, capacity) in sorted(network.lines.items()):
+            index = self.put(number, LINE)
+            self.lines.append(index)
+            entries.append([index])
+            self.put(first, STATION)
+            self.put(second, STATION)
+            self.put(kind, (1, 3))
+            self.put(least, RUN)
+            self.put(capacity, (1, 9))
+        self.groups.append(entries)
+        self.network_end = len(self.values)
+
+    def put_edits(self, edits):
+        self.put(len(edits), (0, 1000))
+        for edit in edits:
+            self.put(edit[0], (1, 11))
+            if edit[0] in (9, 10):
+                self.put(edit[1], STATION)
+                self.put_relation(edit[2])
+            else:
+                for value, bounds in zip(edit[1:], FIELDS[edit[0]], strict=True):
+                    self.put(value, bounds)
+
+    def put_timetable(self, visits, relations):
+        """Visits by (station, train), relations as a list of (station, relation) in the order wanted."""
+        self.put(len(visits), (0, 384))
+        entries = []
+        for (station, train), visit in sorted(visits.items()):
+            key = [self.put(station, STATION), self.put(train, TRAIN)]
+            entries.append(key)
+            track = self.put(visit.track, TRACK)
+            self.put(visit.arrival, TIME)
+            self.put(visit.arrived, STATUS)
+            self.put(visit.departure, TIME)
+            self.put(visit.departed, STATUS)
+            links = []
+            for link, more in ((visit.before, (LINE,)), (visit.after, (LINE, RUN))):
+                links.append(self.put(link[0] if link else 0, (0, 16)))
+                for value, bounds in zip(link[1:] if link else (), more):
+                    self.put(value, bounds)
+            self.visits.append((key[0], track, links[0], links[1]))
+        self.groups.append(entries)
+        self.put(len(relations), (0, 96))
+        entries = []
+        for station, relation in relations:
+            first = self.put(station, STATION)
+            entries.append([first] + self.put_relation(relation))
+        self.groups.append(entries)
+
+
+def relation_key(relation):
+    kind, interval, trains = relation
+    return (kind, interval, len(trains), trains)
+
+
+class Network:
+    def __init__(self, stations, headway, lines):
+        self.stations = stations  # number: (area, tracks)
+        self.headway = headway
+        self.lines = lines  # number: (first, second, kind, least, capacity)
+        self.ways = []  # (line, from, to)
+        for line, (first, second, kind, _, _) in sorted(lines.items()):
+            if kind in (1, 3):
+                self.ways.append((line, first, second))
+            if kind in (2, 3):
+                self.ways.append((line, second, first))
+
+    def out_of(self, station):
+        return [(line, to) for line, start, to in self.ways if start == station]
+
+    def into(self, station):
+        return [(line, start) for line, start, to in self.ways if to == station]
+
+
+def make_network(r, stations=None, areas=None, lines=None, tracks=None):
+    count = stations or r.choice([1, 2, 2, 2, 3, 3, 3, 4, 4, 5, 6, 8, 16])
+    numbers = sorted(r.sample(range(1, 17), count))
+    pool = r.sample(range(1, 7), areas or r.choice([1, 2, 2, 3, 3, 4, 6]))
+    facts = {number: (r.choice(pool), tracks or r.choice([1, 1, 2, 2, 3, 8])) for number in numbers}
+    if lines is None:
+        lines = 0 if count == 1 else r.choice([count - 1, count, count, count + 1, 2 * count, r.randint(0, 32)])
+    lines = min(lines, 32) if count > 1 else 0
+    joined = {}
+    path = r.sample(numbers, count)
+    for rank, line in enumerate(sorted(r.sample(range(1, 33), lines))):
+        # First a path through the stations, so that journeys are long; then any two.
+        first, second = path[rank:rank + 2] if rank + 1 < count and r.random() < 0.9 else r.sample(numbers, 2)
+        least = r.choice([r.randint(1, 6), r.randint(5, 15), r.randint(1, 240) if r.random() < 0.2 else 10])
+        joined[line] = (first, second, r.choice([1, 2, 3, 3, 3]), least, r.choice([1, 1, 1, 2, 2, 3, 9]))
+    return Network(facts, r.choice([1, 2, 3, 3, 5, 10, 30]), joined)

@@ -1,0 +1,271 @@
+#!/usr/bin/env python3
+"""Tries the comparison itself: each deliberate mistake in a copy of the second implementation has to be found by it.
+
+Usage: tests/mutants.py [WORD ...]    only the mistakes whose name has one of the words
+
+The copy is built in a temporary folder. A mistake is found if compare.py reports a difference to the second implementation.
+"""
+
+import os
+import shutil
+import subprocess
+import sys
+import tempfile
+
+HERE = os.path.dirname(os.path.abspath(__file__))
+REFERENCE = os.path.join(HERE, "..", "reference")
+
+# Name, file, what stands there, what stands there instead.
+MUTANTS = [
+    ("any spelling", "number.rs", "byte != 0 || length == 1", "true"),
+    ("four bytes", "number.rs", "GROUPS: usize = 3", "GROUPS: usize = 4"),
+    ("an early end at the number", "number.rs", "place: self.file.len() }", "place }"),
+    ("an early end before a third byte with top bit", "number.rs", "for length in 1..=GROUPS {",
+     "for length in 1..=GROUPS {\n if length == 3 && self.file.len() == self.place + 1 && self.file[self.place] >= 0x80 "
+     "{ return Err(FileRefusal { number: LENGTH, place: self.file.len() }); }"),
+    ("equal entries", "number.rs", "number.value == before[at] && last", "false"),
+    ("falling entries", "number.rs", "let falls = number.value < before[at]", "let falls = last && number.value < before[at]"),
+    ("surplus bytes", "number.rs", "if self.place == self.file.len()", "if true"),
+    ("equal ends", "network.rs", "first == second ||", ""),
+    ("second end unlisted", "network.rs", "|| !self.network.lists(second)", ""),
+    ("first end unlisted", "network.rs", "|| !self.network.lists(first)", ""),
+    ("ends first", "programs.rs", "let edits = edits::read(&mut reader)?;",
+     "part.test_ends()?; let edits = edits::read(&mut reader)?;"),
+    ("station 17", "network.rs", "let number = reader.within(1..=16)?", "let number = reader.within(1..=17)?"),
+    ("headway 31", "network.rs", "1..=30", "1..=31"),
+    ("capacity 10", "network.rs", "1..=9)", "1..=10)"),
+    ("no lines", "network.rs", "0..=32", "1..=32"),
+    ("kind 2 as kind 1", "network.rs", "Direction::SecondToFirst => back", "Direction::SecondToFirst => forth"),
+    ("kind 3 one way", "network.rs", "forth || back", "forth"),
+    ("dependency of three", "edits.rs", "2..=2", "2..=4"),
+    ("equal trains", "edits.rs", "train <= *before", "train < *before"),
+    ("1001 edits", "edits.rs", "0..=1000", "0..=1001"),
+    ("minute 2880", "edits.rs", "0..=LAST_MINUTE as u32", "0..=LAST_MINUTE as u32 + 1"),
+    ("interval 241", "edits.rs", "0..=240", "0..=241"),
+    ("train 10000", "edits.rs", "1..=9999", "1..=10000"),
+    ("any in-link", "timetable.rs", "network.runs(link.line, link.previous, station)", "true"),
+    ("any out-link", "timetable.rs", "network.runs(link.line, station, link.next)", "true"),
+    ("in-link from behind", "timetable.rs", "network.runs(link.line, link.previous, station)",
+     "network.runs(link.line, station, link.previous)"),
+    ("any station of a relation", "timetable.rs", "if !network.lists(station)", "if false"),
+    ("12 before 7", "timetable.rs", "if !known {", "if !known && timetable.visits_at(station).len() < VISITS_AT_STATION {"),
+    ("25 visits", "railway.rs", "VISITS_AT_STATION: usize = 24", "VISITS_AT_STATION: usize = 25"),
+    ("5 relations", "railway.rs", "RELATIONS_AT_STATION: usize = 6", "RELATIONS_AT_STATION: usize = 5"),
+    ("status 2", "timetable.rs", "0..=1)", "0..=2)"),
+    ("stops without in-link", "railway.rs", "self.in_link.is_none() ||", ""),
+    ("stops without out-link", "railway.rs", "|| self.out_link.is_none()", ""),
+    ("stops at equal times", "railway.rs", "self.departure.time > self.arrival.time", "self.departure.time >= self.arrival.time"),
+    ("interval behind count", "railway.rs",
+     "self.key().cmp(&other.key())", "{ let k = |r: &Relation| { let (a, b, c, d) = r.key(); (a, c, b, d) }; k(self).cmp(&k(other)) }"),
+    ("kind behind interval", "railway.rs",
+     "self.key().cmp(&other.key())", "{ let k = |r: &Relation| { let (a, b, c, d) = r.key(); (b, a, c, d) }; k(self).cmp(&k(other)) }"),
+    ("one-train dependencies dropped", "railway.rs", "if *arriver == train || *departer == train",
+     "if *arriver == train || *departer == train || *arriver == *departer"),
+    ("dependency of a departer kept", "railway.rs", "if *arriver == train || *departer == train", "if *arriver == train"),
+    ("vanishes under three", "railway.rs", "trains.len() < 2", "trains.len() < 3"),
+    ("stays with one", "railway.rs", "trains.len() < 2", "trains.is_empty()"),
+    ("answered on another line", "railway.rs", "far.in_link == Some(InLink { previous: station, line: link.line })",
+     "far.in_link.is_some_and(|one| one.previous == station)"),
+    ("in-link answered on another line", "railway.rs", "out.next == station && out.line == link.line", "out.next == station"),
+    ("place onto a visit", "machine.rs", "(there(plan.station, plan.train), THERE),\n            (full", "(full"),
+    ("place at any track", "machine.rs", "Edit::Place(plan) => first_of(&[\n            (!network.has_track(plan.station, plan.track), UNKNOWN)",
+     "Edit::Place(plan) => first_of(&[\n            (!network.lists(plan.station), UNKNOWN)"),
+    ("prepend before the wrong link", "machine.rs", "far.is_some_and(|visit| visit.in_link.is_some())",
+     "far.is_some_and(|visit| visit.out_link.is_some())"),
+    ("append behind the wrong link", "machine.rs", "far.is_some_and(|visit| visit.out_link.is_some())",
+     "far.is_some_and(|visit| visit.in_link.is_some())"),
+    ("prepend backwards", "machine.rs", "network.runs(extension.line, plan.station, extension.neighbour)",
+     "network.runs(extension.line, extension.neighbour, plan.station)"),
+    ("12 before 10", "machine.rs",
+     "(far.is_some_and(|visit| visit.out_link.is_some()), LINKED),\n                (full(plan.station), LIMIT),",
+     "(full(plan.station), LIMIT),\n                (far.is_some_and(|visit| visit.out_link.is_some()), LINKED),"),
+    ("12 before 9", "machine.rs", "(far.is_none(), MISSING),", "(far.is_none() && !full(plan.station), MISSING),"),
+    ("12 before 8", "machine.rs", "(there(plan.station, plan.train), THERE),",
+     "(there(plan.station, plan.train) && !full(plan.station), THERE),"),
+    ("10 before 8", "machine.rs", "(there(plan.station, plan.train), THERE),\n                (far.is_none(), MISSING),",
+     "(there(plan.station, plan.train) && !far.is_some_and(|v| v.in_link.is_some()), THERE),\n                (far.is_none(), MISSING),"),
+    ("9 before 7", "machine.rs", "(!network.lists(*station) || !network.lists(*neighbour), UNKNOWN),", ""),
+    ("limit at the neighbour", "machine.rs", "LINKED),\n                (full(plan.station), LIMIT)",
+     "LINKED),\n                (full(extension.neighbour), LIMIT)"),
+    ("amend at any track", "machine.rs", "(!network.has_track(plan.station, plan.track), UNKNOWN),\n            (!there",
+     "(!network.lists(plan.station), UNKNOWN),\n            (!there"),
+    ("9 before 8", "machine.rs", "(there(plan.station, plan.train), THERE),\n                (far.is_none(), MISSING),",
+     "(far.is_none(), MISSING),\n                (there(plan.station, plan.train), THERE),"),
+    ("8 before 7", "machine.rs",
+     "(!network.has_track(plan.station, plan.track), UNKNOWN),\n            (there(plan.station, plan.train), THERE),",
+     "(there(plan.station, plan.train), THERE),\n            (!network.has_track(plan.station, plan.track), UNKNOWN),"),
+    ("12 before 8 of relations", "machine.rs",
+     "(relations.contains(relation), THERE),\n                (relations.len() >= RELATIONS_AT_STATION, LIMIT),",
+     "(relations.len() >= RELATIONS_AT_STATION, LIMIT),\n                (relations.contains(relation), THERE),"),
+    ("delete first inside", "machine.rs", "visit.in_link.is_none()\n            &&", ""),
+    ("delete last inside", "machine.rs", "visit.out_link.is_none()\n            &&", ""),
+    ("delete first to anywhere", "machine.rs", "visit.out_link.is_some_and(|link| link.next == neighbour)",
+     "visit.out_link.is_some()"),
+    ("delete first asks for no neighbour", "machine.rs", "!network.lists(*station) || !network.lists(*neighbour)",
+     "!network.lists(*station)"),
+    ("delete first 10 before 9", "machine.rs", "!there(*station, *train) || !there(*neighbour, *train), MISSING",
+     "!there(*station, *train), MISSING"),
+    ("amend an arrival", "machine.rs", "arrival_altered || track_altered", "track_altered"),
+    ("amend a track", "machine.rs", "arrival_altered || track_altered", "arrival_altered"),
+    ("amend a departure", "machine.rs", "|| departure_altered", ""),
+    ("amend a track after departure", "machine.rs", "visit.arrival.occurred && visit.track", "visit.departure.occurred && visit.track"),
+    ("amend to pending", "machine.rs", "visit.arrival.time = plan.arrival", "visit.arrival = Event::pending_at(plan.arrival)"),
+    ("amend without track", "machine.rs", "visit.track = plan.track;", ""),
+    ("delete first keeps the link", "machine.rs", "visit.in_link = None", "visit.in_link = visit.in_link"),
+    ("delete first keeps relations", "machine.rs",
+     "|visit| visit.in_link = None);\n            timetable.take_from_relations(*station, *train);", "|visit| visit.in_link = None);"),
+    ("delete last from the neighbour's relations", "machine.rs",
+     "|visit| visit.out_link = None);\n            timetable.take_from_relations(*station", "|visit| visit.out_link = None);\n            timetable.take_from_relations(*neighbour"),
+    ("delete last from all relations", "machine.rs",
+     "|visit| visit.out_link = None);\n            timetable.take_from_relations(*station, *train)",
+     "|visit| visit.out_link = None);\n            for s in network.stations.keys() { timetable.take_from_relations(*s, *train) }"),
+    ("delete last writes over the neighbour", "machine.rs", "change(timetable, *neighbour, *train, |visit| visit.out_link = None);",
+     "if let Some(gone) = gone { timetable.visits.insert((*neighbour, *train), Visit { in_link: None, ..gone }); }"),
+    ("delete train keeps relations", "machine.rs", "for station in network.stations.keys()", "for station in network.stations.keys().take(0)"),
+    ("delete train only where it visits", "machine.rs",
+     "timetable.visits.retain(|(_, t), _| t != train);\n            for station in network.stations.keys() {",
+     "let at: Vec<Station> = timetable.visits.keys().filter(|(_, t)| t == train).map(|(s, _)| *s).collect();\n"
+     "            timetable.visits.retain(|(_, t), _| t != train);\n            for station in &at {"),
+    ("delete train 9", "machine.rs", "Edit::DeleteTrain { .. } => 0",
+     "Edit::DeleteTrain { train } => if timetable.visits.keys().any(|(_, t)| t == train) { 0 } else { MISSING }"),
+    ("removed at most 15", "machine.rs", "(before - timetable.visits.len()) as u32", "((before - timetable.visits.len()) as u32).min(15)"),
+    ("report keeps pending", "machine.rs", "visit.departure = Event::occurred_at(*time)", "visit.departure.time = *time"),
+    ("report 11", "machine.rs", "first_of(&[(!network.lists(*station), UNKNOWN), (!there(*station, *train), MISSING)])",
+     "first_of(&[(!network.lists(*station), UNKNOWN), (!there(*station, *train), MISSING), "
+     "(timetable.visit(*station, *train).is_some_and(|v| v.arrival.occurred && v.departure.occurred), OCCURRED)])"),
+    ("rule 1 equal", "findings.rs", "visit.departure.time < visit.arrival.time", "visit.departure.time <= visit.arrival.time"),
+    ("rule 1 times only", "findings.rs", "|| (visit.departure.occurred && visit.arrival.pending())", ""),
+    ("rule 2 strictly", "findings.rs", "other.departure.time + 1", "other.departure.time"),
+    ("rule 2 one half", "findings.rs", "arrives_too_early(u, t) && arrives_too_early(t, u)", "arrives_too_early(u, t)"),
+    ("rule 2 either", "findings.rs", "arrives_too_early(u, t) && arrives_too_early(t, u)",
+     "(arrives_too_early(u, t) || arrives_too_early(t, u))"),
+    ("rule 2 any status", "findings.rs", "one.arrival.pending() && one.arrival.time", "one.arrival.time"),
+    ("rule 2 any track", "findings.rs", "t.track == u.track &&", ""),
+    ("rule 3 at the headway", "findings.rs", ".abs() < network.headway", ".abs() <= network.headway"),
+    ("rule 3 both pending", "findings.rs", "(t.departure.pending() || u.departure.pending())",
+     "(t.departure.pending() && u.departure.pending())"),
+    ("rule 3 any status", "findings.rs", "&& (t.departure.pending() || u.departure.pending())", ""),
+    ("rule 3 to one station", "findings.rs", "t_link.line == u_link.line", "t_link.next == u_link.next"),
+    ("rule 3 signed", "findings.rs", "(t.departure.time - u.departure.time).abs()", "(t.departure.time - u.departure.time)"),
+    ("connection above the interval", "findings.rs", "overlap >= *interval", "overlap > *interval"),
+    ("connection without stops", "findings.rs", "visits.iter().all(Visit::stops)\n                &&", ""),
+    ("connection one occurred", "findings.rs", "(one.departure.occurred && other.departure.occurred)",
+     "(one.departure.occurred || other.departure.occurred)"),
+    ("connection any status", "findings.rs", "(one.departure.occurred && other.departure.occurred) || overlap", "overlap"),
+    ("connection later departure", "findings.rs", "one.departure.time.min(other.departure.time)", "one.departure.time.max(other.departure.time)"),
+    ("connection unsigned", "findings.rs", "overlap >= *interval", "overlap.max(0) >= *interval"),
+    ("disconnection one stops", "findings.rs", "!(one.stops() && other.stops())", "!(one.stops() || other.stops())"),
+    ("disconnection without stops", "findings.rs", "!(one.stops() && other.stops())\n                    ||", ""),
+    ("disconnection one occurred", "findings.rs", "(one.arrival.occurred && other.arrival.occurred)",
+     "(one.arrival.occurred || other.arrival.occurred)"),
+    ("disconnection departures", "findings.rs", "(one.arrival.occurred && other.arrival.occurred)",
+     "(one.departure.occurred && other.departure.occurred)"),
+    ("disconnection above the interval", "findings.rs", "one.arrival.time - other.departure.time >= *interval",
+     "one.arrival.time - other.departure.time > *interval"),
+    ("disconnection one way", "findings.rs", "|| after(other, one)", ""),
+    ("dependency arriver passes", "findings.rs", "arriver.stops()\n                &&", ""),
+    ("dependency departer passes", "findings.rs", "&& departer.stops()", ""),
+    ("dependency any status", "findings.rs", "departer.departure.occurred || ", ""),
+    ("dependency above the interval", "findings.rs", "departer.departure.time - arriver.arrival.time >= *interval",
+     "departer.departure.time - arriver.arrival.time > *interval"),
+    ("dependency exchanged", "findings.rs", "departer.departure.time - arriver.arrival.time", "arriver.departure.time - departer.arrival.time"),
+    ("rank from 0", "findings.rs", "before as u32 + 1", "before as u32"),
+    ("rule 5 equal", "findings.rs", "link.run < network", "link.run <= network"),
+    ("rule 6 equal departure", "findings.rs", "u.departure.time < t.departure.time", "u.departure.time <= t.departure.time"),
+    ("rule 6 equal end", "findings.rs", "u.departure.time + u_link.run > t.departure.time", "u.departure.time + u_link.run >= t.departure.time"),
+    ("rule 6 above capacity", "findings.rs", "ahead.len() >= network", "ahead.len() > network"),
+    ("rule 6 overtaking strictly", "findings.rs", "*end >= t.departure.time + link.run", "*end > t.departure.time + link.run"),
+    ("rule 6 without overtaking", "findings.rs", "(crowded || overtakes)", "crowded"),
+    ("rule 6 without capacity", "findings.rs", "(crowded || overtakes)", "overtakes"),
+    ("rule 6 any status", "findings.rs", "t.departure.pending() && !ahead.is_empty()", "!ahead.is_empty()"),
+    ("rule 6 distinct times", "findings.rs", "let crowded = ahead.len()", "let crowded = ahead.iter().collect::<BTreeSet<_>>().len()"),
+    ("rule 6 any line", "findings.rs", ".filter(|(_, u_link)| u_link.line == link.line)", ""),
+    ("rule 7 none", "findings.rs", "if !timetable.out_answered(station, *t) {", "if false {"),
+    ("rule 8 none", "findings.rs", "if !timetable.in_answered(station, *t) {", "if false {"),
+    ("rule 9 any status", "findings.rs", "far.arrival.pending() && far.arrival.time", "far.arrival.time"),
+    ("rule 9 unanswered", "findings.rs", "timetable.out_answered(station, train)\n        &&", ""),
+    ("rule 9 earlier only", "findings.rs", "far.arrival.time != visit.departure.time + link.run", "far.arrival.time < visit.departure.time + link.run"),
+    ("rule 10 strictly before", "findings.rs", "u_arrival >= t.departure.time", "u_arrival > t.departure.time"),
+    ("rule 10 strictly behind", "findings.rs", "opposing.departure.time <= t.departure.time + link.run",
+     "opposing.departure.time < t.departure.time + link.run"),
+    ("rule 10 any status", "findings.rs", "&& t.departure.pending()\n        && u_arrival", "&& u_arrival"),
+    ("rule 10 itself", "findings.rs", "visits_at(link.next).iter().filter(|(u, _)| u != t)", "visits_at(link.next).iter()"),
+    ("rule 10 arrival of any visit", "findings.rs", "Some(at_s) if timetable.out_answered(link.next, u) =>", "Some(at_s) =>"),
+    ("rule 10 arrival by run", "findings.rs", "=> at_s.arrival.time,", "=> at_s.arrival.time * 0 + opposing.departure.time + u_link.run,"),
+    ("rule 10 any line", "findings.rs", "u_link.line != link.line || u_link.next != station", "u_link.next != station"),
+    ("area with far stations", "findings.rs", "located.far.is_none_or(|far| network.area_of(far) == area)", "true"),
+    ("pair one way", "findings.rs", "areas == (one, other) || areas == (other, one)", "areas == (one, other)"),
+    ("15 rows", "projection.rs", "ROWS: usize = 16", "ROWS: usize = 15"),
+    ("17 rows", "projection.rs", "ROWS: usize = 16", "ROWS: usize = 17"),
+    ("first arrival expected", "projection.rs", "let arrival = arrival(visit, expected);",
+     "let arrival = if rows.is_empty() { expected } else { arrival(visit, expected) };"),
+    ("later arrivals expected", "projection.rs", "let arrival = arrival(visit, expected);",
+     "let arrival = if rows.is_empty() { arrival(visit, expected) } else { expected };"),
+    ("departure not before arrival", "projection.rs", "visit.departure.time\n    } else if", "visit.departure.time.max(arrival)\n    } else if"),
+    ("no minute's stop", "projection.rs", ".max(arrival + 1)", ".max(arrival)"),
+    ("planned departure of a passing train", "projection.rs", "} else {\n        arrival\n    }", "} else {\n        arrival.max(visit.departure.time)\n    }"),
+    ("along any link", "projection.rs", "|| !timetable.out_answered(station, train)", ""),
+    ("never early", "projection.rs", "arrival - visit.arrival.time", "(arrival - visit.arrival.time).max(0)"),
+    ("expected beyond the last minute", "programs.rs", "(visit.arrival.time + 5).min(LAST_MINUTE)",
+     "(visit.arrival.time + 5).min(LAST_MINUTE + 5)"),
+    ("prepend not counted", "tally.rs", "Edit::Place(_) | Edit::Prepend(..) | Edit::Append(..)", "Edit::Place(_) | Edit::Append(..)"),
+    ("removed not counted", "tally.rs", "self.removed + answer.removed", "self.removed + answer.removed.min(1)"),
+    ("16383 bytes", "programs.rs", "16_384", "16_383"),
+    ("16385 bytes", "programs.rs", "16_384", "16_385"),
+    ("written anew without running time", "timetable.rs", "put(link.run as u32);", "put(0);"),
+    # Wrong only in some orders: the comparison of reorderings has to find these, with the mistake on both sides.
+    ("REORDERED limit of the whole", "machine.rs", "let full = |station| timetable.visits_at(station).len() >= VISITS_AT_STATION;",
+     "let full = |station| timetable.visits_at(station).len() >= VISITS_AT_STATION || timetable.visits.len() >= 8;"),
+    ("REORDERED relations elsewhere", "machine.rs", "(relations.contains(relation), THERE),",
+     "(network.stations.keys().any(|s| timetable.relations_at(*s).contains(relation)), THERE),"),
+    ("REORDERED answers by rank", "programs.rs", "answer.removed.into()]", "i64::from(answer.removed) + i64::from(before == 2)]"),
+]
+
+
+def main():
+    words = sys.argv[1:]
+    chosen = [mutant for mutant in MUTANTS if not words or any(word in mutant[0] for word in words)]
+    missed = []
+    with tempfile.TemporaryDirectory(prefix="mutants-") as folder:
+        copy = os.path.join(folder, "reference")
+        built = os.path.join(folder, "target")
+        for name, file, old, new in chosen:
+            shutil.rmtree(copy, ignore_errors=True)
+            shutil.copytree(REFERENCE, copy, ignore=shutil.ignore_patterns("target"))
+            path = os.path.join(copy, "src", file)
+            with open(path) as source:
+                text = source.read()
+            if old not in text:
+                print(f"{name}: {file} has no such text")
+                missed.append(name)
+                continue
+            text = text.replace(old, new, 1)
+            if "gone" in new:
+                text = text.replace("Edit::DeleteLast { station, train, neighbour } => {\n            timetable",
+                                    "Edit::DeleteLast { station, train, neighbour } => {\n            let gone = timetable")
+            with open(path, "w") as source:
+                source.write(text)
+            build = subprocess.run(["cargo", "build", "--quiet", "--offline", "--target-dir", built], cwd=copy,
+                                   stdout=subprocess.PIPE, stderr=subprocess.STDOUT, text=True)
+            if build.returncode:
+                print(f"{name}: does not build\n{build.stdout}")
+                missed.append(name)
+                continue
+            programs = {program: os.path.join(built, "debug", program) for program in ("shift", "inspect")}
+            command = [sys.executable, os.path.join(HERE, "compare.py"), "--stop", "--shift", programs["shift"],
+                       "--inspect", programs["inspect"]]
+            if name.startswith("REORDERED"):
+                command += ["--reference-shift", programs["shift"], "--reference-inspect", programs["inspect"], "--files", "0"]
+            run = subprocess.run(command, stdout=subprocess.PIPE, stderr=subprocess.STDOUT, text=True,
+                                 env={**os.environ, "TMPDIR": folder})
+            found = run.returncode == 1 and "DIFFERENCE" in run.stdout
+            first = run.stdout.split("\n")[1].strip() if found else "NOT FOUND"
+            print(f"{name}: {first}", flush=True)
+            if not found:
+                missed.append(name)
+    print(f"{len(chosen)} mistakes, {len(missed)} not found" + "".join(f"\n  {name}" for name in missed))
+    return 1 if missed else 0
+
+
+if __name__ == "__main__":
+    sys.exit(main())

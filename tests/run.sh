@@ -1,0 +1,20 @@
+#!/usr/bin/env bash
+# Builds the second implementation and compares the programs with it.
+#
+#   tests/run.sh SHIFT INSPECT [options of compare.py]
+#   SHIFT=.. INSPECT=.. tests/run.sh
+#
+# Without programs the second implementation is compared with itself, which tries the comparison alone.
+set -euo pipefail
+here=$(cd "$(dirname "${BASH_SOURCE[0]}")" && pwd)
+built="$here/../reference/target/release"
+
+(cd "$here/../reference" && cargo build --release --offline --quiet)
+
+if [ $# -ge 2 ] && [ "${1#-}" = "$1" ]; then
+    SHIFT=$1 INSPECT=$2
+    shift 2
+fi
+exec python3 "$here/compare.py" \
+    --shift "${SHIFT:-$built/shift}" --inspect "${INSPECT:-$built/inspect}" \
+    --reference-shift "$built/shift" --reference-inspect "$built/inspect" "$@"
