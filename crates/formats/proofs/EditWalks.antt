@@ -210,6 +210,7 @@ edit-walks p (k ∷ ns) e (x, w) =
     (λ w. through 11 (λ c. train-ok (c .train)) (λ x. refl) (λ x t. t) (fields-walk cancellation-fields DeleteTrain [] _ ns e w))
     k (x .low) (x .high) w
   where
-    through : {A : Type 0} {numbers : A → List ℕ} {edit : A → Edit} (k : ℕ) (ok : A → Bool) → ((a : A) → edit-numbers (edit a) ≡ k ∷ numbers a) → ((a : A) → T (ok a) → T (edit-ok (edit a)))
+    through : {A : Type 0} {numbers : A → List ℕ} {edit : A → Edit} (k : ℕ) (ok : A → Bool) → ((a : A) → edit-numbers (edit a) ≡ k ∷ numbers a)
+        → ((a : A) → T (ok a) → T (edit-ok (edit a)))
         → (a : A) × (ns ≡ numbers a) × T (ok a) × Over [] (numbers a) × (edit a ≡ e) → (k ∷ ns ≡ edit-numbers e) × T (edit-ok e)
     through k ok f g (a, q, t, o, u) = (ap (λ (l : List ℕ). k ∷ l) q ∙ sym (f a) ∙ ap edit-numbers u, subst (λ (e : Edit). T (edit-ok e)) u (g a t))

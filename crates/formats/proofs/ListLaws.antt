@@ -62,7 +62,7 @@ keep-keep p q h (x ∷ xs) = go (q x) refl (p x) refl (keep-keep p q h xs)
 pub flatMap-same : {A B : Type 0} (f g : A → List B) (p : A → Bool) → ((x : A) → T (p x) → f x ≡ g x) → (xs : List A) → T (every p xs) → flatMap f xs ≡ flatMap g xs
 unfolding flatMap
 flatMap-same f g p h [] t = refl
-flatMap-same f g p h (x ∷ xs) t = ap₂ (λ (a b : List _). a ++ b) (h x (every-head p x xs t)) (flatMap-same f g p h xs (every-tail p x xs t))
+flatMap-same f g p h (x ∷ xs) t = ap₂ _++_ (h x (every-head p x xs t)) (flatMap-same f g p h xs (every-tail p x xs t))
 
 -- lists of at most w elements each
 pub flatMap-length : {A B : Type 0} (f : A → List B) (w : ℕ) (p : A → Bool) → ((x : A) → T (p x) → length (f x) ≤ w) → (xs : List A) → T (every p xs)

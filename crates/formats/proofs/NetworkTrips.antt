@@ -111,14 +111,16 @@ module _ (n : Network) (g : network-refusal n ≡ 0) (u : UnusedBlank n) where
     station-count = rw station-many (test-in 1 16 (n .stationcount) (omega arith) (facts .station-count));
     stations = record {
       good = facts .station-rows-ok;
-      above = every-weaker station-row-ok (λ r. ltb 0 (station-number r)) (λ r t. lt→ltb 0 (station-number r) (leb→le 1 (station-number r) (search parts))) (station-rows n) (facts .station-rows-ok);
+      above = every-weaker station-row-ok (λ r. ltb 0 (station-number r))
+          (λ r t. lt→ltb 0 (station-number r) (leb→le 1 (station-number r) (search parts))) (station-rows n) (facts .station-rows-ok);
       order = rw (two-map (smaller (λ s. s .0)) (λ r. r .station) (station-rows n)) at (facts .stations-rise);
     };
     headway = test-in 1 30 (n .headway) (omega arith) (facts .headway);
     line-count = rw line-many (test-most 32 (n .linecount) (omega arith) (facts .line-count));
     lines = record {
       good = facts .line-rows-ok;
-      above = every-weaker line-row-ok (λ r. ltb 0 (line-number r)) (λ r t. lt→ltb 0 (line-number r) (leb→le 1 (line-number r) (search parts))) (line-rows n) (facts .line-rows-ok);
+      above = every-weaker line-row-ok (λ r. ltb 0 (line-number r))
+          (λ r t. lt→ltb 0 (line-number r) (leb→le 1 (line-number r) (search parts))) (line-rows n) (facts .line-rows-ok);
       order = facts .lines-rise;
     };
   }
@@ -221,7 +223,7 @@ shift-trip = record {
         let (l, h, t, m) = edits-format-walks (0 + span (s .before)) (s .behind) es v in
         let y : s .before ≡ network-numbers (network-of (s .value)) = k ∙ sym (of-numbers (s .value)) in
         subst (λ (x : Input). ShiftRead file (shift-of x) next) q (record {
-          file-is = b ∙ ap bytes-of (s .whole ∙ ap₂ (λ (a b : List ℕ). a ++ b) y l);
+          file-is = b ∙ ap bytes-of (s .whole ∙ ap₂ _++_ y l);
           end = e ∙ ap length (sym b);
           good = listed-good (s .value) i (subst (λ (x : Input). unjoined (x .listed) ≡ none) (sym q) j);
           unused = of-blank (s .value);

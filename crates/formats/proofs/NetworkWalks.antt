@@ -237,7 +237,7 @@ network-walks p (k ∷ ns) x (a, w) =
     let (e, r, l) = stations-walk k (p + width k) (s .before) (s .value) (s .first) in
     let (q, u, h, c, m) = later (s .value) (p + width k + span (s .before)) (s .behind) (s .second) in
     let y : k ≡ length (x .stations) = sym l ∙ ap length q in (
-      ap₂ (λ (k : ℕ) (l : List ℕ). k ∷ l) y (s .whole ∙ ap₂ (λ (a b : List ℕ). a ++ b) (e ∙ ap (flatMap station-numbers) q) u),
+      ap₂ (λ (k : ℕ) (l : List ℕ). k ∷ l) y (s .whole ∙ ap₂ _++_ (e ∙ ap (flatMap station-numbers) q) u),
       record { station-count = subst (InRange 1 16) y a; stations = subst StationsRise q r; headway = h; line-count = c; lines = m },
     )
   where

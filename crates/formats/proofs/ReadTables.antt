@@ -26,7 +26,8 @@ use Rattle.formats.proofs.VisitWalks.{visit-ok}
 use Rattle.formats.proofs.OrderLaws.{before, visit-key, relation-key}
 use Rattle.formats.proofs.TimetableWalks.{VisitsIn, RelationsIn}
 use Rattle.formats.proofs.EnterLaws.{station-same, at, Clear}
-use Rattle.formats.proofs.EnteredTables.{visit-station, to-entry, with-visits, visit-known, visits-entering, relation-station, to-relation, with-relations, relation-known, relations-entering}
+use Rattle.formats.proofs.EnteredTables.{visit-station, to-entry, with-visits, visit-known, visits-entering}
+use Rattle.formats.proofs.EnteredTables.{relation-station, to-relation, with-relations, relation-known, relations-entering}
 use Rattle.formats.proofs.StationLists.{regathered}
 
 -- a station whose track is known is listed

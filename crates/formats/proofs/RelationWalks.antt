@@ -65,7 +65,13 @@ unfolding TrainsIn group-of packed
 group-back [] i l m = absurd (omega arith)
 group-back (a ∷ []) i l m = absurd (omega arith)
 group-back (a ∷ b ∷ []) (x, (y, z)) l m =
-    let p : Places (group-of (a ∷ b ∷ [])) = record { first-low = omega (arith, x .low); second-above = omega (arith, y .low); second-high = y .high; third = inl refl; fourth = inl refl } in
+    let p : Places (group-of (a ∷ b ∷ [])) = record {
+      first-low = omega (arith, x .low);
+      second-above = omega (arith, y .low);
+      second-high = y .high;
+      third = inl refl;
+      fourth = inl refl;
+    } in
     (places-fit (group-of (a ∷ b ∷ [])) p, ap (map number) (used-two (group-of (a ∷ b ∷ [])) p refl refl))
 group-back (a ∷ b ∷ c ∷ []) (x, (y, (z, u))) l m =
     let p : Places (group-of (a ∷ b ∷ c ∷ [])) = record {
@@ -219,7 +225,7 @@ module _ (kind i : ℕ) (us : Trains) (t : T (interval-ok i && trains-ok us)) wh
       record {
         kinds = k;
         interval = test-most 240 i (omega arith) (and-l (interval-ok i) (trains-ok us) t);
-        many = record { low = omega (arith, g .least, length-map (used us) number); high = omega (arith, g .most, length-map (used us) number); short = omega (arith, g .most, length-map (used us) number) };
+        many = rw (length-map (used us) number, m) (record { low = g .least; high = g .most; short = omega (arith, g .most) });
         trains = rw b (g .each);
       }
 
@@ -301,7 +307,8 @@ unfolding walks station-relation-entry station-relation-numbers station-relation
 walks-station-relation bar p r f =
     let (h, o) = f .above in (
       raise 1 16 bar (r .station .0) (test-in 1 16 (r .station .0) (omega arith) (search parts)) h,
-      walks-made (λ q. record { station = record { 0 = r .station .0 }; relation = q }) (relation-entry (bar-after (r .station .0) bar)) _ (relation-numbers (r .relation)) (r .relation)
+      walks-made (λ q. record { station = record { 0 = r .station .0 }; relation = q }) (relation-entry (bar-after (r .station .0) bar)) _
+          (relation-numbers (r .relation)) (r .relation)
           (walks-relation _ _ (r .relation) (record { good = search parts; above = o })),
     )
 

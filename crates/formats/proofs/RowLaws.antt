@@ -181,7 +181,7 @@ module _ {A B : Type 0} (entry : List ℕ → Format B) (bar-of : B → List ℕ
       let (us, u, e) = made-walks (λ rest. v ∷ rest) (entries entry bar-of k (bar-of v)) (p + span (s .before)) (s .behind) vs (s .second) in
       let (q, f) = each bar p (s .before) v (s .first) in
       let (x, c, l) = entries-walk of same each k (bar-of v) (p + span (s .before)) (s .behind) us u in
-      rw (sym e) ((s .whole ∙ ap₂ (λ (a b : List ℕ). a ++ b) q x), (f, chain-at bar-by Fits (bar-of v) (bar-by (of v)) (map of us) (same v) c), ap suc l)
+      rw (sym e) ((s .whole ∙ ap₂ _++_ q x), (f, chain-at bar-by Fits (bar-of v) (bar-by (of v)) (map of us) (same v) c), ap suc l)
 
 -- entries with their places
 module _ {A : Type 0} (f : Format A) where
@@ -246,4 +246,5 @@ module _ {A : Type 0} (entry : List ℕ → Format A) (numbers : A → List ℕ)
   pub places-walk : (k : ℕ) (bar : List ℕ) (p : ℕ) (ns : List ℕ) (vs : List (Placed A)) → walks (entries placed-entry placed-by k bar) p ns vs
       → (ns ≡ flatMap numbers (map taken vs)) × Chain bar-by Fits bar (map taken vs) × (length vs ≡ k)
   places-walk k bar p ns vs w =
-      entries-walk placed-entry placed-by numbers bar-by Fits taken (λ v. refl) (λ bar p ns v w. law .back bar p ns (v .entry) (placed-walks (entry bar) p ns v w .0)) k bar p ns vs w
+      entries-walk placed-entry placed-by numbers bar-by Fits taken (λ v. refl)
+      (λ bar p ns v w. law .back bar p ns (v .entry) (placed-walks (entry bar) p ns v w .0)) k bar p ns vs w

@@ -42,7 +42,8 @@ module _ {A : Type 0} (station : A → Station) (more : A → List ℕ) where
     behind : (s : Station) (ss : List Station) → T (every (later s) ss) → T (every (λ x. ltb (s .0) (station x .0)) (flatMap g ss))
     behind s ss t =
         every-flatMap (λ x. ltb (s .0) (station x .0)) g (later s)
-        (λ k l. every-weaker (at station k) (λ x. ltb (s .0) (station x .0)) (λ x e. lt→ltb (s .0) (station x .0) (omega (arith, ltb→lt (s .0) (k .0) l, eqb→eq (station x .0) (k .0) e))) (g k) (own k))
+        (λ k l. every-weaker (at station k) (λ x. ltb (s .0) (station x .0))
+        (λ x e. lt→ltb (s .0) (station x .0) (omega (arith, ltb→lt (s .0) (k .0) l, eqb→eq (station x .0) (k .0) e))) (g k) (own k))
         ss t
 
     pub gathered-order : (p : Station → Bool) → ((s : Station) → T (p s) → T (each-two (before by-station) (g s))) → (ss : List Station) → T (every p ss)
@@ -68,7 +69,7 @@ module _ {A : Type 0} (station : A → Station) (more : A → List ℕ) where
     gathered-none k (s ∷ ss) e =
         let d : same-station k s ≡ false = not-T-false (same-station k s) (every-head (λ s. not (same-station k s)) s ss (none-any (same-station k) (s ∷ ss) e)) in
         keep-append (at station k) (g s) (flatMap g ss)
-        ∙ ap₂ (λ (a b : List A). a ++ b) (others-none k s (eqb-false (k .0) (s .0) d)) (gathered-none k ss (rw d at e))
+        ∙ ap₂ _++_ (others-none k s (eqb-false (k .0) (s .0) d)) (gathered-none k ss (rw d at e))
 
     -- and any other has its own
     pub gathered-own : (k : Station) (ss : List Station) → T (each-two (smaller station-number) ss) → T (any (same-station k) ss) → keep (at station k) (flatMap g ss) ≡ g k
@@ -79,14 +80,14 @@ module _ {A : Type 0} (station : A → Station) (more : A → List ℕ) where
         ∙ by-value (same-station k s)
         (λ e.
         let q : s ≡ k = sym (station-same k s (true-T (same-station k s) e)) in
-        ap₂ (λ (a b : List A). a ++ b) (subst (λ (k : Station). keep (at station k) (g s) ≡ g k) q (keep-every (at station s) (g s) (own s)))
+        ap₂ _++_ (subst (λ (k : Station). keep (at station k) (g s) ≡ g k) q (keep-every (at station s) (g s) (own s)))
         (keep-none (at station k) (flatMap g ss)
         (every-weaker (λ x. ltb (s .0) (station x .0)) (λ x. not (at station k x))
         (λ x l. not-T (at station k x) (λ u. omega (arith, ltb→lt (s .0) (station x .0) l, eqb→eq (station x .0) (k .0) u, eqb-true (k .0) (s .0) e)))
         (flatMap g ss) (behind s ss (two-head (smaller station-number) s ss r))))
         ∙ append-nil (g k))
         (λ e.
-        ap₂ (λ (a b : List A). a ++ b) (others-none k s (eqb-false (k .0) (s .0) e)) (gathered-own k ss (two-tail (smaller station-number) s ss r) (rw e at t)))
+        ap₂ _++_ (others-none k s (eqb-false (k .0) (s .0) e)) (gathered-own k ss (two-tail (smaller station-number) s ss r) (rw e at t)))
 
   -- taken apart and gathered again
 
@@ -100,7 +101,9 @@ module _ {A : Type 0} (station : A → Station) (more : A → List ℕ) where
   split : (s : Station) (xs : List A) → T (every (λ x. leb (s .0) (station x .0)) xs) → T (each-two (before by-station) xs) → xs ≡ keep (at station s) xs ++ keep (after s) xs
   unfolding keep
   split s [] t r = refl
-  split s (x ∷ xs) t r = go (eqb (station x .0) (s .0)) refl (ltb (s .0) (station x .0)) refl (split s xs (every-tail (λ x. leb (s .0) (station x .0)) x xs t) (two-tail (before by-station) x xs r))
+  split s (x ∷ xs) t r =
+      go (eqb (station x .0) (s .0)) refl (ltb (s .0) (station x .0)) refl
+      (split s xs (every-tail (λ x. leb (s .0) (station x .0)) x xs t) (two-tail (before by-station) x xs r))
     where
       least : s .0 ≤ station x .0
       least = leb→le (s .0) (station x .0) (every-head (λ x. leb (s .0) (station x .0)) x xs t)
@@ -115,7 +118,8 @@ module _ {A : Type 0} (station : A → Station) (more : A → List ℕ) where
       go false e true f ih =
           let u : T (every (after s) xs) = all-after (ltb-true (s .0) (station x .0) f) in
           let none : keep (at station s) xs ≡ [] = keep-none (at station s) xs
-          (every-weaker (after s) (λ y. not (at station s y)) (λ y l. not-T (at station s y) (λ v. omega (arith, ltb→lt (s .0) (station y .0) l, eqb→eq (station y .0) (s .0) v))) xs u) in
+          (every-weaker (after s) (λ y. not (at station s y))
+          (λ y l. not-T (at station s y) (λ v. omega (arith, ltb→lt (s .0) (station y .0) l, eqb→eq (station y .0) (s .0) v))) xs u) in
           rw (none, keep-every (after s) xs u)
       go false e false f ih = absurd (omega (arith, least, eqb-false (station x .0) (s .0) e, ltb-false (s .0) (station x .0) f))
 

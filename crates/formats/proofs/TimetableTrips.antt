@@ -11,21 +11,23 @@ use Rattle.base.specs.Choice.{if_then_else_, _if_else_}
 use Rattle.base.specs.Lists.{each-two}
 use Rattle.base.proofs.Tests.{true-T}
 use Rattle.numbers.specs.Numbers.{width}
-use Rattle.railway.specs.Networks.{stations-of, network-in-range, lines-joined, network-refusal}
+use Rattle.railway.specs.Networks.{network-in-range, lines-joined, network-refusal}
 use Rattle.timetable.specs.Formats.{Outcome, accepted, refused, behind, read-file, bytes-of}
 use Rattle.timetable.specs.EditsFile.{station-relation-numbers}
 use Rattle.timetable.specs.Machine.{Timetable, nothing-placed}
 use Rattle.timetable.specs.Good.{Whole}
-use Rattle.timetable.specs.TimetableFile.{StationVisit, visit-numbers, Entries, timetable-format, visit-refusal, relation-refusal, enter-visit, enter-relation, entered, timetable-of}
-use Rattle.timetable.specs.TimetableFile.{read-timetable, visits-at, relations-at, timetable-numbers}
+use Rattle.timetable.specs.TimetableFile.{StationVisit, visit-numbers, Entries, timetable-format, visit-refusal, relation-refusal}
+use Rattle.timetable.specs.TimetableFile.{enter-visit, enter-relation, entered, timetable-of}
+use Rattle.timetable.specs.TimetableFile.{read-timetable, timetable-numbers}
 use Rattle.formats.specs.Types.{StationRelation, Network}
 use Rattle.formats.specs.RoundTrips.{Bytes, TimetableRead, TimetableRoundTrip}
 use Rattle.formats.proofs.WalkLaws.{clash, behind-taken, span, file-read, file-walks}
 use Rattle.formats.proofs.RowLaws.{values-entries}
 use Rattle.formats.proofs.OrderLaws.{before, visit-key, relation-key}
-use Rattle.formats.proofs.TimetableWalks.{entries-of, VisitsIn, RelationsIn, file-numbers, file-entries, walks-timetable, timetable-walks}
+use Rattle.formats.proofs.TimetableWalks.{all-visits, all-relations, entries-of, VisitsIn, RelationsIn, file-numbers, file-entries, walks-timetable, timetable-walks}
 use Rattle.formats.proofs.EnterLaws.{Clear, enters-all, clears-all}
-use Rattle.formats.proofs.EnteredTables.{visit-station, with-visits, visit-known, visits-entering, no-visits, relation-station, with-relations, relation-known, relations-entering, no-relations}
+use Rattle.formats.proofs.EnteredTables.{visit-station, with-visits, visit-known, visits-entering, no-visits}
+use Rattle.formats.proofs.EnteredTables.{relation-station, with-relations, relation-known, relations-entering, no-relations}
 use Rattle.formats.proofs.WrittenTables.{visits-in, visits-clear, relations-in, relations-clear, written-back}
 use Rattle.formats.proofs.ReadTables.{visits-written, relations-written, made-whole}
 
@@ -79,16 +81,17 @@ neither n = go (network-in-range n) (lines-joined n)
 
 -- the entries of a whole timetable, read, make it
 written-read : (n : Network) (g : network-refusal n ≡ 0) (m : Timetable) → Whole n m → (next : ℕ)
-    → timetable-of n (file-entries 0 (flatMap (visits-at m) (stations-of n)) (flatMap (relations-at m) (stations-of n))) next ≡ accepted m next
+    → timetable-of n (file-entries 0 (all-visits n m) (all-relations n m)) next ≡ accepted m next
 written-read n g m w next =
-    let vs = flatMap (visits-at m) (stations-of n) in
-    let rs = flatMap (relations-at m) (stations-of n) in
+    let vs = all-visits n m in
+    let rs = all-relations n m in
     let x = file-entries 0 vs rs in
     let p : vs ≡ entries-of (x .visits) = sym (values-entries visit-numbers (0 + width (length vs)) vs) in
     let q : rs ≡ entries-of (x .relations) = sym (values-entries station-relation-numbers (0 + width (length vs) + span (flatMap visit-numbers vs) + width (length rs)) rs) in
     entries-made n x next (subst (λ (l : List StationVisit). T (each-two (before visit-key) l)) p (visits-in n g m w .order))
     (subst (λ (l : List StationRelation). T (each-two (before relation-key) l)) q (relations-in n g m w .order))
-    (subst (VisitsClear n) p (visits-clear n g m w)) (subst (RelationsClear n (with-visits (entries-of (x .visits)))) q (relations-clear n g m w (with-visits (entries-of (x .visits)))))
+    (subst (VisitsClear n) p (visits-clear n g m w))
+    (subst (RelationsClear n (with-visits (entries-of (x .visits)))) q (relations-clear n g m w (with-visits (entries-of (x .visits)))))
     ∙ ap (λ (m : Timetable). accepted m next)
     (ap₂ (λ (vs : List StationVisit) (rs : List StationRelation). with-relations (with-visits vs) rs) (sym p) (sym q) ∙ written-back n g m w)
 
@@ -112,8 +115,8 @@ pub timetable-trip : TimetableRoundTrip
 unfolding read-timetable behind timetable-numbers
 timetable-trip = record {
   back = λ n m g w.
-      let vs = flatMap (visits-at m) (stations-of n) in
-      let rs = flatMap (relations-at m) (stations-of n) in
+      let vs = all-visits n m in
+      let rs = all-relations n m in
       let e = file-read timetable-format (file-numbers vs rs) (file-entries 0 vs rs) (walks-timetable 0 vs rs (visits-in n g m w) (relations-in n g m w)) in
       rw (ne-eqb (network-refusal n) 3 (λ q. omega arith), ne-eqb (network-refusal n) 4 (λ q. omega arith))
       (ap (λ (o : Outcome Entries). behind o (λ x next. timetable-of n x next)) e ∙ written-read n g m w (span (file-numbers vs rs)));

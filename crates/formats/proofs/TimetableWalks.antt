@@ -7,10 +7,13 @@ use lib.ListN.{length, length-map}
 use Rattle.base.specs.Lists.{every, each-two}
 use Rattle.numbers.specs.Numbers.{width}
 use Rattle.railway.specs.Edits.{station-relation-ok}
+use Rattle.railway.specs.Networks.{stations-of}
 use Rattle.timetable.specs.Formats.{done, field, _and-then_, Placed}
 use Rattle.timetable.specs.EditsFile.{station-relation-entry, station-relation-numbers}
-use Rattle.timetable.specs.TimetableFile.{StationVisit, visit-entry, visit-numbers, visit-bar, relation-bar, Entries, visits-format, relations-format, timetable-format}
-use Rattle.formats.specs.Types.{StationRelation}
+use Rattle.timetable.specs.Machine.{Timetable}
+use Rattle.timetable.specs.TimetableFile.{StationVisit, visit-entry, visit-numbers, visit-bar, relation-bar, Entries, visits-format, relations-format}
+use Rattle.timetable.specs.TimetableFile.{timetable-format, visits-at, relations-at}
+use Rattle.formats.specs.Types.{StationRelation, Network}
 use Rattle.formats.proofs.Walks.{InRange, walks}
 use Rattle.formats.proofs.WalkLaws.{span, walks-then, then-walks, walks-made, made-walks}
 use Rattle.formats.proofs.RowLaws.{values, Entry, walks-places, places-walk}
@@ -54,6 +57,13 @@ walks-relations p rs i =
 abbrev pub file-numbers : List StationVisit → List StationRelation → List ℕ
 file-numbers vs rs = length vs ∷ (flatMap visit-numbers vs ++ (length rs ∷ flatMap station-relation-numbers rs))
 
+-- all visits of a timetable, and all relations, as they are written
+abbrev pub all-visits : Network → Timetable → List StationVisit
+all-visits n m = flatMap (visits-at m) (stations-of n)
+
+abbrev pub all-relations : Network → Timetable → List StationRelation
+all-relations n m = flatMap (relations-at m) (stations-of n)
+
 -- what they give, from a place on
 abbrev pub file-entries : ℕ → List StationVisit → List StationRelation → Entries
 file-entries p vs rs = record {
@@ -70,7 +80,8 @@ walks-timetable p vs rs i j = (
       (p + width (length vs)) (flatMap visit-numbers vs) (length rs ∷ flatMap station-relation-numbers rs) (set-out visit-numbers (p + width (length vs)) vs) _
       (walks-visits (p + width (length vs)) vs i) (
         j .many,
-        walks-made (λ rs. record { visits = set-out visit-numbers (p + width (length vs)) vs; relations = rs }) (relations-format (length rs)) _ (flatMap station-relation-numbers rs) _
+        walks-made (λ rs. record { visits = set-out visit-numbers (p + width (length vs)) vs; relations = rs }) (relations-format (length rs)) _
+            (flatMap station-relation-numbers rs) _
             (walks-relations _ rs j),
       ),
 )
@@ -102,7 +113,7 @@ timetable-walks p (k ∷ ns) x (a, w) =
     let (e, i, l) = visits-walk k (p + width k) (s .before) (s .value) (s .first) a in
     let (q, u, j) = later (s .value) (p + width k + span (s .before)) (s .behind) (s .second) in (
       ap₂ (λ (k : ℕ) (l : List ℕ). k ∷ l) (sym l ∙ ap (λ (vs : List (Placed StationVisit)). length (entries-of vs)) q)
-          (s .whole ∙ ap₂ (λ (a b : List ℕ). a ++ b) (e ∙ ap (λ (vs : List (Placed StationVisit)). flatMap visit-numbers (entries-of vs)) q) u),
+          (s .whole ∙ ap₂ _++_ (e ∙ ap (λ (vs : List (Placed StationVisit)). flatMap visit-numbers (entries-of vs)) q) u),
       subst (λ (vs : List (Placed StationVisit)). VisitsIn (entries-of vs)) q i,
       j,
     )

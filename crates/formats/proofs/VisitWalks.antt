@@ -13,7 +13,8 @@ use Rattle.base.proofs.Tests.{both, parts}
 use Rattle.numbers.specs.Numbers.{width}
 use Rattle.railway.specs.Ranges.{station-ok, train-ok, track-ok, line-ok, minute-ok, run-ok}
 use Rattle.timetable.specs.Formats.{done, field, _and-then_, row}
-use Rattle.timetable.specs.TimetableFile.{StationVisit, visit-ranges, status-number, in-link-entry, out-link-entry, in-link-numbers, out-link-numbers, station-visit-of, visit-entry, visit-numbers}
+use Rattle.timetable.specs.TimetableFile.{StationVisit, visit-ranges, status-number, in-link-entry, out-link-entry, in-link-numbers, out-link-numbers}
+use Rattle.timetable.specs.TimetableFile.{station-visit-of, visit-entry, visit-numbers}
 use Rattle.formats.specs.Types.{InLink, OutLink}
 use Rattle.formats.proofs.Walks.{InRange, walks}
 use Rattle.formats.proofs.WalkLaws.{span, walks-then, then-walks, walks-made, made-walks}
@@ -196,10 +197,19 @@ walks-visit bar p e (t, o) =
     p (visit-row e) (in-link-numbers i ++ out-link-numbers u) (visit-row e) _ (walks-row visit-ranges bar p (visit-row e) (row-in e t) o)
     (walks-then in-link-entry (λ i. out-link-entry and-then (λ o. done (station-visit-of (visit-row e) i o)))
     q (in-link-numbers i) (out-link-numbers u) i _ (walks-in q i (search parts))
-    (walks-made (station-visit-of (visit-row e) i) out-link-entry (q + span (in-link-numbers i)) (out-link-numbers u) u (walks-out (q + span (in-link-numbers i)) u (search parts)))))
+    (walks-made (station-visit-of (visit-row e) i) out-link-entry (q + span (in-link-numbers i)) (out-link-numbers u) u
+    (walks-out (q + span (in-link-numbers i)) u (search parts)))))
+
+-- the numbers of the three parts, put together
+visit-parts : (bar xs ms ys zs : List ℕ) (i : InLink) (o : OutLink) → xs ≡ ms → RowIn visit-ranges ms → Over bar ms → ys ≡ in-link-numbers i → T (in-link-ok i)
+    → zs ≡ out-link-numbers o → T (out-link-ok o) → (xs ++ (ys ++ zs) ≡ visit-numbers (station-visit-of ms i o)) × VisitFits bar (station-visit-of ms i o)
+unfolding visit-numbers station-visit-of
+visit-parts bar xs ms ys zs i o x y z a b c d =
+    let m : ms ≡ visit-row (station-visit-of ms i o) = row-written ms y i o in
+    (ap₂ _++_ (x ∙ m) (ap₂ _++_ a c), (row-good ms y i o b d, subst (Over bar) m z))
 
 pub visit-walks : (bar : List ℕ) (p : ℕ) (ns : List ℕ) (e : StationVisit) → walks (visit-entry bar) p ns e → (ns ≡ visit-numbers e) × VisitFits bar e
-unfolding visit-entry visit-numbers station-visit-of
+unfolding visit-entry
 visit-walks bar p ns e w =
     let s = then-walks (row visit-ranges bar) (λ ns. in-link-entry and-then (λ i. out-link-entry and-then (λ o. done (station-visit-of ns i o)))) p ns e w in
     let r = then-walks in-link-entry (λ i. out-link-entry and-then (λ o. done (station-visit-of (s .value) i o))) (p + span (s .before)) (s .behind) e (s .second) in
@@ -207,11 +217,9 @@ visit-walks bar p ns e w =
     let (x, y, z) = row-walks visit-ranges bar p (s .before) (s .value) (s .first) in
     let (a, b) = in-walks (p + span (s .before)) (r .before) (r .value) (r .first) in
     let (c, d) = out-walks (p + span (s .before) + span (r .before)) (r .behind) o v in
-    let m : s .value ≡ visit-row (station-visit-of (s .value) (r .value) o) = row-written (s .value) y (r .value) o in
-    rw (← q) (
-      (s .whole ∙ ap₂ (λ (a b : List ℕ). a ++ b) (x ∙ m) (r .whole ∙ ap₂ (λ (a b : List ℕ). a ++ b) a c)),
-      (row-good (s .value) y (r .value) o b d, subst (Over bar) m z),
-    )
+    let (k, f) = visit-parts bar (s .before) (s .value) (r .before) (r .behind) (r .value) o x y z a b c d in
+    let l : ns ≡ s .before ++ (r .before ++ r .behind) = s .whole ∙ ap (λ (l : List ℕ). s .before ++ l) (r .whole) in
+    (l ∙ k ∙ ap visit-numbers q, subst (VisitFits bar) q f)
 
 pub visit-law : Entry visit-entry visit-numbers VisitFits
 visit-law = record { walk = walks-visit; back = visit-walks }

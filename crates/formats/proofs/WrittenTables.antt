@@ -3,7 +3,7 @@
 use Prim.Native.Nat.{_*_, _≤_}
 use mathlib.Core.Path.{_≡_, refl, sym, _∙_, ap, ap₂, fun-ext}
 use mathlib.Core.Bool.{Bool, true, false, _&&_}
-use mathlib.Core.List.{List, [], _∷_, map, flatMap}
+use mathlib.Core.List.{List, [], _∷_, map}
 use native.Mathlib.Omega.{arith}
 use lib.Dec.{T, leb, eqb-refl, ltb→lt, leb→le}
 use lib.ListN.{length, length-map, length-take}
@@ -25,9 +25,10 @@ use Rattle.formats.specs.Types.{Station, InLink, OutLink, Visit, Relatio
 use Rattle.formats.proofs.ListLaws.{flatMap-length}
 use Rattle.formats.proofs.VisitWalks.{in-link-ok, out-link-ok, visit-ok}
 use Rattle.formats.proofs.OrderLaws.{before, visit-key, relation-key}
-use Rattle.formats.proofs.TimetableWalks.{VisitsIn, RelationsIn}
+use Rattle.formats.proofs.TimetableWalks.{all-visits, all-relations, VisitsIn, RelationsIn}
 use Rattle.formats.proofs.EnterLaws.{at, Clear}
-use Rattle.formats.proofs.EnteredTables.{visit-station, to-entry, with-visits, visit-known, visits-entering, relation-station, to-relation, with-relations, relation-known, relations-entering}
+use Rattle.formats.proofs.EnteredTables.{visit-station, to-entry, with-visits, visit-known, visits-entering}
+use Rattle.formats.proofs.EnteredTables.{relation-station, to-relation, with-relations, relation-known, relations-entering}
 use Rattle.formats.proofs.StationLists.{gathered-order, gathered-none, gathered-own}
 
 -- links in range
@@ -78,7 +79,9 @@ module _ (n : Network) (g : network-refusal n ≡ 0) (m : Timetable) (w : Whole 
 
   own-visits : (s : Station) → T (every (at visit-station s) (visits-at m s))
   unfolding visits-at
-  own-visits s = every-mapped (at visit-station s) (λ e. true) (λ e. record { station = s; train = e .train; visit = e .visit }) (λ e t. eqb-refl (s .0)) (m s .visits) (every-true (m s .visits))
+  own-visits s =
+      every-mapped (at visit-station s) (λ e. true) (λ e. record { station = s; train = e .train; visit = e .visit }) (λ e t. eqb-refl (s .0))
+      (m s .visits) (every-true (m s .visits))
 
   -- in range and known
   abbrev fine : StationVisit → Bool
@@ -98,7 +101,7 @@ module _ (n : Network) (g : network-refusal n ≡ 0) (m : Timetable) (w : Whole 
       let r : T (every (out-good n s) (outs (e .visit))) = search parts in
       search both
 
-  visits-fine : T (every fine (flatMap (visits-at m) (stations-of n)))
+  visits-fine : T (every fine (all-visits n m))
   unfolding visits-at
   visits-fine =
       every-flatMap fine (visits-at m) sound
@@ -119,28 +122,28 @@ module _ (n : Network) (g : network-refusal n ≡ 0) (m : Timetable) (w : Whole 
   unfolding visits-at
   visits-few s l = omega (arith, length-map {B = StationVisit} (m s .visits) (λ e. record { station = s; train = e .train; visit = e .visit }), table s l .visits .few)
 
-  pub visits-in : VisitsIn (flatMap (visits-at m) (stations-of n))
+  pub visits-in : VisitsIn (all-visits n m)
   visits-in =
-      let h : length (flatMap (visits-at m) (stations-of n)) ≤ length (stations-of n) * 24 = flatMap-length (visits-at m) 24 (listed n) visits-few (stations-of n) (stations-listed n) in
-      let k : length (flatMap (visits-at m) (stations-of n)) ≤ 384 = omega (arith, sixteen) in
+      let h : length (all-visits n m) ≤ length (stations-of n) * 24 = flatMap-length (visits-at m) 24 (listed n) visits-few (stations-of n) (stations-listed n) in
+      let k : length (all-visits n m) ≤ 384 = omega (arith, sixteen) in
       record {
         many = record { low = omega arith; high = k; short = omega arith };
-        good = every-weaker fine visit-ok (λ v t. and-l (visit-ok v) (visit-known n v) t) (flatMap (visits-at m) (stations-of n)) visits-fine;
+        good = every-weaker fine visit-ok (λ v t. and-l (visit-ok v) (visit-known n v) t) (all-visits n m) visits-fine;
         order = gathered-order visit-station (λ v. v .train .0 ∷ []) (visits-at m) own-visits (listed n) visits-order (stations-of n) (stations-listed n) rise;
       }
 
   -- what a station keeps of them
-  pub visits-listed : (k : Station) → T (listed n k) → keep (at visit-station k) (flatMap (visits-at m) (stations-of n)) ≡ visits-at m k
+  pub visits-listed : (k : Station) → T (listed n k) → keep (at visit-station k) (all-visits n m) ≡ visits-at m k
   unfolding listed
   visits-listed k l = gathered-own visit-station (λ v. v .train .0 ∷ []) (visits-at m) own-visits k (stations-of n) rise l
 
-  pub visits-unlisted : (k : Station) → listed n k ≡ false → keep (at visit-station k) (flatMap (visits-at m) (stations-of n)) ≡ []
+  pub visits-unlisted : (k : Station) → listed n k ≡ false → keep (at visit-station k) (all-visits n m) ≡ []
   unfolding listed
   visits-unlisted k l = gathered-none visit-station (λ v. v .train .0 ∷ []) (visits-at m) own-visits k (stations-of n) l
 
-  pub visits-clear : Clear visit-station (before visit-key) _ _ with-visits (visit-known n) 24 (visits-entering n) (flatMap (visits-at m) (stations-of n))
+  pub visits-clear : Clear visit-station (before visit-key) _ _ with-visits (visit-known n) 24 (visits-entering n) (all-visits n m)
   visits-clear = record {
-    each-known = every-weaker fine (visit-known n) (λ v t. and-r (visit-ok v) (visit-known n v) t) (flatMap (visits-at m) (stations-of n)) visits-fine;
+    each-known = every-weaker fine (visit-known n) (λ v t. and-r (visit-ok v) (visit-known n v) t) (all-visits n m) visits-fine;
     few = λ k. by-value (listed n k)
         (λ e. rw (visits-listed k (true-T (listed n k) e)) (visits-few k (true-T (listed n k) e)))
         (λ e. rw (visits-unlisted k e) (omega arith));
@@ -150,12 +153,13 @@ module _ (n : Network) (g : network-refusal n ≡ 0) (m : Timetable) (w : Whole 
 
   own-relations : (s : Station) → T (every (at relation-station s) (relations-at m s))
   unfolding relations-at
-  own-relations s = every-mapped (at relation-station s) (λ r. true) (λ r. record { station = s; relation = r }) (λ r t. eqb-refl (s .0)) (m s .relations) (every-true (m s .relations))
+  own-relations s =
+      every-mapped (at relation-station s) (λ r. true) (λ r. record { station = s; relation = r }) (λ r t. eqb-refl (s .0)) (m s .relations) (every-true (m s .relations))
 
   abbrev fair : StationRelation → Bool
   fair r = station-relation-ok r && relation-known n r
 
-  relations-fair : T (every fair (flatMap (relations-at m) (stations-of n)))
+  relations-fair : T (every fair (all-relations n m))
   unfolding relations-at station-relation-ok
   relations-fair =
       every-flatMap fair (relations-at m) sound
@@ -179,29 +183,29 @@ module _ (n : Network) (g : network-refusal n ≡ 0) (m : Timetable) (w : Whole 
   unfolding relations-at
   relations-few s l = omega (arith, length-map {B = StationRelation} (m s .relations) (λ r. record { station = s; relation = r }), table s l .relations .few)
 
-  pub relations-in : RelationsIn (flatMap (relations-at m) (stations-of n))
+  pub relations-in : RelationsIn (all-relations n m)
   relations-in =
-      let h : length (flatMap (relations-at m) (stations-of n)) ≤ length (stations-of n) * 6
+      let h : length (all-relations n m) ≤ length (stations-of n) * 6
       = flatMap-length (relations-at m) 6 (listed n) relations-few (stations-of n) (stations-listed n) in
-      let k : length (flatMap (relations-at m) (stations-of n)) ≤ 96 = omega (arith, sixteen) in
+      let k : length (all-relations n m) ≤ 96 = omega (arith, sixteen) in
       record {
         many = record { low = omega arith; high = k; short = omega arith };
-        good = every-weaker fair station-relation-ok (λ r t. and-l (station-relation-ok r) (relation-known n r) t) (flatMap (relations-at m) (stations-of n)) relations-fair;
+        good = every-weaker fair station-relation-ok (λ r t. and-l (station-relation-ok r) (relation-known n r) t) (all-relations n m) relations-fair;
         order = gathered-order relation-station (λ r. key (r .relation)) (relations-at m) own-relations (listed n) relations-order (stations-of n) (stations-listed n) rise;
       }
 
-  pub relations-listed : (k : Station) → T (listed n k) → keep (at relation-station k) (flatMap (relations-at m) (stations-of n)) ≡ relations-at m k
+  pub relations-listed : (k : Station) → T (listed n k) → keep (at relation-station k) (all-relations n m) ≡ relations-at m k
   unfolding listed
   relations-listed k l = gathered-own relation-station (λ r. key (r .relation)) (relations-at m) own-relations k (stations-of n) rise l
 
-  pub relations-unlisted : (k : Station) → listed n k ≡ false → keep (at relation-station k) (flatMap (relations-at m) (stations-of n)) ≡ []
+  pub relations-unlisted : (k : Station) → listed n k ≡ false → keep (at relation-station k) (all-relations n m) ≡ []
   unfolding listed
   relations-unlisted k l = gathered-none relation-station (λ r. key (r .relation)) (relations-at m) own-relations k (stations-of n) l
 
   pub relations-clear : (b : Timetable)
-      → Clear relation-station (before relation-key) _ _ (with-relations b) (relation-known n) 6 (relations-entering n b) (flatMap (relations-at m) (stations-of n))
+      → Clear relation-station (before relation-key) _ _ (with-relations b) (relation-known n) 6 (relations-entering n b) (all-relations n m)
   relations-clear b = record {
-    each-known = every-weaker fair (relation-known n) (λ r t. and-r (station-relation-ok r) (relation-known n r) t) (flatMap (relations-at m) (stations-of n)) relations-fair;
+    each-known = every-weaker fair (relation-known n) (λ r t. and-r (station-relation-ok r) (relation-known n r) t) (all-relations n m) relations-fair;
     few = λ k. by-value (listed n k)
         (λ e. rw (relations-listed k (true-T (listed n k) e)) (relations-few k (true-T (listed n k) e)))
         (λ e. rw (relations-unlisted k e) (omega arith));
@@ -228,7 +232,7 @@ module _ (n : Network) (g : network-refusal n ≡ 0) (m : Timetable) (w : Whole 
   abbrev table-of : List Entry → List Relation → Table
   table-of es rs = record { visits = es; relations = rs }
 
-  pub written-back : with-relations (with-visits (flatMap (visits-at m) (stations-of n))) (flatMap (relations-at m) (stations-of n)) ≡ m
+  pub written-back : with-relations (with-visits (all-visits n m)) (all-relations n m) ≡ m
   unfolding with-relations with-visits empty
   written-back =
       fun-ext (λ k. by-value (listed n k)
