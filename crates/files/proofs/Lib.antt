@@ -5,3 +5,4 @@ pub mod DraftLaws
 pub mod NetworkLaws
 pub mod RelationLaws
 pub mod EditLaws
+pub mod ShiftLaws

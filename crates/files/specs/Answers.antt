@@ -24,6 +24,11 @@ use Rattle.files.specs.declared.relation.StationRelationRead.{StationRel
 use Rattle.files.specs.declared.edit.EditRead.{EditRead}
 use Rattle.files.specs.declared.edit.Cursor.{Cursor}
 use Rattle.files.specs.declared.edit.NextEdit.{NextEdit}
+use Rattle.files.specs.declared.edits.Scan.{Scan}
+use Rattle.files.specs.declared.edits.EditsPart.{EditsPart}
+use Rattle.files.specs.declared.edits.EditsRead.{EditsRead}
+use Rattle.files.specs.declared.shift.ShiftRead.{ShiftRead}
+use Rattle.timetable.specs.EditsFile.{Shift}
 use Rattle.railway.specs.declared.relation.Relation.{Relation}
 use Rattle.railway.specs.declared.edit.StationRelation.{StationRelation}
 use Rattle.railway.specs.declared.edit.Edit.{Edit}
@@ -111,3 +116,21 @@ edit-read (refused k p) = EditRead.Refused k p
 unfoldable pub next-read : Outcome Edit → NextEdit
 next-read (accepted e next) = NextEdit.Entry e (record { at = next })
 next-read (refused k p) = NextEdit.Refused k p
+
+-- lists of edits: their end
+unfoldable pub scan-read : Outcome (List Edit) → Scan
+scan-read (accepted es next) = Scan.End next
+scan-read (refused k p) = Scan.Refused k p
+
+unfoldable pub edits-read : Outcome (Placed (List Edit)) → EditsPart
+edits-read (accepted es next) = record { accepted = true; refusal = 0; place = next; first = es .place; count = length (es .entry) }
+edits-read (refused k p) = record { accepted = false; refusal = k; place = p; first = 0; count = 0 }
+
+-- document 01's number and values: 0 with the place behind the edits, that of the first and their count, or the refusal and its place
+unfoldable pub edits-answer : Outcome (Placed (List Edit)) → EditsRead
+edits-answer (accepted es next) = record { refusal = 0; place = next; first = es .place; count = length (es .entry) }
+edits-answer (refused k p) = record { refusal = k; place = p; first = 0; count = 0 }
+
+unfoldable pub shift-answer : Outcome Shift → ShiftRead
+shift-answer (accepted x next) = record { refusal = 0; place = next; network = x .network; first = x .edits .place; count = length (x .edits .entry) }
+shift-answer (refused k p) = record { refusal = k; place = p; network = blank-network; first = 0; count = 0 }

@@ -4,3 +4,5 @@ mod draft; // what a network lists, before its lines are tested and the file's e
 pub mod network; // network files
 mod relation; // relations in files
 pub mod edit; // one edit of a file
+pub mod edits; // files of edits
+pub mod shift; // the input of `shift`: network, then edits
