@@ -1,4 +1,5 @@
 pub mod PutLaws
 pub mod BuildLaws
 pub mod ListLaws
+pub mod JointLaws
 pub mod CallLaws
