@@ -3,3 +3,4 @@ pub mod BuildLaws
 pub mod ListLaws
 pub mod JointLaws
 pub mod CallLaws
+pub mod ShareLaws
