@@ -1,4 +1,6 @@
 pub mod PutLaws
 pub mod BuildLaws
 pub mod ListLaws
+pub mod JointLaws
 pub mod CallLaws
+pub mod ShareLaws

@@ -1,3 +1,4 @@
 pub mod Types
 pub mod Lists
 pub mod Builder
+pub mod Joined

@@ -1,13 +1,22 @@
 // The calls that list findings. Refusals in document 01's order: 5, 3, 4, 6, 13.
 ghost use mathlib.Core.Path.{_≡_};
+ghost use mathlib.Core.Bool.{not, _&&_};
 ghost use lib.ListN.{length};
+ghost use Rattle.base.specs.Choice.{_if_else_};
+ghost use Rattle.railway.specs.Ranges.{area-ok};
+ghost use Rattle.railway.specs.Networks.{network-refusal};
+ghost use Rattle.sheet.specs.Passes.{sheet-passes};
+ghost use Rattle.findings.specs.declared.scope.Scope.{Scope};
 ghost use Rattle.sheet.specs.Sheets.{decode-sheet};
 ghost use Rattle.timetable.specs.Outputs.{output, output-after};
 ghost use Rattle.findings.specs.Builder.{all-numbers};
-ghost use Rattle.findings.specs.Lists.{sheet-list, sheet-list-refusal};
+ghost use Rattle.findings.specs.Lists.{sheet-list, area-list, two-list, sheet-list-refusal, area-list-refusal, two-areas, two-list-refusal};
+ghost use Rattle.findings.specs.Joined.{joined};
 use crate::build;
+use crate::joint;
 use crate::scope::Scope;
 use railway::network::Network;
+use railway::sorts::Area;
 use sheet::test;
 use timetable::Output;
 
@@ -38,6 +47,101 @@ pub fn sheet_findings(sheet: &[u8], n: Network, out: &mut [u16]) -> Output
     }
     if test::good_sheet(sheet, n, 0) {
         return write_list(out, sheet, n, Scope::Whole);
+    }
+    Output::Refused(6)
+}
+
+// 3 of the area or the network, 4, or 0.
+fn area_refusal(n: Network, a: Area) -> u8
+    ensures { λ r. ⌜ r ≡ (3 if not (area-ok a) else network-refusal n) ⌝ }
+{
+    if a.valid() {
+        return n.refusal();
+    }
+    3
+}
+
+// "An area's findings, at its stations: rules 1 to 6, and 7 to 10 where the far station is its own too."
+pub fn area_findings(sheet: &[u8], n: Network, a: Area, out: &mut [u16]) -> Output
+    ensures { λ r. ⌜ (r ≡ output (area-list-refusal n (now (sheet .entry)) a) (area-list n (now (sheet .entry)) a) (now (out .entry))) × (now (out .exit) ≡ output-after (area-list-refusal n (now (sheet .entry)) a) (area-list n (now (sheet .entry)) a) (now (out .entry))) ⌝ }
+{
+    if sheet.len() != 8192 {
+        return Output::Refused(5);
+    }
+    let early = area_refusal(n, a);
+    if early != 0 {
+        return Output::Refused(early);
+    }
+    if test::good_sheet(sheet, n, a.0) {
+        return write_list(out, sheet, n, Scope::Within(a));
+    }
+    Output::Refused(6)
+}
+
+fn are_two(a: Area, b: Area) -> bool
+    ensures { λ r. ⌜ r ≡ two-areas a b ⌝ }
+{
+    if a.valid() {
+        if b.valid() {
+            return a.0 != b.0;
+        }
+    }
+    false
+}
+
+// 3 of the areas or the network, 4, or 0.
+fn pair_refusal(n: Network, a: Area, b: Area) -> u8
+    ensures { λ r. ⌜ r ≡ (3 if not (two-areas a b) else network-refusal n) ⌝ }
+{
+    if are_two(a, b) {
+        return n.refusal();
+    }
+    3
+}
+
+// Both sheets are good, each over the stations of its area.
+fn both_good(first: &[u8], second: &[u8], n: Network, a: Area, b: Area) -> bool
+    ensures { λ r. ⌜ r ≡ (sheet-passes n (a .0) (now (first .entry)) && sheet-passes n (b .0) (now (second .entry))) ⌝ }
+{
+    if test::good_sheet(first, n, a.0) {
+        return test::good_sheet(second, n, b.0);
+    }
+    false
+}
+
+// The list of two sheets, which are put together in one.
+fn write_pair(out: &mut [u16], first: &[u8], second: &[u8], n: Network, a: Area, b: Area) -> Output
+    requires { ⌜ (length (now first) ≡ 8192) × (length (now second) ≡ 8192) ⌝ }
+    ensures { λ r. ⌜ (r ≡ output 0 (all-numbers n (Scope.Between a b) (decode-sheet (joined n a b (now (first .entry)) (now (second .entry))))) (now (out .entry))) × (now (out .exit) ≡ output-after 0 (all-numbers n (Scope.Between a b) (decode-sheet (joined n a b (now (first .entry)) (now (second .entry))))) (now (out .entry))) ⌝ }
+{
+    let mut sheet = [0u8; 8192];
+    joint::join(&mut sheet, first, second, n, a, b);
+    write_list(out, &sheet, n, Scope::Between(a, b))
+}
+
+// "A pair's (unordered): 7 to 10 across the two, which differ (else 3)."
+pub fn pair_findings(
+    first: &[u8],
+    second: &[u8],
+    n: Network,
+    a: Area,
+    b: Area,
+    out: &mut [u16],
+) -> Output
+    ensures { λ r. ⌜ (r ≡ output (two-list-refusal n (now (first .entry)) (now (second .entry)) a b) (two-list n (now (first .entry)) (now (second .entry)) a b) (now (out .entry))) × (now (out .exit) ≡ output-after (two-list-refusal n (now (first .entry)) (now (second .entry)) a b) (two-list n (now (first .entry)) (now (second .entry)) a b) (now (out .entry))) ⌝ }
+{
+    if first.len() != 8192 {
+        return Output::Refused(5);
+    }
+    if second.len() != 8192 {
+        return Output::Refused(5);
+    }
+    let early = pair_refusal(n, a, b);
+    if early != 0 {
+        return Output::Refused(early);
+    }
+    if both_good(first, second, n, a, b) {
+        return write_pair(out, first, second, n, a, b);
     }
     Output::Refused(6)
 }
