@@ -1,3 +1,4 @@
 pub mod RowLaws
 pub mod RelationLaws
 pub mod CallLaws
+pub mod NetworkLaws
