@@ -1,1 +1,4 @@
 pub mod ListLaws
+pub mod TakenLaws
+pub mod RefusalLaws
+pub mod RunLaws

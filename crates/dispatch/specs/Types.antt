@@ -4,3 +4,6 @@ pub use Rattle.railway.specs.declared.network.Network.{Network}
 pub use Rattle.timetable.specs.declared.Answer.{Answer}
 pub use Rattle.timetable.specs.declared.Output.{Output}
 pub use Rattle.dispatch.specs.declared.Run.{Run}
+pub use Rattle.files.specs.declared.edit.Cursor.{Cursor}
+pub use Rattle.files.specs.declared.edit.NextEdit.{NextEdit}
+pub use Rattle.files.specs.declared.edits.EditsRead.{EditsRead}

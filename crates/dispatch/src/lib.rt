@@ -1,5 +1,5 @@
 // A list of edits run on a division.
-mod list; // the loop
+pub mod list; // the edits of a file, one after another
 
 // What running a list answers.
 pub enum Run {

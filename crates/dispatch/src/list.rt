@@ -2,8 +2,17 @@
 // the pages that it touches. Where they are not all good, each edit tests those that it names, as the single call does.
 ghost use mathlib.Core.Path.{_≡_};
 ghost use mathlib.Core.Bool.{true};
+ghost use Prim.Native.Nat.{_+_, _*_, _≤_};
+ghost use lib.ListN.{length};
+ghost use Rattle.timetable.specs.Outputs.{put};
 ghost use Rattle.machine.specs.Calls.{division-answer, division-after};
-ghost use Rattle.dispatch.specs.Lists.{known-good};
+ghost use Rattle.dispatch.specs.Lists.{known-good, answer-numbers, answers-of, division-of, run-answer, run-division, run-answers};
+ghost use Rattle.dispatch.specs.Taken.{edits-at, can-be-read};
+use crate::Run;
+use files::edit;
+use files::edit::Cursor;
+use files::edit::NextEdit;
+use files::edits::read_edits;
 use machine::calls;
 use railway::edit::Edit;
 use railway::network::Network;
@@ -29,4 +38,65 @@ fn edit_once(division: &mut [u8], n: Network, e: Edit, tested: bool) -> Answer
         return calls::edit_tested(division, n, e);
     }
     calls::edit_division(division, n, e)
+}
+
+// The two numbers of the answer to the edit at i.
+fn put_answer(out: &mut [u8], i: usize, a: Answer)
+    requires { ⌜ (2 * i + 2 ≤ length (now out)) × (i ≤ 1000) ⌝ }
+    ensures { λ _. ⌜ now (out .exit) ≡ put (2 * i) (answer-numbers a) (now (out .entry)) ⌝ }
+{
+    out[2 * i] = a.refusal;
+    out[2 * i + 1] = a.removed;
+}
+
+// `count` edits from the place on, which can all be read; there is room for their answers.
+fn run_edits(
+    division: &mut [u8],
+    n: Network,
+    file: &[u8],
+    at: usize,
+    count: usize,
+    tested: bool,
+    out: &mut [u8],
+)
+    requires { ⌜ (2 * count ≤ length (now out)) × (count ≤ 1000) × (can-be-read count (now file) at ≡ true) × (tested ≡ true → known-good n (now division) ≡ true) ⌝ }
+    ensures { λ _. ⌜ (now (division .exit) ≡ division-of n (edits-at count (now (file .entry)) at) (now (division .entry))) × (now (out .exit) ≡ put 0 (answers-of n (edits-at count (now (file .entry)) at) (now (division .entry))) (now (out .entry))) ⌝ }
+{
+    let mut cursor = Cursor { at: at };
+    let mut i: usize = 0;
+    while i < count {
+        let next = edit::next_edit(file, cursor);
+        match next {
+            NextEdit::Refused(_k, _p) => {
+                return;
+            }
+            NextEdit::Entry(e, c) => {
+                let a = edit_once(division, n, e, tested);
+                put_answer(out, i, a);
+                cursor = c;
+            }
+        }
+        i += 1;
+    }
+}
+
+// The edits of a file. 5 for the division's length, the file's refusal, 13; then each edit answers as its single call does on what the one before left.
+pub fn run_list(division: &mut [u8], n: Network, file: &[u8], out: &mut [u8]) -> Run
+    ensures { λ r. ⌜ (r ≡ run-answer n (now (file .entry)) (now (division .entry)) (now (out .entry))) × (now (division .exit) ≡ run-division n (now (file .entry)) (now (division .entry)) (now (out .entry))) × (now (out .exit) ≡ run-answers n (now (file .entry)) (now (division .entry)) (now (out .entry))) ⌝ }
+{
+    if division.len() != 49152 {
+        return Run::Refused(5, 0);
+    }
+    let read = read_edits(file);
+    if read.refusal != 0 {
+        return Run::Refused(read.refusal, read.place);
+    }
+    let count = read.count as usize;
+    let needed = 2 * count;
+    if out.len() < needed {
+        return Run::TooShort(needed);
+    }
+    let tested = all_good(division, n);
+    run_edits(division, n, file, read.first, count, tested, out);
+    Run::Answered(needed)
 }
