@@ -3,7 +3,7 @@ use Prim.Native.Nat.{ℕ}
 use mathlib.Core.Path.{_≡_, refl, sym, ap, ap₂, _∙_, fun-ext}
 use mathlib.Core.Bool.{Bool, true, false, not, _&&_, _||_}
 use mathlib.Core.List.{List}
-use lib.Dec.{T, eqb, ltb}
+use lib.Dec.{eqb, ltb}
 use lib.ListN.{length}
 use borrow.Author.Tests.{eqb-true}
 use Rattle.base.specs.Choice.{if_then_else_, _if_else_}
@@ -16,7 +16,7 @@ use Rattle.timetable.specs.Groups.{Grouping, in-group, merge, gather}
 use Rattle.timetable.specs.Findings.{Spanning, picked, spanning, between, pair-findings}
 use Rattle.theory.specs.Statements.{pair-list}
 use Rattle.sheet.specs.Sheets.{decode-sheet}
-use Rattle.findings.specs.Types.{Station, Area, Network, Finding}
+use Rattle.findings.specs.Types.{Station, Area, Network}
 use Rattle.findings.specs.Lists.{numbers-of, two-parts, two-list, list-refusal, good-part, two-areas, two-list-refusal}
 
 and-turned : (x y : Bool) → (x && y) ≡ (y && x)
