@@ -1,11 +1,11 @@
 -- The calls: which refusal each test brings, and what is written where none does. Assumes nothing.
 use Prim.Native.Nat.{ℕ, _+_, _≤_, _<_}
-use mathlib.Core.Path.{_≡_, refl, sym, ap, ap₂, _∙_}
+use mathlib.Core.Path.{_≡_, sym, ap, ap₂, _∙_}
 use mathlib.Core.Bool.{Bool, true, false, not, _&&_}
-use mathlib.Core.List.{List, _++_}
+use mathlib.Core.List.{List}
 use native.Mathlib.Omega.{arith}
 use lib.Dec.{T, eqb}
-use lib.ListN.{length, drop}
+use lib.ListN.{length}
 use borrow.Author.Tests.{eq-eqb, ne-eqb, le-leb, lt-leb}
 use Rattle.base.specs.Choice.{_if_else_}
 use Rattle.base.proofs.Tests.{T-true, and-l, and-r, held}
@@ -20,7 +20,7 @@ use Rattle.findings.specs.Types.{Area, Network, Output}
 use Rattle.findings.specs.declared.scope.Scope.{Scope}
 use Rattle.findings.specs.Lists.{sheet-list, area-list, two-list, list-refusal, good-part, sheet-list-refusal, area-list-refusal, two-areas, two-list-refusal}
 use Rattle.findings.specs.Joined.{joined}
-use Rattle.findings.specs.Builder.{Puts, put-all, all-numbers}
+use Rattle.findings.specs.Builder.{put-all, all-numbers}
 use Rattle.findings.proofs.PutLaws.{put-whole}
 use Rattle.findings.proofs.ListLaws.{whole-numbers, area-numbers}
 use Rattle.findings.proofs.JointLaws.{joined-numbers}

@@ -4,3 +4,4 @@ pub mod ListLaws
 pub mod JointLaws
 pub mod CallLaws
 pub mod ShareLaws
+pub mod TurnLaws

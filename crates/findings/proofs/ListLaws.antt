@@ -1,9 +1,8 @@
 -- What the builder puts are the lists of document 01: the numbers of the findings that a scope takes, rule by rule, are what each walk puts. Assumes nothing.
 use Prim.Native.Nat.{ℕ, _+_}
 use mathlib.Core.Path.{_≡_, refl, sym, ap, ap₂, _∙_, fun-ext}
-use mathlib.Core.Bool.{Bool, true, false, not, _&&_, _||_}
+use mathlib.Core.Bool.{Bool, true, false, not, _&&_}
 use mathlib.Core.List.{List, [], _∷_, _++_, map, flatMap, append-nil, append-assoc}
-use lib.Dec.{T}
 use Rattle.base.specs.Choice.{if_then_else_}
 use Rattle.base.specs.Lists.{keep}
 use Rattle.base.proofs.Tests.{every-true}
@@ -17,7 +16,7 @@ use Rattle.timetable.specs.Machine.{Timetable}
 use Rattle.timetable.specs.Rules.{breaks-1, breaks-2, breaks-3, met, breaks-5, breaks-6, out-answered, in-answered, breaks-9, breaks-10}
 use Rattle.timetable.specs.Findings.{finding, Spanning, one, by-one, by-two, unmet, own, by-out, by-in, rule-7, rule-8, rule-9, rule-10, across, spanning, picked, findings, inside, group-findings, between, pair-findings}
 use Rattle.theory.specs.Statements.{numbers}
-use Rattle.findings.specs.Types.{Station, Area, Inward, Outward, Visit, Relation, Network, Finding}
+use Rattle.findings.specs.Types.{Station, Area, Inward, Outward, Visit, Relation, Network}
 use Rattle.findings.specs.declared.scope.Scope.{Scope}
 use Rattle.findings.specs.Lists.{numbers-of}
 use Rattle.findings.specs.Builder.{takes, told, clash, against, unmet-numbers, out-broken, in-broken, far-broken, broken, facing, step, walk, own-numbers, far-numbers, station-numbers, all-numbers}

@@ -1,6 +1,6 @@
 -- Numbers put into a buffer: what is put in two parts is put at once, so that a loop may be left to say what is still to be put. On a buffer that is long enough the
 -- numbers stand at its front and the rest is kept. Assumes nothing.
-use Prim.Native.Nat.{ℕ, zero, suc, _+_, _≤_, _<_}
+use Prim.Native.Nat.{ℕ, zero, suc, _+_, _≤_}
 use mathlib.Core.Path.{_≡_, refl, sym, ap, ap₂, _∙_}
 use mathlib.Core.Bool.{Bool, true, false}
 use mathlib.Core.List.{List, [], _∷_, _++_}

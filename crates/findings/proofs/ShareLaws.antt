@@ -10,7 +10,7 @@ use borrow.Author.Tests.{eqb-true}
 use Rattle.base.specs.Choice.{if_then_else_}
 use Rattle.railway.specs.Ranges.{area-ok}
 use Rattle.railway.specs.Networks.{area-of}
-use Rattle.timetable.specs.Tables.{Table, empty}
+use Rattle.timetable.specs.Tables.{empty}
 use Rattle.timetable.specs.Machine.{Timetable}
 use Rattle.timetable.specs.Groups.{Divided, divide, merge, gather}
 use Rattle.timetable.specs.Findings.{group-findings, pair-findings}

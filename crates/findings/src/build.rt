@@ -1,166 +1,29 @@
 // The numbers of a list of findings, in their order: stations rising, rules rising, first and second rising. Each function puts its numbers into the lent buffer
-// from a place on and answers the place behind them; on a buffer that is too short it only counts.
+// from a place on and answers the place behind them; on a buffer that is too short it only counts. A page has at most 24 visits and 6 relations, so that a visit has at
+// most 96 numbers under one rule, a rule 2,304, a station 20,760 and a list 332,160: that no sum overflows is kept by these bounds.
 ghost use mathlib.Core.Path.{_≡_};
-ghost use Prim.Native.Nat.{_+_, _≤_, min};
-ghost use lib.ListN.{length, drop};
 ghost use mathlib.Core.Bool.{_||_};
+ghost use Prim.Native.Nat.{_+_, _≤_, min};
 ghost use lib.Dec.{eqb};
+ghost use lib.ListN.{length, drop};
 ghost use Rattle.sheet.specs.Changes.{table-in};
 ghost use Rattle.sheet.specs.Sheets.{decode-sheet};
 ghost use Rattle.rules.specs.Parts.{entry, entry-at};
-ghost use Rattle.findings.specs.Builder.{Puts, broken, in-broken, out-broken, far-broken, clash, against, facing, step, walk, unmet-numbers};
-ghost use Rattle.findings.specs.Builder.{own-numbers, far-numbers, station-numbers, all-numbers};
+ghost use Rattle.findings.specs.Builder.{Puts, against, facing, step, walk, unmet-numbers, own-numbers, far-numbers, station-numbers, all-numbers};
 use crate::put;
 use crate::scope;
 use crate::scope::Scope;
+use crate::tests;
 use railway::network::Network;
 use railway::sorts::Station;
 use railway::sorts::Train;
-use railway::visit::InLink;
-use railway::visit::Inward;
 use railway::visit::OutLink;
-use railway::visit::Outward;
 use railway::visit::Visit;
 use records::bytes;
 use records::record;
 use rules::entries;
-use rules::lines;
-use rules::links;
 use rules::relations;
-use rules::stays;
 use sheet::page;
-
-// The page of a station; an empty part where there is no such station.
-fn page_of(sheet: &[u8], s: Station) -> &[u8]
-    requires { ⌜ length (now sheet) ≡ 8192 ⌝ }
-    ensures { λ r. ⌜ table-in (now r) ≡ decode-sheet (now (sheet .entry)) s ⌝ }
-{
-    if s.valid() {
-        let at = 512 * (bytes::size(s.0) - 1);
-        let end = at + 512;
-        return &sheet[at..end];
-    }
-    &sheet[0..0]
-}
-
-// Rules that tell of one train: 1, 5, 6, 7, 8, 9
-
-fn is_out_broken(
-    sheet: &[u8],
-    n: Network,
-    scope: Scope,
-    s: Station,
-    rule: u16,
-    t: Train,
-    v: Visit,
-    o: Outward,
-) -> bool
-    requires { ⌜ length (now sheet) ≡ 8192 ⌝ }
-    ensures { λ r. ⌜ r ≡ out-broken n scope (decode-sheet (now (sheet .entry))) s rule (entry t v) o ⌝ }
-{
-    if scope::is_taken(n, scope, s, o.station) {
-        let there = page_of(sheet, o.station);
-        if rule == 7 {
-            return !links::is_out_answered(s, t, o, there);
-        }
-        return links::breaks_9(s, t, v, o, there);
-    }
-    false
-}
-
-fn is_in_broken(sheet: &[u8], n: Network, scope: Scope, s: Station, t: Train, i: Inward) -> bool
-    requires { ⌜ length (now sheet) ≡ 8192 ⌝ }
-    ensures { λ r. ⌜ r ≡ in-broken n scope (decode-sheet (now (sheet .entry))) s t i ⌝ }
-{
-    if scope::is_taken(n, scope, s, i.station) {
-        let there = page_of(sheet, i.station);
-        return !links::is_in_answered(s, t, i, there);
-    }
-    false
-}
-
-// 7, 8 and 9, where the visit has the link and the list takes its far station.
-fn is_far_broken(
-    sheet: &[u8],
-    n: Network,
-    scope: Scope,
-    s: Station,
-    rule: u16,
-    t: Train,
-    v: Visit,
-) -> bool
-    requires { ⌜ length (now sheet) ≡ 8192 ⌝ }
-    ensures { λ r. ⌜ r ≡ far-broken n scope (decode-sheet (now (sheet .entry))) s rule (entry t v) ⌝ }
-{
-    if rule == 8 {
-        let link = v.inward;
-        match link {
-            InLink::Nothing => {
-                return false;
-            }
-            InLink::From(i) => {
-                return is_in_broken(sheet, n, scope, s, t, i);
-            }
-        }
-    }
-    let link = v.outward;
-    match link {
-        OutLink::Nothing => false,
-        OutLink::To(o) => is_out_broken(sheet, n, scope, s, rule, t, v, o),
-    }
-}
-
-fn is_broken(
-    sheet: &[u8],
-    here: &[u8],
-    n: Network,
-    scope: Scope,
-    s: Station,
-    rule: u16,
-    t: Train,
-    v: Visit,
-) -> bool
-    requires { ⌜ length (now sheet) ≡ 8192 ⌝ }
-    ensures { λ r. ⌜ r ≡ broken n scope (decode-sheet (now (sheet .entry))) (table-in (now (here .entry))) s rule (entry t v) ⌝ }
-{
-    if rule == 1 {
-        return stays::breaks_1(v);
-    }
-    if rule == 5 {
-        return stays::breaks_5(n, v);
-    }
-    if rule == 6 {
-        return lines::breaks_6(n, here, t, v);
-    }
-    is_far_broken(sheet, n, scope, s, rule, t, v)
-}
-
-// Rules that tell of two trains: 2, 3, 10
-
-fn does_clash(
-    here: &[u8],
-    n: Network,
-    s: Station,
-    rule: u16,
-    t: Train,
-    v: Visit,
-    u: Train,
-    w: Visit,
-) -> bool
-    ensures { λ r. ⌜ r ≡ clash n (table-in (now (here .entry))) s rule (entry t v) (entry u w) ⌝ }
-{
-    if rule == 2 {
-        return stays::breaks_2(v, w);
-    }
-    if rule == 3 {
-        return stays::breaks_3(n.headway, v, w);
-    }
-    let link = v.outward;
-    match link {
-        OutLink::Nothing => false,
-        OutLink::To(o) => lines::breaks_10(n, s, here, t, v, o, u, w),
-    }
-}
 
 // t with each train of a page from an index on.
 fn tell_against(
@@ -185,7 +48,7 @@ fn tell_against(
         let r = entries::entry_record(there, i);
         let u = record::train_in(r);
         let w = record::visit_in(r);
-        let found = does_clash(here, n, s, rule, t, v, u, w);
+        let found = tests::does_clash(here, n, s, rule, t, v, u, w);
         to = put::tell(out, to, found, s, rule, t.0, u.0);
         i += 1;
     }
@@ -212,7 +75,18 @@ fn tell_facing(
         OutLink::Nothing => at,
         OutLink::To(o) => {
             if scope::is_taken(n, scope, s, o.station) {
-                return tell_against(out, at, page_of(sheet, o.station), 0, here, n, s, 10, t, v);
+                return tell_against(
+                    out,
+                    at,
+                    tests::page_of(sheet, o.station),
+                    0,
+                    here,
+                    n,
+                    s,
+                    10,
+                    t,
+                    v,
+                );
             }
             at
         }
@@ -254,7 +128,7 @@ fn tell_one(
     if rule == 10 {
         return tell_facing(out, at, sheet, here, n, scope, s, t, v);
     }
-    let found = is_broken(sheet, here, n, scope, s, rule, t, v);
+    let found = tests::is_broken(sheet, here, n, scope, s, rule, t, v);
     put::tell(out, at, found, s, rule, t.0, 0)
 }
 
@@ -354,7 +228,7 @@ fn tell_station(
     requires { ⌜ (length (now sheet) ≡ 8192) × (at ≤ 1600000) ⌝ }
     ensures { λ r. ⌜ Puts at (station-numbers n scope (decode-sheet (now (sheet .entry))) s) (now (out .entry)) r (now (out .exit)) 20760 ⌝ }
 {
-    let here = page_of(sheet, s);
+    let here = tests::page_of(sheet, s);
     if scope::is_taken(n, scope, s, s) {
         let to = tell_own(out, at, sheet, here, n, scope, s);
         return tell_far(out, to, sheet, here, n, scope, s);

@@ -4,3 +4,4 @@ pub mod calls; // the calls
 mod joint; // two sheets put together in one
 mod put; // numbers put into the lent buffer
 mod scope; // which findings a list takes
+mod tests; // which rules are broken

@@ -1,19 +1,18 @@
 -- The records of a page's entries and relations, by their index, and lists of them gone through from an index on. Assumes nothing.
 use Prim.Native.Nat.{ℕ, _+_, _*_, _<_, _≤_, min}
-use mathlib.Core.Path.{_≡_, refl, sym, ap, _∙_}
-use mathlib.Core.List.{List, [], _∷_, map}
+use mathlib.Core.Path.{_≡_, sym, ap, _∙_}
+use mathlib.Core.List.{List, [], _∷_}
 use native.Mathlib.Omega.{arith}
 use native.Mathlib.Decide.{ℕ-discrete}
 use mathlib.Core.Logic.{by-cases}
 use lib.ListN.{length, getD, take, drop, drop-of-length-le, List·getD-map, List·getD-eq-default}
 use lib.Seq.{drop-drop}
 use Rattle.base.proofs.Lengths.{drop-next}
-use Rattle.timetable.specs.Tables.{Entry}
 use Rattle.records.specs.Records.{decode-train, decode-visit, decode-entry, decode-relation}
 use Rattle.sheet.specs.Pages.{records-of, visit-records, relation-records, visits-of, relations-of, decode-page}
 use Rattle.sheet.specs.Changes.{table-in}
-use Rattle.sheet.proofs.ShelfLaws.{record-there, table-of-page, table-of-none, visits-many, relations-many, no-visits, no-relations}
-use Rattle.rules.specs.Types.{Train, Visit, Relation}
+use Rattle.sheet.proofs.ShelfLaws.{record-there, table-of-page, visits-many, relations-many, no-visits, no-relations}
+use Rattle.rules.specs.Types.{Train, Visit}
 use Rattle.rules.specs.Parts.{entry, entry-at, relation-at}
 
 module _ (page : List ℕ) (i n : ℕ) where

@@ -13,7 +13,7 @@ use Rattle.timetable.specs.Tables.{Entry, Table, visit-of}
 use Rattle.timetable.specs.Rules.{connected, disconnected, both-visit, due, ahead, caught, crowded, others, arrival-of}
 use Rattle.records.specs.Records.{decode-entry, decode-relation}
 use Rattle.sheet.specs.Changes.{table-in}
-use Rattle.rules.specs.Types.{Station, Train, Line, Outward, Visit, Trains, Relation, LineRow, Network}
+use Rattle.rules.specs.Types.{Station, Train, Line, Outward, Visit, Trains, Relation, Network}
 
 abbrev pub entry : Train → Visit → Entry
 entry t v = record { train = t; visit = v }

@@ -1,8 +1,8 @@
 -- `findings::build::tell_all` meets its contract. The loop's invariant: what is left to put is what the stations from row i on tell. Assumes nothing.
 use native.Mathlib.Omega.{arith}
 use borrow.Author.Needs.{needs}
-use Prim.Native.Nat.{_+_, _*_, _-_, _≤_}
-use mathlib.Core.Path.{_≡_, refl, sym, _∙_}
+use Prim.Native.Nat.{_*_, _-_, _≤_}
+use mathlib.Core.Path.{_≡_, refl}
 use mathlib.Core.List.{flatMap}
 use denote.Ref.{now}
 use lib.ListN.{length, length-map, take, drop}

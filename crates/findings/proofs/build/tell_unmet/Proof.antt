@@ -2,10 +2,9 @@
 use native.Mathlib.Omega.{arith}
 use borrow.Author.Needs.{needs}
 use Prim.Native.Nat.{_+_, _*_, _-_, _≤_}
-use mathlib.Core.Path.{_≡_, refl, sym, ap, _∙_}
+use mathlib.Core.Path.{_≡_, refl, _∙_}
 use denote.Ref.{now}
 use lib.ListN.{length, drop}
-use Rattle.records.specs.Records.{decode-relation}
 use Rattle.sheet.specs.Changes.{table-in}
 use Rattle.rules.proofs.EntryLaws.{relations-over}
 use Rattle.findings.specs.Builder.{unmet-numbers}

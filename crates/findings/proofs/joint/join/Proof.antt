@@ -1,7 +1,7 @@
 -- `findings::joint::join` meets its contract. The loop's invariant: the first i pages are those of the sheet to be made. Assumes nothing.
 use native.Mathlib.Omega.{arith}
 use Prim.Native.Nat.{_+_, _*_, _-_, _≤_}
-use mathlib.Core.Path.{_≡_, refl, sym, _∙_}
+use mathlib.Core.Path.{_≡_, refl, _∙_}
 use native.Mathlib.Nat.{add-sub-cancel-left}
 use denote.Ref.{now}
 use lib.ListN.{length, take, drop}

@@ -1,5 +1,5 @@
 -- `findings::joint::join_page` meets its contract: each arm is one call, on parts of 512 bytes. Assumes nothing.
-use mathlib.Core.Path.{ap, sym, _∙_}
+use mathlib.Core.Path.{ap, _∙_}
 use borrow.Author.Tests.{eq-eqb, ne-eqb}
 use native.Mathlib.Omega.{arith}
 use denote.Ref.{now}

@@ -1,6 +1,6 @@
 -- `rules::lines::is_crowded` meets its contract: each return rewrites with the tests that led there. Assumes nothing.
-use borrow.Author.Tests.{lt-ltb, le-ltb, le-leb, lt-leb}
-use mathlib.Core.Path.{_≡_, sym, _∙_}
+use borrow.Author.Tests.{lt-ltb, le-leb, lt-leb}
+use mathlib.Core.Path.{_≡_}
 use Rattle.timetable.specs.Rules.{crowded}
 use Prim.Native.Nat.{ℕ, _<_}
 use native.Mathlib.Omega.{arith}

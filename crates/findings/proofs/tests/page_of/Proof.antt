@@ -1,4 +1,4 @@
--- `findings::build::page_of` meets its contract: the part is the page of the station. Assumes nothing.
+-- `findings::tests::page_of` meets its contract: the part is the page of the station. Assumes nothing.
 use native.Mathlib.Omega.{arith}
 use mathlib.Core.Path.{sym, _∙_}
 use denote.Ref.{now}
@@ -7,8 +7,8 @@ use Rattle.railway.specs.Ranges.{station-ok}
 use Rattle.sheet.proofs.SheetLaws.{station-low, station-high}
 use Rattle.findings.proofs.BuildLaws.{page-there, page-none}
 use borrow.Author.Needs.{needs}
-use Rattle.findings.proofs.build.page_of.Statement.{statement}
-use Rattle.findings.proofs.build.page_of.Tie as tie
+use Rattle.findings.proofs.tests.page_of.Statement.{statement}
+use Rattle.findings.proofs.tests.page_of.Tie as tie
 
 valid-requires : tie.Need-valid-requires
 valid-requires c κs = search needs

@@ -1,9 +1,9 @@
--- `findings::build::is_out_broken` meets its contract: each return rewrites with the tests that led there. Assumes nothing.
+-- `findings::tests::is_out_broken` meets its contract: each return rewrites with the tests that led there. Assumes nothing.
 use borrow.Author.Tests.{eq-eqb, ne-eqb}
 use Rattle.findings.specs.Builder.{out-broken}
 use borrow.Author.Needs.{needs}
-use Rattle.findings.proofs.build.is_out_broken.Statement.{statement}
-use Rattle.findings.proofs.build.is_out_broken.Tie as tie
+use Rattle.findings.proofs.tests.is_out_broken.Statement.{statement}
+use Rattle.findings.proofs.tests.is_out_broken.Tie as tie
 
 is-taken-requires : tie.Need-is-taken-requires
 is-taken-requires c κs = search needs

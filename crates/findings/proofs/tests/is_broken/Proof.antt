@@ -1,9 +1,9 @@
--- `findings::build::is_broken` meets its contract: by the rule. Assumes nothing.
+-- `findings::tests::is_broken` meets its contract: by the rule. Assumes nothing.
 use borrow.Author.Tests.{eq-eqb, ne-eqb}
 use Rattle.findings.specs.Builder.{broken}
 use borrow.Author.Needs.{needs}
-use Rattle.findings.proofs.build.is_broken.Statement.{statement}
-use Rattle.findings.proofs.build.is_broken.Tie as tie
+use Rattle.findings.proofs.tests.is_broken.Statement.{statement}
+use Rattle.findings.proofs.tests.is_broken.Tie as tie
 
 breaks-1-requires : tie.Need-breaks-1-requires
 breaks-1-requires c κs = search needs

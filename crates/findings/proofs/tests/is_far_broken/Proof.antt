@@ -1,10 +1,10 @@
--- `findings::build::is_far_broken` meets its contract: by the rule and the visit's link. Assumes nothing.
+-- `findings::tests::is_far_broken` meets its contract: by the rule and the visit's link. Assumes nothing.
 use borrow.Author.Tests.{eq-eqb, ne-eqb}
 use Rattle.visits.proofs.LinkLaws.{comes-at, comes-none, leaves-at, leaves-none}
 use Rattle.findings.specs.Builder.{far-broken}
 use borrow.Author.Needs.{needs}
-use Rattle.findings.proofs.build.is_far_broken.Statement.{statement}
-use Rattle.findings.proofs.build.is_far_broken.Tie as tie
+use Rattle.findings.proofs.tests.is_far_broken.Statement.{statement}
+use Rattle.findings.proofs.tests.is_far_broken.Tie as tie
 
 enum-told : tie.Need-enum-told
 enum-told c = search needs

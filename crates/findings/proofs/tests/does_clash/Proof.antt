@@ -1,10 +1,10 @@
--- `findings::build::does_clash` meets its contract: by the rule, and by the visit's link. Assumes nothing.
+-- `findings::tests::does_clash` meets its contract: by the rule, and by the visit's link. Assumes nothing.
 use borrow.Author.Tests.{eq-eqb, ne-eqb}
 use Rattle.visits.proofs.LinkLaws.{leaves-at, leaves-none}
 use Rattle.findings.specs.Builder.{clash}
 use borrow.Author.Needs.{needs}
-use Rattle.findings.proofs.build.does_clash.Statement.{statement}
-use Rattle.findings.proofs.build.does_clash.Tie as tie
+use Rattle.findings.proofs.tests.does_clash.Statement.{statement}
+use Rattle.findings.proofs.tests.does_clash.Tie as tie
 
 breaks-2-requires : tie.Need-breaks-2-requires
 breaks-2-requires c κs = search needs

@@ -1,8 +1,8 @@
--- `findings::build::is_in_broken` meets its contract: each return rewrites with the test that led there. Assumes nothing.
+-- `findings::tests::is_in_broken` meets its contract: each return rewrites with the test that led there. Assumes nothing.
 use Rattle.findings.specs.Builder.{in-broken}
 use borrow.Author.Needs.{needs}
-use Rattle.findings.proofs.build.is_in_broken.Statement.{statement}
-use Rattle.findings.proofs.build.is_in_broken.Tie as tie
+use Rattle.findings.proofs.tests.is_in_broken.Statement.{statement}
+use Rattle.findings.proofs.tests.is_in_broken.Tie as tie
 
 is-taken-requires : tie.Need-is-taken-requires
 is-taken-requires c κs = search needs
