@@ -42,8 +42,11 @@ line-of ns = record {
 unfoldable pub line-numbers : LineRow → List ℕ
 line-numbers r = r .line .0 ∷ r .first .0 ∷ r .second .0 ∷ r .kind ∷ r .least ∷ r .capacity ∷ []
 
+unfoldable pub line-fields : List ℕ → Format LineRow
+line-fields bar = row line-ranges bar and-then (λ ns. done (line-of ns))
+
 unfoldable pub line-entry : List ℕ → Format (Placed LineRow)
-line-entry bar = placed (row line-ranges bar and-then (λ ns. done (line-of ns)))
+line-entry bar = placed (line-fields bar)
 
 -- the network
 
@@ -66,11 +69,15 @@ stations-format k = entries station-entry station-bar k (0 ∷ [])
 unfoldable pub lines-format : ℕ → Format (List (Placed LineRow))
 lines-format k = entries line-entry line-bar k (0 ∷ [])
 
+-- headway, line count, lines
+unfoldable pub lines-part : List StationRow → ℕ → ℕ → Format Listed
+lines-part ss h m = lines-format m and-then (λ ls. done (record { stations = ss; headway = h; lines = ls }))
+
+unfoldable pub headway-part : List StationRow → Format Listed
+headway-part ss = field 1 30 (λ h. field 0 32 (λ m. lines-part ss h m))
+
 unfoldable pub network-format : Format Listed
-network-format =
-    field 1 16 (λ k. stations-format k and-then (λ ss.
-    field 1 30 (λ h. field 0 32 (λ m. lines-format m and-then (λ ls.
-    done (record { stations = ss; headway = h; lines = ls }))))))
+network-format = field 1 16 (λ k. stations-format k and-then headway-part)
 
 -- rows that are not used
 unfoldable pub blank-station : StationRow
@@ -112,6 +119,6 @@ network-numbers n =
 
 -- The key ring of this module: `unfolding opened` opens every definition above.
 unfoldable pub opened : Unit {0}
-unfolding station-ranges station-of station-numbers station-entry line-ranges line-of line-numbers line-entry station-bar line-bar stations-format lines-format
-    network-format blank-station blank-line network-with network-of unjoined unless-unjoined read-network network-numbers
+unfolding station-ranges station-of station-numbers station-entry line-ranges line-of line-numbers line-fields line-entry station-bar line-bar stations-format lines-format
+    lines-part headway-part network-format blank-station blank-line network-with network-of unjoined unless-unjoined read-network network-numbers
 opened = tt

@@ -1,0 +1,4 @@
+pub mod FieldLaws
+pub mod ReadLaws
+pub mod EntryLaws
+pub mod DraftLaws

@@ -1,0 +1,15 @@
+-- `files::draft::refused_stations` meets its contract: the rows are blank. Assumes nothing.
+use borrow.Author.Needs.{needs}
+use Rattle.files.specs.Answers.{padded, stations-read}
+use Rattle.files.proofs.draft.refused_stations.Statement.{statement}
+use Rattle.files.proofs.draft.refused_stations.Tie as tie
+
+empty-station-requires : tie.Need-empty-station-requires
+empty-station-requires c κs = search needs
+
+returns : tie.Need-returns
+unfolding stations-read padded
+returns c = rw (c .empty-station .ensures)
+
+pub refused-stations-spec : {M : Type 1} → statement M
+refused-stations-spec = tie.close (tie.spec empty-station-requires returns)
