@@ -1,1 +1,2 @@
 pub mod BarLaws
+pub mod VisitLaws
