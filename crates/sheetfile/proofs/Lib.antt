@@ -1,2 +1,3 @@
 pub mod BarLaws
 pub mod VisitLaws
+pub mod RelationLaws

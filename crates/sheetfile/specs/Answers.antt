@@ -1,17 +1,19 @@
 -- What the readers of a timetable file's parts answer, for each outcome of reading; and the parts of an entry. Assumes nothing.
 use Prim.Native.Nat.{ℕ}
-use mathlib.Core.Bool.{Bool, true, false}
+use mathlib.Core.Bool.{Bool, true, false, not}
 use mathlib.Core.List.{List, [], _∷_}
 use lib.Dec.{eqb}
 use lib.ListN.{getD, take, drop}
-use Rattle.timetable.specs.Formats.{Format, done, field, Outcome, accepted, refused, Range, _to_, row, _and-then_}
+use Rattle.timetable.specs.Formats.{Format, done, field, Outcome, accepted, refused, Range, _to_, compared, row, _and-then_}
 use Rattle.timetable.specs.TimetableFile.{StationVisit, in-link-entry, out-link-entry, station-visit-of}
-use Rattle.sheetfile.specs.Types.{InLink, OutLink, Visit}
+use Rattle.timetable.specs.EditsFile.{trains-format, relation-of, most-trains}
+use Rattle.sheetfile.specs.Types.{InLink, OutLink, Visit, StationRelation}
 use Rattle.sheetfile.specs.declared.bar.Fields.{Fields}
 use Rattle.sheetfile.specs.declared.bar.Number.{Number}
 use Rattle.sheetfile.specs.declared.visit.InRead.{InRead}
 use Rattle.sheetfile.specs.declared.visit.OutRead.{OutRead}
 use Rattle.sheetfile.specs.declared.visit.VisitRead.{VisitRead}
+use Rattle.sheetfile.specs.declared.relation.RelationRead.{RelationRead}
 
 -- the numbers that are there
 unfoldable pub in-use : Fields → List ℕ
@@ -50,7 +52,24 @@ unfoldable pub visit-read : Outcome StationVisit → VisitRead
 visit-read (accepted e next) = VisitRead.Entry (e .station) (e .train) (e .visit) next
 visit-read (refused k p) = VisitRead.Refused k p
 
+-- relations
+
+-- a relation entry behind its station, kind, interval and count
+unfoldable pub relation-trains : ℕ → ℕ → ℕ → ℕ → List ℕ → Format StationRelation
+relation-trains s kind i k bar =
+    trains-format (not (eqb kind 3)) k 0 bar
+    and-then (λ ts. done (relation-of kind i ts))
+    and-then (λ r. done (record { station = record { 0 = s }; relation = r }))
+
+-- behind its station and kind
+unfoldable pub relation-fields : ℕ → ℕ → List ℕ → Format StationRelation
+relation-fields s kind bar = compared 0 240 bar (λ i left. compared 2 (most-trains kind) left (λ k left. relation-trains s kind i k left))
+
+unfoldable pub relation-read : Outcome StationRelation → RelationRead
+relation-read (accepted r next) = RelationRead.Entry r next
+relation-read (refused k p) = RelationRead.Refused k p
+
 -- The key ring of this module: `unfolding opened` opens every definition above.
 unfoldable pub opened : Unit {0}
-unfolding in-use number-read in-read out-fields out-read value-ranges visit-in visit-values visit-read
+unfolding in-use number-read in-read out-fields out-read value-ranges visit-in visit-values visit-read relation-trains relation-fields relation-read
 opened = tt

@@ -5,3 +5,6 @@ pub use Rattle.railway.specs.declared.visit.Visit.{Visit}
 pub use Rattle.railway.specs.declared.visit.InLink.{InLink}
 pub use Rattle.railway.specs.declared.visit.OutLink.{OutLink}
 pub use Rattle.railway.specs.declared.network.Network.{Network}
+pub use Rattle.railway.specs.declared.relation.Relation.{Relation}
+pub use Rattle.railway.specs.declared.relation.Relation.the-variants.{Connection, Disconnection, Dependency}
+pub use Rattle.railway.specs.declared.edit.StationRelation.{StationRelation}

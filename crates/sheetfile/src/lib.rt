@@ -1,3 +1,4 @@
 // Timetable files: read into a sheet under a network, and written from a sheet.
 mod bar; // an entry's numbers, and a number compared with those of the entry before
 mod visit; // a visit entry
+mod relation; // a relation entry
