@@ -1,3 +1,4 @@
 pub mod BarLaws
 pub mod VisitLaws
 pub mod RelationLaws
+pub mod EnterLaws

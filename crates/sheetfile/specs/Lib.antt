@@ -1,2 +1,3 @@
 pub mod Types
 pub mod Answers
+pub mod Entering
