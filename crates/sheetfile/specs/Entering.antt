@@ -7,12 +7,13 @@ use lib.Dec.{eqb}
 use Rattle.base.specs.Choice.{if_then_else_}
 use Rattle.timetable.specs.Formats.{Outcome, accepted, refused, Placed}
 use Rattle.timetable.specs.Tables.{Table, has-relation}
-use Rattle.timetable.specs.TimetableFile.{StationVisit, visit-refusal, relation-refusal}
+use Rattle.timetable.specs.TimetableFile.{StationVisit, Entries, visit-refusal, relation-refusal}
 use Rattle.sheet.specs.Changes.{table-in, page-add-visit, page-add-relation}
 use Rattle.sheet.specs.Sheets.{decode-sheet}
 use Rattle.machine.specs.Cells.{change-cell}
 use Rattle.sheetfile.specs.Types.{Station, Visit, Relation, StationRelation, Network}
 use Rattle.sheetfile.specs.declared.enter.Fault.{Fault}
+use Rattle.sheetfile.specs.declared.read.EntriesRead.{EntriesRead}
 
 -- what an entry is refused with at a station's table
 
@@ -56,7 +57,36 @@ unfoldable pub through : {A : Type 0} → (Placed A → Progress → Progress) �
 through step [] g = g
 through step (p ∷ ps) g = through step ps (step p g)
 
+-- what reading entries answers, and the sheet then: of no use on a refusal
+
+unfoldable pub answered : ℕ → Fault → EntriesRead
+answered place fault = record { accepted = true; refusal = 0; place = place; fault = fault }
+
+unfoldable pub unanswered : ℕ → ℕ → EntriesRead
+unanswered k p = record { accepted = false; refusal = k; place = p; fault = no-fault }
+
+unfoldable pub entries-read : {A : Type 0} → (Placed A → Progress → Progress) → Progress → Outcome (List (Placed A)) → EntriesRead
+entries-read step g (accepted ps next) = answered next (through step ps g .fault)
+entries-read step g (refused k p) = unanswered k p
+
+unfoldable pub entries-sheet : {A : Type 0} → (Placed A → Progress → Progress) → Progress → Outcome (List (Placed A)) → List ℕ
+entries-sheet step g (accepted ps next) = through step ps g .sheet
+entries-sheet step g (refused k p) = []
+
+-- visits before relations
+unfoldable pub all-through : Network → Entries → Progress → Progress
+all-through n x g = through (relation-step n) (x .relations) (through (visit-step n) (x .visits) g)
+
+unfoldable pub timetable-entries : Network → Progress → Outcome Entries → EntriesRead
+timetable-entries n g (accepted x next) = answered next (all-through n x g .fault)
+timetable-entries n g (refused k p) = unanswered k p
+
+unfoldable pub timetable-sheet : Network → Progress → Outcome Entries → List ℕ
+timetable-sheet n g (accepted x next) = all-through n x g .sheet
+timetable-sheet n g (refused k p) = []
+
 -- The key ring of this module: `unfolding opened` opens every definition above.
 unfoldable pub opened : Unit {0}
-unfolding visit-refused relation-refused page-with-relation step-with visit-step relation-step through
+unfolding visit-refused relation-refused page-with-relation step-with visit-step relation-step through answered unanswered entries-read entries-sheet
+    all-through timetable-entries timetable-sheet
 opened = tt

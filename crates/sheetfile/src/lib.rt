@@ -3,3 +3,4 @@ mod bar; // an entry's numbers, and a number compared with those of the entry be
 mod visit; // a visit entry
 mod relation; // a relation entry
 mod enter; // an entry tested for 7 and 12 and put into a sheet
+mod read; // the entries of a file
