@@ -4,3 +4,4 @@ pub mod RelationLaws
 pub mod EnterLaws
 pub mod LoopLaws
 pub mod SheetEntries
+pub mod CallLaws

@@ -5,9 +5,9 @@ use mathlib.Core.Bool.{Bool, true, false}
 use mathlib.Core.List.{List, [], _∷_}
 use lib.Dec.{eqb}
 use Rattle.base.specs.Choice.{if_then_else_}
-use Rattle.timetable.specs.Formats.{Outcome, accepted, refused, Placed}
+use Rattle.timetable.specs.Formats.{Format, field, Outcome, accepted, refused, Placed}
 use Rattle.timetable.specs.Tables.{Table, has-relation}
-use Rattle.timetable.specs.TimetableFile.{StationVisit, Entries, visit-refusal, relation-refusal}
+use Rattle.timetable.specs.TimetableFile.{StationVisit, Entries, visits-format, relations-format, visit-refusal, relation-refusal}
 use Rattle.sheet.specs.Changes.{table-in, page-add-visit, page-add-relation}
 use Rattle.sheet.specs.Sheets.{decode-sheet}
 use Rattle.machine.specs.Cells.{change-cell}
@@ -73,6 +73,14 @@ unfoldable pub entries-sheet : {A : Type 0} → (Placed A → Progress → Progr
 entries-sheet step g (accepted ps next) = through step ps g .sheet
 entries-sheet step g (refused k p) = []
 
+-- the file's two parts, each a count and its entries
+
+unfoldable pub visit-part : Format (List (Placed StationVisit))
+visit-part = field 0 384 visits-format
+
+unfoldable pub relation-part : Format (List (Placed StationRelation))
+relation-part = field 0 96 relations-format
+
 -- visits before relations
 unfoldable pub all-through : Network → Entries → Progress → Progress
 all-through n x g = through (relation-step n) (x .relations) (through (visit-step n) (x .visits) g)
@@ -88,5 +96,5 @@ timetable-sheet n g (refused k p) = []
 -- The key ring of this module: `unfolding opened` opens every definition above.
 unfoldable pub opened : Unit {0}
 unfolding visit-refused relation-refused page-with-relation step-with visit-step relation-step through answered unanswered entries-read entries-sheet
-    all-through timetable-entries timetable-sheet
+    visit-part relation-part all-through timetable-entries timetable-sheet
 opened = tt

@@ -4,3 +4,4 @@ mod visit; // a visit entry
 mod relation; // a relation entry
 mod enter; // an entry tested for 7 and 12 and put into a sheet
 mod read; // the entries of a file
+pub mod calls; // the calls

@@ -9,7 +9,8 @@ ghost use Rattle.timetable.specs.Formats.{read, refused, Placed};
 ghost use Rattle.timetable.specs.TimetableFile.{StationVisit, visits-format, relations-format, timetable-format};
 ghost use Rattle.sheetfile.specs.Types.{StationRelation};
 ghost use Rattle.sheetfile.specs.Answers.{in-use};
-ghost use Rattle.sheetfile.specs.Entering.{unanswered, visit-step, relation-step, entries-read, entries-sheet, timetable-entries, timetable-sheet};
+ghost use Rattle.sheetfile.specs.Entering.{no-fault, unanswered, visit-step, relation-step, entries-read, entries-sheet};
+ghost use Rattle.sheetfile.specs.Entering.{visit-part, relation-part, timetable-entries, timetable-sheet};
 use crate::bar::Fields;
 use crate::enter;
 use crate::enter::Fault;
@@ -139,4 +140,44 @@ fn relations(
         place: place,
         fault: first,
     }
+}
+
+// "count of visits (0..384)", and the visits.
+fn visit_part(file: &[u8], n: Network, sheet: &mut [u8], fault: Fault) -> EntriesRead
+    requires { ⌜ length (now sheet) ≡ 8192 ⌝ }
+    ensures { λ r. ⌜ (r ≡ entries-read (visit-step n) (record { sheet = now (sheet .entry); fault = fault }) (read visit-part (now (file .entry)) 0)) × (r .accepted ≡ true → now (sheet .exit) ≡ entries-sheet (visit-step n) (record { sheet = now (sheet .entry); fault = fault }) (read visit-part (now (file .entry)) 0)) ⌝ }
+{
+    let count = field(file, 0, 0, 384);
+    match count {
+        FieldRead::Refused(k, p) => refused_entries(k, p),
+        FieldRead::Value(k, next) => visits(file, next, k as usize, n, sheet, fault),
+    }
+}
+
+// "count of relations (0..96)", and the relations.
+fn relation_part(file: &[u8], at: usize, n: Network, sheet: &mut [u8], fault: Fault) -> EntriesRead
+    requires { ⌜ length (now sheet) ≡ 8192 ⌝ }
+    ensures { λ r. ⌜ (r ≡ entries-read (relation-step n) (record { sheet = now (sheet .entry); fault = fault }) (read relation-part (now (file .entry)) at)) × (r .accepted ≡ true → now (sheet .exit) ≡ entries-sheet (relation-step n) (record { sheet = now (sheet .entry); fault = fault }) (read relation-part (now (file .entry)) at)) ⌝ }
+{
+    let count = field(file, at, 0, 96);
+    match count {
+        FieldRead::Refused(k, p) => refused_entries(k, p),
+        FieldRead::Value(k, next) => relations(file, next, k as usize, n, sheet, fault),
+    }
+}
+
+// All entries of the file, put into the sheet.
+pub fn entries(file: &[u8], n: Network, sheet: &mut [u8]) -> EntriesRead
+    requires { ⌜ length (now sheet) ≡ 8192 ⌝ }
+    ensures { λ r. ⌜ (r ≡ timetable-entries n (record { sheet = now (sheet .entry); fault = no-fault }) (read timetable-format (now (file .entry)) 0)) × (r .accepted ≡ true → now (sheet .exit) ≡ timetable-sheet n (record { sheet = now (sheet .entry); fault = no-fault }) (read timetable-format (now (file .entry)) 0)) ⌝ }
+{
+    let none = Fault {
+        number: 0,
+        place: 0,
+    };
+    let found = visit_part(file, n, sheet, none);
+    if found.accepted {
+        return relation_part(file, found.place, n, sheet, found.fault);
+    }
+    refused_entries(found.refusal, found.place)
 }
