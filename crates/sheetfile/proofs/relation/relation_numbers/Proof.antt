@@ -1,0 +1,60 @@
+-- `sheetfile::relation::relation_numbers` meets its contract by the case of the relation. Assumes nothing.
+use Prim.Native.Nat.{ℕ, _+_, _≤_, _<_}
+use mathlib.Core.Path.{_≡_, refl, sym, _∙_, ap}
+use mathlib.Core.List.{List, _∷_, _++_, map}
+use native.Mathlib.Omega.{arith}
+use lib.ListN.{length, length-map}
+use Rattle.timetable.specs.EditsFile.{relation-numbers, station-relation-numbers, group-numbers}
+use Rattle.sheetfile.specs.Answers.{in-use}
+use Rattle.sheetfile.proofs.RelationLaws.{train-more, train-none, one, four-places}
+use borrow.Author.Needs.{needs}
+use Rattle.sheetfile.proofs.relation.relation_numbers.Statement.{statement}
+use Rattle.sheetfile.proofs.relation.relation_numbers.Tie as tie
+
+enum-known-relation : tie.Need-enum-known-relation
+enum-known-relation c = search needs
+
+group-fields-requires : tie.Need-group-fields-requires
+group-fields-requires c κs = search needs
+
+enum-known-relation-2 : tie.Need-enum-known-relation-2
+enum-known-relation-2 c = search needs
+
+group-fields-requires-2 : tie.Need-group-fields-requires-2
+group-fields-requires-2 c κs = search needs
+
+enum-known-relation-3 : tie.Need-enum-known-relation-3
+enum-known-relation-3 c = search needs
+
+cast-t10 : tie.Need-cast-t10
+cast-t10 c = search needs
+
+cast-t11 : tie.Need-cast-t11
+cast-t11 c = search needs
+
+returns : tie.Need-returns
+unfolding station-relation-numbers relation-numbers
+returns c = c .group-fields .ensures ∙ sym (rw (c .before .before .relation .given .1))
+
+returns-2 : tie.Need-returns-2
+unfolding station-relation-numbers relation-numbers
+returns-2 c = c .group-fields2 .ensures ∙ sym (rw (c .before .before .relation2 .given .1))
+
+returns-3 : tie.Need-returns-3
+unfolding station-relation-numbers relation-numbers in-use
+returns-3 c = sym (rw (c .before .before .relation3 .given .1))
+
+pub relation-numbers-spec : {M : Type 1} → statement M
+relation-numbers-spec =
+    tie.close
+    (tie.spec
+    enum-known-relation
+    group-fields-requires
+    enum-known-relation-2
+    group-fields-requires-2
+    enum-known-relation-3
+    cast-t10
+    cast-t11
+    returns
+    returns-2
+    returns-3)
