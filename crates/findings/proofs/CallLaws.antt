@@ -11,7 +11,7 @@ use Rattle.base.specs.Choice.{_if_else_}
 use Rattle.base.proofs.Tests.{T-true, and-l, and-r, held}
 use Rattle.railway.specs.Ranges.{area-ok}
 use Rattle.railway.specs.Networks.{network-refusal, listed}
-use Rattle.timetable.specs.Outputs.{output, output-after}
+use Rattle.timetable.specs.Outputs.{output, output-after, put}
 use Rattle.sheet.specs.Sheets.{decode-sheet, good-sheet}
 use Rattle.sheet.specs.Passes.{sheet-passes}
 use Rattle.sheet.proofs.PassLaws.{whole-test, area-test}
@@ -20,8 +20,9 @@ use Rattle.findings.specs.Types.{Area, Network, Output}
 use Rattle.findings.specs.declared.scope.Scope.{Scope}
 use Rattle.findings.specs.Lists.{sheet-list, area-list, two-list, list-refusal, good-part, sheet-list-refusal, area-list-refusal, two-areas, two-list-refusal}
 use Rattle.findings.specs.Joined.{joined}
-use Rattle.findings.specs.Builder.{put-all, all-numbers}
-use Rattle.findings.proofs.PutLaws.{put-whole}
+use Rattle.findings.specs.Builder.{all-numbers}
+use Rattle.timetable.proofs.PutLaws as put-laws
+use Rattle.timetable.proofs.PutLaws.{refused-so, fits-in}
 use Rattle.findings.proofs.ListLaws.{whole-numbers, area-numbers}
 use Rattle.findings.proofs.JointLaws.{joined-numbers}
 
@@ -31,23 +32,13 @@ Answers k xs buffer r after = (r ≡ output k xs buffer) × (after ≡ output-af
 
 module _ (xs buffer : List ℕ) where
   pub refuses : (k : ℕ) → ¬ (k ≡ 0) → Answers k xs buffer (Output.Refused k) buffer
-  unfolding output output-after
-  refuses k h = (sym (rw (ne-eqb k 0 h)), sym (rw (ne-eqb k 0 h)))
+  refuses k h = refused-so xs buffer k h
 
   pub too-short : (r : ℕ) → r ≡ 0 + length xs → length buffer < r → Answers 0 xs buffer (Output.TooShort r) buffer
-  unfolding output output-after
-  too-short r e h =
-      let same : r ≡ length xs = omega arith in
-      let no = lt-leb (length xs) (length buffer) (omega arith) in
-      (ap Output.TooShort same ∙ sym (rw no), sym (rw no))
+  too-short r e h = put-laws.too-short xs buffer r (omega (arith, e)) h
 
-  pub written : (r : ℕ) (after : List ℕ) → r ≡ 0 + length xs → r ≤ length buffer → after ≡ put-all 0 xs buffer → Answers 0 xs buffer (Output.Written r) after
-  unfolding output output-after
-  written r after e h p =
-      let same : r ≡ length xs = omega arith in
-      let fits : length xs ≤ length buffer = omega arith in
-      let yes = le-leb (length xs) (length buffer) fits in
-      (ap Output.Written same ∙ sym (rw yes), p ∙ put-whole xs buffer fits ∙ sym (rw yes))
+  pub written : (r : ℕ) (after : List ℕ) → r ≡ 0 + length xs → r ≤ length buffer → after ≡ put 0 xs buffer → Answers 0 xs buffer (Output.Written r) after
+  written r after e h p = let x = fits-in xs buffer r (omega (arith, e)) h in (x .0, p ∙ x .1)
 
 -- by the refusal that the tests brought
 pub answers-as : (k j : ℕ) (xs ys buffer after : List ℕ) (r : Output) → k ≡ j → xs ≡ ys → Answers k xs buffer r after → Answers j ys buffer r after

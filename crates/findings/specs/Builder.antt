@@ -5,27 +5,23 @@ use mathlib.Core.Path.{_≡_}
 use mathlib.Core.Bool.{Bool, true, not, _&&_, _||_}
 use mathlib.Core.List.{List, [], _∷_, _++_, flatMap}
 use lib.Dec.{eqb}
-use lib.ListN.{length, set}
+use lib.ListN.{length}
 use Rattle.base.specs.Choice.{if_then_else_}
 use Rattle.railway.specs.Networks.{stations-of, area-of}
 use Rattle.timetable.specs.Visits.{comes, leaves, outs}
 use Rattle.timetable.specs.Tables.{Entry, Table}
 use Rattle.timetable.specs.Machine.{Timetable}
 use Rattle.timetable.specs.Groups.{in-group}
+use Rattle.timetable.specs.Outputs.{put}
 use Rattle.timetable.specs.Rules.{breaks-1, breaks-2, breaks-3, met, breaks-5, breaks-6, out-answered, in-answered, breaks-9, breaks-10}
 use Rattle.findings.specs.Types.{Station, Train, Inward, Outward, Relation, Network}
 use Rattle.findings.specs.declared.scope.Scope.{Scope}
 
 -- the buffer
 
--- numbers written from a place on, those past the end left out
-unfoldable pub put-all : ℕ → List ℕ → List ℕ → List ℕ
-put-all at [] out = out
-put-all at (x ∷ xs) out = put-all (at + 1) xs (set out at x)
-
 -- xs, at most k numbers, were put from `at` on, and r is the place behind them
 abbrev pub Puts : ℕ → List ℕ → List ℕ → ℕ → List ℕ → ℕ → Type 0
-Puts at xs before r after k = (r ≡ at + length xs) × (after ≡ put-all at xs before) × (r ≤ at + k)
+Puts at xs before r after k = (r ≡ at + length xs) × (after ≡ put at xs before) × (r ≤ at + k)
 
 -- which findings a list takes, by the station and the far station
 
@@ -115,6 +111,6 @@ module _ (n : Network) (scope : Scope) (m : Timetable) where
 
 -- The key ring of this module: `unfolding opened` opens every definition above.
 unfoldable pub opened : Unit {0}
-unfolding put-all takes told clash against unmet-numbers out-broken in-broken far-broken broken facing step walk own-numbers far-numbers station-numbers
+unfolding takes told clash against unmet-numbers out-broken in-broken far-broken broken facing step walk own-numbers far-numbers station-numbers
     all-numbers
 opened = tt
