@@ -14,7 +14,7 @@ use Rattle.numbers.specs.Numbers.{width}
 use Rattle.railway.specs.Networks.{station-row-ok, line-row-ok}
 use Rattle.timetable.specs.Formats.{least, bar-after, Placed}
 use Rattle.timetable.specs.NetworkFile.{station-ranges, station-of, station-numbers, station-entry, line-ranges, line-of, line-numbers, line-fields, line-entry}
-use Rattle.timetable.specs.NetworkFile.{Listed, station-bar, line-bar, stations-format, lines-format, lines-part, headway-part, network-format}
+use Rattle.timetable.specs.NetworkFile.{Listed, station-bar, line-bar, stations-format, lines-format, lines-part, count-part, headway-part, stations-part, network-format}
 use Rattle.formats.specs.Types.{StationRow, LineRow}
 use Rattle.formats.proofs.Walks.{InRange, walks}
 use Rattle.formats.proofs.WalkLaws.{span, walks-then, then-walks, walks-made, made-walks}
@@ -214,7 +214,7 @@ lines-at p ss h ls = p + width (length ss) + span (flatMap station-numbers ss) +
 
 pub walks-network : (p : ℕ) (ss : List StationRow) (h : ℕ) (ls : List LineRow) → RowsIn ss h ls
     → walks network-format p (rows-numbers ss h ls) (record { stations = ss; headway = h; lines = line-places (lines-at p ss h ls) ls })
-unfolding walks network-format headway-part lines-part
+unfolding walks network-format stations-part headway-part count-part lines-part
 walks-network p ss h ls r = (
   r .station-count,
   walks-then (stations-format (length ss)) headway-part (p + width (length ss)) (flatMap station-numbers ss) (h ∷ length ls ∷ flatMap line-numbers ls) ss _
@@ -230,7 +230,7 @@ walks-network p ss h ls r = (
 
 pub network-walks : (p : ℕ) (ns : List ℕ) (x : Listed) → walks network-format p ns x
     → (ns ≡ rows-numbers (x .stations) (x .headway) (rows-of (x .lines))) × RowsIn (x .stations) (x .headway) (rows-of (x .lines))
-unfolding walks network-format headway-part lines-part
+unfolding walks network-format stations-part headway-part count-part lines-part
 network-walks p [] x w = absurd w
 network-walks p (k ∷ ns) x (a, w) =
     let s = then-walks (stations-format k) headway-part (p + width k) ns x w in

@@ -17,7 +17,7 @@ use Rattle.railway.specs.Relations.{used, trains-ok, pair-ok, relation-ok, grou
 use Rattle.railway.specs.Edits.{station-relation-ok}
 use Rattle.timetable.specs.Tables.{packed}
 use Rattle.timetable.specs.Formats.{least, bar-after, compared}
-use Rattle.timetable.specs.EditsFile.{trains-format, pair-of, group-of, relation-of, most-trains, relation-entry, group-numbers, relation-numbers}
+use Rattle.timetable.specs.EditsFile.{trains-format, pair-of, group-of, relation-of, most-trains, trains-part, train-count-part, interval-part, relation-entry, group-numbers, relation-numbers}
 use Rattle.timetable.specs.EditsFile.{station-relation-entry, station-relation-numbers}
 use Rattle.timetable.proofs.TableLaws.{Further, Places, places, places-fit, used-two, used-three, used-four}
 use Rattle.formats.specs.Types.{Train, Trains, Relation, Connection, Disconnection, Dependency, StationRelation}
@@ -156,7 +156,7 @@ listed kind i ts = kind ∷ i ∷ length ts ∷ ts
 
 pub walks-numbers : (bar : List ℕ) (p kind i : ℕ) (ts : List ℕ) → RelationIn kind i ts → Over bar (listed kind i ts)
     → walks (relation-entry bar) p (listed kind i ts) (relation-of kind i ts)
-unfolding walks relation-entry compared Over
+unfolding walks relation-entry interval-part train-count-part trains-part compared Over
 walks-numbers bar p kind i ts r (a, (b, (c, o))) = (
   raise 1 3 bar kind (r .kinds) a,
   (
@@ -170,7 +170,7 @@ walks-numbers bar p kind i ts r (a, (b, (c, o))) = (
 
 pub numbers-walk : (bar : List ℕ) (p : ℕ) (ns : List ℕ) (r : Relation) → walks (relation-entry bar) p ns r
     → (kind : ℕ) × (i : ℕ) × (ts : List ℕ) × (ns ≡ listed kind i ts) × RelationIn kind i ts × Over bar ns × (relation-of kind i ts ≡ r)
-unfolding walks relation-entry compared Over
+unfolding walks relation-entry interval-part train-count-part trains-part compared Over
 numbers-walk bar p [] r w = absurd w
 numbers-walk bar p (kind ∷ []) r w = absurd (w .1)
 numbers-walk bar p (kind ∷ i ∷ []) r w = absurd (w .1 .1)
