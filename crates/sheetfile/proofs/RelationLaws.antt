@@ -12,7 +12,7 @@ use Rattle.base.specs.Lists.{keep}
 use Rattle.railway.specs.Relations.{present, used}
 use Rattle.timetable.specs.Formats.{Format, done, field, here, Outcome, accepted, refused, _and-then_, field-at, behind, read, least, bar-after, compared}
 use Rattle.timetable.specs.Tables.{packed}
-use Rattle.timetable.specs.EditsFile.{trains-format, pair-of, group-of, relation-of, most-trains, relation-entry, station-relation-entry}
+use Rattle.timetable.specs.EditsFile.{trains-format, pair-of, group-of, relation-of, most-trains, trains-part, train-count-part, interval-part, relation-entry, station-relation-entry}
 use Rattle.files.specs.Answers.{padded}
 use Rattle.files.proofs.ReadLaws.{read-then, prefixed}
 use Rattle.files.proofs.EntryLaws.{padded-at}
@@ -119,7 +119,7 @@ module _ (bar file : List ℕ) (at : ℕ) where
 
   module _ (s next : ℕ) (e : field-at (least 1 bar) 16 file at ≡ accepted s next) where
     place-then : read (station-relation-entry bar) file at ≡ read (field (least 1 (bar-after s bar)) 3 (λ kind. relation-fields s kind (bar-after kind (bar-after s bar)))) file next
-    unfolding station-relation-entry relation-entry relation-fields relation-trains compared _and-then_
+    unfolding station-relation-entry relation-entry interval-part train-count-part trains-part relation-fields relation-trains compared _and-then_
     place-then = field-then (least 1 bar) 16 _ file at s next e
 
     pub kind-stop : (k p : ℕ) → field-at (least 1 (bar-after s bar)) 3 file next ≡ refused k p → read (station-relation-entry bar) file at ≡ refused k p
