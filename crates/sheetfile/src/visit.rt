@@ -5,7 +5,7 @@ ghost use Prim.Native.Nat.{_<_, _≤_};
 ghost use lib.Dec.{eqb};
 ghost use lib.ListN.{length, getD};
 ghost use Rattle.timetable.specs.Formats.{_to_, read};
-ghost use Rattle.timetable.specs.TimetableFile.{in-link-entry, out-link-entry, visit-entry};
+ghost use Rattle.timetable.specs.TimetableFile.{in-link-entry, out-link-entry, visit-entry, visit-numbers};
 ghost use Rattle.files.specs.Answers.{ranges-of};
 ghost use Rattle.sheetfile.specs.Answers.{in-use, in-read, out-fields, out-read, visit-in, visit-values, visit-read};
 use crate::bar;
@@ -179,4 +179,94 @@ pub fn visit_entry(file: &[u8], at: usize, bar: Fields) -> VisitRead
         return VisitRead::Refused(t.refusal, t.place);
     }
     VisitRead::Refused(s.refusal, s.place)
+}
+
+// A visit's numbers, as they stand in a file.
+pub fn visit_numbers(s: Station, t: Train, v: Visit) -> Fields
+    ensures { λ r. ⌜ in-use r ≡ visit-numbers (record { station = s; train = t; visit = v }) ⌝ }
+{
+    let a = bytes::status_byte(v.arrived) as u16;
+    let d = bytes::status_byte(v.departed) as u16;
+    let at = s.0 as u16;
+    let track = v.track.0 as u16;
+    let inward = v.inward;
+    let outward = v.outward;
+    match inward {
+        InLink::Nothing => match outward {
+            OutLink::Nothing => Fields {
+                from: 0,
+                to: 9,
+                values: [
+                    at,
+                    t.0,
+                    track,
+                    v.arrival.0,
+                    a,
+                    v.departure.0,
+                    d,
+                    0,
+                    0,
+                    0,
+                    0,
+                    0,
+                ],
+            },
+            OutLink::To(o) => Fields {
+                from: 0,
+                to: 11,
+                values: [
+                    at,
+                    t.0,
+                    track,
+                    v.arrival.0,
+                    a,
+                    v.departure.0,
+                    d,
+                    0,
+                    o.station.0 as u16,
+                    o.line.0 as u16,
+                    o.run as u16,
+                    0,
+                ],
+            },
+        },
+        InLink::From(i) => match outward {
+            OutLink::Nothing => Fields {
+                from: 0,
+                to: 10,
+                values: [
+                    at,
+                    t.0,
+                    track,
+                    v.arrival.0,
+                    a,
+                    v.departure.0,
+                    d,
+                    i.station.0 as u16,
+                    i.line.0 as u16,
+                    0,
+                    0,
+                    0,
+                ],
+            },
+            OutLink::To(o) => Fields {
+                from: 0,
+                to: 12,
+                values: [
+                    at,
+                    t.0,
+                    track,
+                    v.arrival.0,
+                    a,
+                    v.departure.0,
+                    d,
+                    i.station.0 as u16,
+                    i.line.0 as u16,
+                    o.station.0 as u16,
+                    o.line.0 as u16,
+                    o.run as u16,
+                ],
+            },
+        },
+    }
 }
