@@ -1,4 +1,4 @@
--- The calls that write: what they answer, and the buffer afterwards. "Order: .. 5, 3, 4, 6, .. 13"; the bytes are those of the numbers of timetable EditsFile,
+-- The calls that write: what they answer, and the buffer afterwards. "Order: 5, 3, 4, .. 6, .. 13"; the bytes are those of the numbers of timetable EditsFile,
 -- NetworkFile and TimetableFile. Assumes nothing.
 use Prim.Native.Nat.{ℕ}
 use mathlib.Core.Bool.{not}
