@@ -1,4 +1,5 @@
 pub mod RowLaws
 pub mod RelationLaws
-pub mod CallLaws
 pub mod NetworkLaws
+pub mod TimetableLaws
+pub mod CallLaws

@@ -15,7 +15,7 @@ use Rattle.timetable.proofs.PutLaws.{put-two, each-on, each-length, each-over}
 use Rattle.writing.specs.Types.{Network}
 
 -- the bytes of two rows of numbers, and of a row for each element
-bytes-two : (xs ys : List ℕ) → bytes-of (xs ++ ys) ≡ bytes-of xs ++ bytes-of ys
+pub bytes-two : (xs ys : List ℕ) → bytes-of (xs ++ ys) ≡ bytes-of xs ++ bytes-of ys
 unfolding bytes-of flatMap
 bytes-two [] ys = refl
 bytes-two (x ∷ xs) ys =

@@ -1,9 +1,15 @@
 -- The types of the crates below and of this crate, under one module for this crate's own files.
+pub use Rattle.railway.specs.declared.sorts.Station.{Station}
 pub use Rattle.railway.specs.declared.sorts.Train.{Train}
+pub use Rattle.railway.specs.declared.visit.InLink.{InLink}
+pub use Rattle.railway.specs.declared.visit.OutLink.{OutLink}
+pub use Rattle.railway.specs.declared.visit.Visit.{Visit}
 pub use Rattle.railway.specs.declared.relation.Trains.{Trains}
 pub use Rattle.railway.specs.declared.relation.Relation.{Relation}
 pub use Rattle.railway.specs.declared.relation.Relation.the-variants.{Connection, Disconnection, Dependency}
+pub use Rattle.railway.specs.declared.edit.StationRelation.{StationRelation}
 pub use Rattle.railway.specs.declared.edit.Edit.{Edit}
+pub use Rattle.railway.specs.declared.network.StationRow.{StationRow}
 pub use Rattle.railway.specs.declared.network.Network.{Network}
 pub use Rattle.timetable.specs.declared.Output.{Output}
 pub use Rattle.writing.specs.declared.row.NumberRow.{NumberRow}

@@ -1,7 +1,7 @@
 // A network, as it stands in a network file.
 ghost use mathlib.Core.Path.{_≡_};
 ghost use mathlib.Core.List.{flatMap};
-ghost use Prim.Native.Nat.{_+_, _≤_, min};
+ghost use Prim.Native.Nat.{_+_, _≤_};
 ghost use lib.ListN.{length};
 ghost use Rattle.railway.specs.Networks.{station-rows, line-rows};
 ghost use Rattle.timetable.specs.Formats.{bytes-of};
@@ -52,23 +52,12 @@ fn put_line(out: &mut [u8], at: usize, r: LineRow) -> usize
     row::put_row(out, at, values, 6)
 }
 
-// As many rows as are in use, at most those that there are.
-fn in_use(count: u8, rows: usize) -> usize
-    ensures { λ r. ⌜ r ≡ min count rows ⌝ }
-{
-    let n = count as usize;
-    if n < rows {
-        return n;
-    }
-    rows
-}
-
 fn put_stations(out: &mut [u8], at: usize, n: Network) -> usize
     requires { ⌜ at ≤ 800000000 ⌝ }
     ensures { λ q. ⌜ (q ≡ at + length (bytes-of (flatMap station-numbers (station-rows n)))) × (now (out .exit) ≡ put at (bytes-of (flatMap station-numbers (station-rows n))) (now (out .entry))) × (q ≤ at + 432) ⌝ }
 {
     let rows = n.stations;
-    let k = in_use(n.stationcount, 16);
+    let k = row::in_use(n.stationcount, 16);
     let mut next = at;
     let mut i: usize = 0;
     while i < k {
@@ -84,7 +73,7 @@ fn put_lines(out: &mut [u8], at: usize, n: Network) -> usize
     ensures { λ q. ⌜ (q ≡ at + length (bytes-of (flatMap line-numbers (line-rows n)))) × (now (out .exit) ≡ put at (bytes-of (flatMap line-numbers (line-rows n))) (now (out .entry))) × (q ≤ at + 864) ⌝ }
 {
     let rows = n.lines;
-    let k = in_use(n.linecount, 32);
+    let k = row::in_use(n.linecount, 32);
     let mut next = at;
     let mut i: usize = 0;
     while i < k {

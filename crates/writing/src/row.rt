@@ -1,7 +1,7 @@
 // Rows of numbers as bytes, from a place on; what is past the buffer's end is dropped. The place behind them is answered.
 ghost use mathlib.Core.Path.{_≡_};
 ghost use mathlib.Core.List.{[], _∷_};
-ghost use Prim.Native.Nat.{_+_, _*_, _≤_};
+ghost use Prim.Native.Nat.{_+_, _≤_, min};
 ghost use lib.ListN.{length, take};
 ghost use Rattle.numbers.specs.Numbers.{write-number};
 ghost use Rattle.timetable.specs.Outputs.{put};
@@ -50,4 +50,15 @@ pub fn put_row(out: &mut [u8], at: usize, values: [u16; 9], k: usize) -> usize
         i += 1;
     }
     next
+}
+
+// As many rows as are in use, at most those that there are.
+pub fn in_use(count: u8, rows: usize) -> usize
+    ensures { λ r. ⌜ r ≡ min count rows ⌝ }
+{
+    let n = count as usize;
+    if n < rows {
+        return n;
+    }
+    rows
 }
