@@ -1,3 +1,4 @@
 pub mod Types
 pub mod Balance
 pub mod Demand
+pub mod Files

@@ -1,0 +1,61 @@
+-- Timetable files and sheets give each other back: a good sheet is that of the whole timetable that it holds, and whole timetables come back from their files (formats);
+-- what a file gives is whole, so its sheet is good and holds it. Assumes nothing.
+use Prim.Native.Nat.{ℕ}
+use mathlib.Core.Path.{_≡_, refl, sym, _∙_, ap}
+use mathlib.Core.Bool.{Bool, true, false}
+use mathlib.Core.List.{List}
+use native.Mathlib.Omega.{arith}
+use lib.Dec.{eqb}
+use lib.ListN.{length}
+use borrow.Author.Tests.{eq-eqb}
+use Rattle.base.specs.Choice.{if_then_else_}
+use Rattle.timetable.specs.Formats.{Outcome, accepted, refused, bytes-of}
+use Rattle.timetable.specs.Machine.{Timetable}
+use Rattle.timetable.specs.TimetableFile.{read-timetable, timetable-numbers}
+use Rattle.sheet.specs.Sheets.{encode-sheet, decode-sheet}
+use Rattle.machine.proofs.ByteEdits.{whole-of, sheet-of}
+use Rattle.formats.specs.RoundTrips.{Bytes, TimetableRead}
+use Rattle.formats.proofs.TimetableTrips.{timetable-trip}
+use Rattle.writing.specs.Writing.{timetable-bytes}
+use Rattle.sheetfile.specs.Calls as calls
+use Rattle.sheetfile.specs.Calls.{read-outcome, answer-of, read-answer, read-after}
+use Rattle.sheetfile.specs.declared.calls.TimetableRead as Answer
+use Rattle.demands.specs.Types.{Network}
+use Rattle.demands.specs.Files.{SheetBack, FileBack, SheetsComeBack, FilesComeBack}
+use Rattle.demands.proofs.DemandHolds.{whole-good, whole-back}
+
+pub sheets-come-back : SheetsComeBack
+unfolding timetable-bytes read-answer read-after read-outcome answer-of calls.sheet-of
+sheets-come-back n good sheet size fine buffer room =
+    let r = timetable-trip .back n (decode-sheet sheet) good (whole-of n good sheet size fine) in
+    record {
+      taken = rw (eq-eqb (length buffer) 8192 room, r);
+      same = rw (eq-eqb (length buffer) 8192 room, r) (sym (sheet-of n good sheet size fine));
+    }
+
+-- what is taken was accepted
+accepted-by : (o : Outcome Timetable) (next : ℕ) → answer-of o ≡ Answer.TimetableRead.Read next → (m : Timetable) × (o ≡ accepted m next)
+unfolding answer-of
+accepted-by (accepted m p) next e = let s : p ≡ next = cc in (m, rw s)
+accepted-by (refused k p) next e = let s : _≡_ {A = ℕ} 0 1 = cc in absurd (omega (arith, s))
+
+-- and the buffer had its length
+read-by : (b : Bool) (o : Outcome Timetable) (m : Timetable) (next : ℕ) → (if b then o else refused 5 0) ≡ accepted m next → o ≡ accepted m next
+read-by true o m next e = e
+read-by false o m next e = let s : _≡_ {A = ℕ} 0 1 = cc in absurd (omega (arith, s))
+
+file-back : (n : Network) (file buffer : List ℕ) (m : Timetable) (next : ℕ) → Bytes file → read-outcome n file buffer ≡ accepted m next → FileBack n file buffer
+unfolding timetable-bytes read-after calls.sheet-of read-outcome
+file-back n file buffer m next bytes e =
+    let t = timetable-trip .only n file m next bytes (read-by (eqb (length buffer) 8192) (read-timetable n file) m next e) in
+    let g = whole-good n (t .network-good) m (t .whole) in
+    record {
+      size = rw e (g .size);
+      good = rw e (g .fine);
+      same = rw e (ap (λ (x : Timetable). bytes-of (timetable-numbers n x)) (whole-back n (t .network-good) m (t .whole)) ∙ sym (t .file-is));
+    }
+
+pub files-come-back : FilesComeBack
+unfolding read-answer
+files-come-back n file buffer next bytes e =
+    let (m, o) = accepted-by (read-outcome n file buffer) next e in file-back n file buffer m next bytes o

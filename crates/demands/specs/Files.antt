@@ -1,0 +1,33 @@
+-- What is promised of timetable files and sheets, of the calls' bytes: "a timetable written and read is the same sheet", an accepted file read and written is the same file, and
+-- a sheet that a file gives is good. By the definitions that the contracts of the reading and the writing call cite (sheetfile Calls, writing Writing). Nothing here is proved.
+-- Assumes nothing.
+use Prim.Native.Nat.{ℕ}
+use mathlib.Core.Path.{_≡_}
+use mathlib.Core.List.{List}
+use lib.Dec.{T}
+use lib.ListN.{length}
+use Rattle.railway.specs.Networks.{network-refusal, listed}
+use Rattle.sheet.specs.Sheets.{good-sheet}
+use Rattle.formats.specs.RoundTrips.{Bytes}
+use Rattle.writing.specs.Writing.{timetable-bytes}
+use Rattle.sheetfile.specs.Calls.{read-answer, read-after}
+use Rattle.sheetfile.specs.declared.calls.TimetableRead.{TimetableRead}
+use Rattle.demands.specs.Types.{Network}
+
+-- a good sheet, written and read into any buffer of the right length
+pub record SheetBack (n : Network) (sheet buffer : List ℕ) : Type 0 where
+  pub taken : read-answer n (timetable-bytes n sheet) buffer ≡ TimetableRead.Read (length (timetable-bytes n sheet))
+  pub same : read-after n (timetable-bytes n sheet) buffer ≡ sheet
+
+-- a file that is taken
+pub record FileBack (n : Network) (file buffer : List ℕ) : Type 0 where
+  pub size : length (read-after n file buffer) ≡ 8192
+  pub good : T (good-sheet n (listed n) (read-after n file buffer))
+  pub same : timetable-bytes n (read-after n file buffer) ≡ file
+
+abbrev pub SheetsComeBack : Type 0
+SheetsComeBack = (n : Network) → network-refusal n ≡ 0 → (sheet : List ℕ) → length sheet ≡ 8192 → T (good-sheet n (listed n) sheet)
+    → (buffer : List ℕ) → length buffer ≡ 8192 → SheetBack n sheet buffer
+
+abbrev pub FilesComeBack : Type 0
+FilesComeBack = (n : Network) (file buffer : List ℕ) (next : ℕ) → Bytes file → read-answer n file buffer ≡ TimetableRead.Read next → FileBack n file buffer
