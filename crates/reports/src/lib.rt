@@ -1,2 +1,1 @@
-// What the programs print, as bytes.
-mod text; // lines of numbers
+// What the programs print, as definitions: lines of decimal numbers, and what shift prints of its input. No code.

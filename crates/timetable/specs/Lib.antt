@@ -9,6 +9,7 @@ pub mod NetworkFile
 pub mod EditsFile
 pub mod Good
 pub mod TimetableFile
+pub mod InspectFile
 pub mod Rules
 pub mod Findings
 pub mod Projection

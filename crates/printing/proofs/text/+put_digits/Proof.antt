@@ -6,17 +6,17 @@ use denote.Ref.{now}
 use native.Mathlib.Omega.{arith}
 use borrow.Author.Needs.{needs}
 use Rattle.timetable.specs.Outputs.{put}
 use Rattle.reports.specs.Text.{digits}
-use Rattle.reports.proofs.TextLaws.{digits-none, digits-last, digits-more}
+use Rattle.printing.proofs.TextLaws.{digits-none, digits-last, digits-more}
 use Rattle.timetable.proofs.PutLaws.{put-two}
 use borrow.Fn.Kinds.{In}
 use borrow.Fn.PlainCycle.{Measures, is, falls, and}
-use Rattle.reports.proofs.text.put_digits.Reads as put-digits
-use Rattle.reports.proofs.text.put_digits.Kinds as put-digits-kinds
-use Rattle.reports.proofs.text.+put_digits.Lts-put_digits as put-digits-lts
-use Rattle.reports.proofs.text.put_byte.Reads as put-byte-reads
-use Rattle.reports.proofs.text.+put_digits.{statement}
-use Rattle.reports.proofs.text.+put_digits.Tie.{close}
+use Rattle.printing.proofs.text.put_digits.Reads as put-digits
+use Rattle.printing.proofs.text.put_digits.Kinds as put-digits-kinds
+use Rattle.printing.proofs.text.+put_digits.Lts-put_digits as put-digits-lts
+use Rattle.printing.proofs.text.put_byte.Reads as put-byte-reads
+use Rattle.printing.proofs.text.+put_digits.{statement}
+use Rattle.printing.proofs.text.+put_digits.Tie.{close}
 
 abbrev μ-put-digits : Measures 1 put-digits-kinds.ps ℕ
 μ-put-digits κs a = a .1 .1 .1 .0

@@ -1,11 +1,11 @@
--- `reports::text::put_byte` meets its contract: past the end nothing is set. Assumes nothing.
+-- `printing::text::put_byte` meets its contract: past the end nothing is set. Assumes nothing.
 use mathlib.Core.Path.{refl, sym}
 use denote.Ref.{now}
 use lib.Seq.{set-out}
 use borrow.Author.Needs.{needs}
 use Rattle.timetable.specs.Outputs.{put}
-use Rattle.reports.proofs.text.put_byte.Statement.{statement}
-use Rattle.reports.proofs.text.put_byte.Tie as tie
+use Rattle.printing.proofs.text.put_byte.Statement.{statement}
+use Rattle.printing.proofs.text.put_byte.Tie as tie
 
 slice-write-out : tie.Need-slice-write-out
 slice-write-out c = search needs

@@ -1,13 +1,13 @@
--- `reports::text::put_line` meets its contract: the head, and the newline behind it. Assumes nothing.
+-- `printing::text::put_line` meets its contract: the head, and the newline behind it. Assumes nothing.
 use mathlib.Core.List.{[], _∷_}
 use native.Mathlib.Omega.{arith}
 use denote.Ref.{now}
 use lib.ListN.{take}
 use borrow.Author.Needs.{needs}
 use Rattle.reports.specs.Text.{head, line}
 use Rattle.timetable.proofs.PutLaws.{put-two}
-use Rattle.reports.proofs.text.put_line.Statement.{statement}
-use Rattle.reports.proofs.text.put_line.Tie as tie
+use Rattle.printing.proofs.text.put_line.Statement.{statement}
+use Rattle.printing.proofs.text.put_line.Tie as tie
 
 put-head-requires : tie.Need-put-head-requires
 put-head-requires c κs = search needs

@@ -1,4 +1,4 @@
--- `reports::text::put_head` meets its contract: what the whole head would write is what the words from i on still write, from the place reached. Assumes nothing.
+-- `printing::text::put_head` meets its contract: what the whole head would write is what the words from i on still write, from the place reached. Assumes nothing.
 use Prim.Native.Nat.{ℕ, _+_, _-_, _*_, _≤_}
 use mathlib.Core.Path.{_≡_, refl, sym, _∙_, ap}
 use mathlib.Core.List.{[], _∷_, flatMap}
@@ -8,9 +8,9 @@ use lib.ListN.{length, take, drop, getD}
 use borrow.Author.Needs.{needs}
 use Rattle.timetable.specs.Outputs.{put}
 use Rattle.timetable.proofs.PutLaws.{each-on, each-length, each-over}
 use Rattle.reports.specs.Text.{word, head}
-use Rattle.reports.proofs.text.put_head.Statement.{statement}
-use Rattle.reports.proofs.text.put_head.Tie as tie
+use Rattle.printing.proofs.text.put_head.Statement.{statement}
+use Rattle.printing.proofs.text.put_head.Tie as tie
 
 abbrev Inv-loop : tie.InvT-loop
 Inv-loop out₀ at letter k xs next₀ i₀ out next i =

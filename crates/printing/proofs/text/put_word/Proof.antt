@@ -1,13 +1,13 @@
--- `reports::text::put_word` meets its contract: a blank and digits, one behind the other. Assumes nothing.
+-- `printing::text::put_word` meets its contract: a blank and digits, one behind the other. Assumes nothing.
 use Prim.Native.Nat.{_+_}
 use mathlib.Core.List.{[], _∷_}
 use native.Mathlib.Omega.{arith}
 use denote.Ref.{now}
 use borrow.Author.Needs.{needs}
 use Rattle.reports.specs.Text.{digits, decimal, word}
 use Rattle.timetable.proofs.PutLaws.{put-two}
-use Rattle.reports.proofs.text.put_word.Statement.{statement}
-use Rattle.reports.proofs.text.put_word.Tie as tie
+use Rattle.printing.proofs.text.put_word.Statement.{statement}
+use Rattle.printing.proofs.text.put_word.Tie as tie
 
 put-byte-requires : tie.Need-put-byte-requires
 put-byte-requires c κs = search needs

@@ -1,0 +1,49 @@
+-- Numbers four by four: the four at a place, and the rest behind them. Assumes nothing.
+use Prim.Native.Nat.{ℕ, _+_, _*_, _≤_, _<_}
+use mathlib.Core.Path.{_≡_, refl, sym, _∙_, ap}
+use mathlib.Core.List.{List, [], _∷_, _++_}
+use native.Mathlib.Omega.{arith}
+use lib.ListN.{length, getD, take, drop, length-take, length-append, drop-of-length-le}
+use lib.Seq.{getD-take}
+use Rattle.base.proofs.Lengths.{drop-next}
+use Rattle.timetable.specs.Outputs.{put}
+use Rattle.timetable.proofs.PutLaws.{put-append}
+use Rattle.reports.specs.Text.{line}
+use Rattle.printing.specs.Lines.{findings-text}
+
+four-next : (l : List ℕ) (i : ℕ) → i + 4 ≤ length l → drop i l ≡ getD l i 0 ∷ getD l (i + 1) 0 ∷ getD l (i + 2) 0 ∷ getD l (i + 3) 0 ∷ drop (i + 4) l
+four-next l i h =
+    let b : drop (i + 1) l ≡ getD l (i + 1) 0 ∷ drop (i + 1 + 1) l = drop-next l (i + 1) 0 (omega arith) in
+    let c : drop (i + 2) l ≡ getD l (i + 2) 0 ∷ drop (i + 2 + 1) l = drop-next l (i + 2) 0 (omega arith) in
+    let d : drop (i + 3) l ≡ getD l (i + 3) 0 ∷ drop (i + 3 + 1) l = drop-next l (i + 3) 0 (omega arith) in
+    let two : i + 1 + 1 ≡ i + 2 = omega arith in
+    let three : i + 2 + 1 ≡ i + 3 = omega arith in
+    let four : i + 3 + 1 ≡ i + 4 = omega arith in
+    drop-next l i 0 (omega arith)
+    ∙ ap (λ (r : List ℕ). getD l i 0 ∷ r) (b ∙ ap (λ (r : List ℕ). getD l (i + 1) 0 ∷ r) (ap (λ (j : ℕ). drop j l) two
+    ∙ c ∙ ap (λ (r : List ℕ). getD l (i + 2) 0 ∷ r) (ap (λ (j : ℕ). drop j l) three ∙ d ∙ ap (λ (j : ℕ). getD l (i + 3) 0 ∷ drop j l) four)))
+
+module _ (xs : List ℕ) (k : ℕ) (fits : 4 * k ≤ length xs) (i : ℕ) where
+  abbrev left : ℕ → List ℕ
+  left j = findings-text (drop (4 * j) (take (4 * k) xs))
+
+  abbrev line-at : List ℕ
+  line-at = line 70 (getD xs (4 * i) 0 ∷ getD xs (4 * i + 1) 0 ∷ getD xs (4 * i + 2) 0 ∷ getD xs (4 * i + 3) 0 ∷ [])
+
+  line-next : i < k → left i ≡ line-at ++ left (i + 1)
+  unfolding findings-text
+  line-next h =
+      let l : List ℕ = take (4 * k) xs in
+      let step : 4 * i + 4 ≡ 4 * (i + 1) = omega arith in
+      ap findings-text (four-next l (4 * i) (simp length-take (omega (arith, h))))
+      ∙ rw (getD-take (4 * k) xs (4 * i) 0 (omega (arith, h)), getD-take (4 * k) xs (4 * i + 1) 0 (omega (arith, h)), getD-take (4 * k) xs (4 * i + 2) 0 (omega (arith, h)), getD-take (4 * k) xs (4 * i + 3) 0 (omega (arith, h)), step)
+
+  pub found-on : (at : ℕ) (b : List ℕ) → i < k → put at (left i) b ≡ put (at + length line-at) (left (i + 1)) (put at line-at b)
+  found-on at b h = ap (λ (l : List ℕ). put at l b) (line-next h) ∙ put-append at line-at (left (i + 1)) b
+
+  pub found-length : i < k → length (left i) ≡ length line-at + length (left (i + 1))
+  found-length h = ap length (line-next h) ∙ length-append line-at (left (i + 1))
+
+  pub found-over : k ≤ i → left i ≡ []
+  unfolding findings-text
+  found-over h = ap findings-text (drop-of-length-le (take (4 * k) xs) {i = 4 * i} (simp length-take (omega (arith, h))))
