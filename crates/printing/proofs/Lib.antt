@@ -1,3 +1,4 @@
 pub mod TextLaws
 pub mod LineLaws
 pub mod FoundLaws
+pub mod WholeLaws

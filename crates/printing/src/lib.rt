@@ -3,3 +3,4 @@ mod found; // the lines of findings
 mod run; // the edits of a file: their lines, and the tally
 mod text; // lines of numbers
 mod totals; // the line of totals
+mod whole; // the findings of a whole sheet
