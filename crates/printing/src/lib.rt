@@ -1,4 +1,7 @@
 // What the programs print, made from the bytes of their input.
 mod found; // the lines of findings
 mod run; // the edits of a file: their lines, and the tally
+pub mod shift; // all that `shift` prints
 mod text; // lines of numbers
+mod totals; // the line of totals
+mod whole; // the findings of a whole sheet
