@@ -5,3 +5,4 @@ pub mod JointLaws
 pub mod CallLaws
 pub mod ShareLaws
 pub mod TurnLaws
+pub mod BoundLaws

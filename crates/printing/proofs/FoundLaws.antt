@@ -1,15 +1,28 @@
--- Numbers four by four: the four at a place, and the rest behind them. Assumes nothing.
+-- Numbers four by four: the four at a place, and the rest behind them; and the areas that a list is of. Assumes nothing.
 use Prim.Native.Nat.{ℕ, _+_, _*_, _≤_, _<_}
 use mathlib.Core.Path.{_≡_, refl, sym, _∙_, ap}
 use mathlib.Core.List.{List, [], _∷_, _++_}
 use native.Mathlib.Omega.{arith}
+use borrow.Author.Tests.{eq-eqb, ne-eqb}
 use lib.ListN.{length, getD, take, drop, length-take, length-append, drop-of-length-le}
 use lib.Seq.{getD-take}
 use Rattle.base.proofs.Lengths.{drop-next}
 use Rattle.timetable.specs.Outputs.{put}
 use Rattle.timetable.proofs.PutLaws.{put-append}
 use Rattle.reports.specs.Text.{line}
-use Rattle.printing.specs.Lines.{findings-text}
+use Rattle.printing.specs.Lines.{of-areas, four-at, findings-text}
+
+pub of-none : (a b : ℕ) → a ≡ 0 → of-areas a b ≡ []
+unfolding of-areas
+of-none a b p = rw (eq-eqb a 0 p) refl
+
+pub of-one : (a b : ℕ) → (a ≡ 0 → ⊥) → b ≡ 0 → of-areas a b ≡ a ∷ []
+unfolding of-areas
+of-one a b p q = rw (ne-eqb a 0 p, eq-eqb b 0 q) refl
+
+pub of-two : (a b : ℕ) → (a ≡ 0 → ⊥) → (b ≡ 0 → ⊥) → of-areas a b ≡ a ∷ b ∷ []
+unfolding of-areas
+of-two a b p q = rw (ne-eqb a 0 p, ne-eqb b 0 q) refl
 
 four-next : (l : List ℕ) (i : ℕ) → i + 4 ≤ length l → drop i l ≡ getD l i 0 ∷ getD l (i + 1) 0 ∷ getD l (i + 2) 0 ∷ getD l (i + 3) 0 ∷ drop (i + 4) l
 four-next l i h =
@@ -23,19 +36,19 @@ four-next l i h =
     ∙ ap (λ (r : List ℕ). getD l i 0 ∷ r) (b ∙ ap (λ (r : List ℕ). getD l (i + 1) 0 ∷ r) (ap (λ (j : ℕ). drop j l) two
     ∙ c ∙ ap (λ (r : List ℕ). getD l (i + 2) 0 ∷ r) (ap (λ (j : ℕ). drop j l) three ∙ d ∙ ap (λ (j : ℕ). getD l (i + 3) 0 ∷ drop j l) four)))
 
-module _ (xs : List ℕ) (k : ℕ) (fits : 4 * k ≤ length xs) (i : ℕ) where
+module _ (letter : ℕ) (areas xs : List ℕ) (k : ℕ) (fits : 4 * k ≤ length xs) (i : ℕ) where
   abbrev left : ℕ → List ℕ
-  left j = findings-text (drop (4 * j) (take (4 * k) xs))
+  left j = findings-text letter areas (drop (4 * j) (take (4 * k) xs))
 
   abbrev line-at : List ℕ
-  line-at = line 70 (getD xs (4 * i) 0 ∷ getD xs (4 * i + 1) 0 ∷ getD xs (4 * i + 2) 0 ∷ getD xs (4 * i + 3) 0 ∷ [])
+  line-at = line letter (areas ++ four-at xs (4 * i))
 
   line-next : i < k → left i ≡ line-at ++ left (i + 1)
-  unfolding findings-text
+  unfolding findings-text four-at
   line-next h =
       let l : List ℕ = take (4 * k) xs in
       let step : 4 * i + 4 ≡ 4 * (i + 1) = omega arith in
-      ap findings-text (four-next l (4 * i) (simp length-take (omega (arith, h))))
+      ap (findings-text letter areas) (four-next l (4 * i) (simp length-take (omega (arith, h))))
       ∙ rw (getD-take (4 * k) xs (4 * i) 0 (omega (arith, h)), getD-take (4 * k) xs (4 * i + 1) 0 (omega (arith, h)), getD-take (4 * k) xs (4 * i + 2) 0 (omega (arith, h)), getD-take (4 * k) xs (4 * i + 3) 0 (omega (arith, h)), step)
 
   pub found-on : (at : ℕ) (b : List ℕ) → i < k → put at (left i) b ≡ put (at + length line-at) (left (i + 1)) (put at line-at b)
@@ -46,4 +59,4 @@ module _ (xs : List ℕ) (k : ℕ) (fits : 4 * k ≤ length xs) (i : ℕ) where
 
   pub found-over : k ≤ i → left i ≡ []
   unfolding findings-text
-  found-over h = ap findings-text (drop-of-length-le (take (4 * k) xs) {i = 4 * i} (simp length-take (omega (arith, h))))
+  found-over h = ap (findings-text letter areas) (drop-of-length-le (take (4 * k) xs) {i = 4 * i} (simp length-take (omega (arith, h))))

@@ -54,12 +54,15 @@ fn expected_departure(v: Visit, a: u32) -> u32
     a
 }
 
-// "lateness: expected less standing arrival, negative if early". An expected arrival may lie past the last minute.
+// "lateness: expected less standing arrival, negative if early". An expected arrival past what a Minute holds, which no good sheet gives, is counted on from the last one.
 fn lateness(a: u32, standing: Minute) -> i32
     requires { ⌜ a ≤ 70000 ⌝ }
     ensures { λ r. ⌜ r ≡ subℕ a (standing .0) ⌝ }
 {
-    (a as i32) - (standing.0 as i32)
+    if a <= 65535 {
+        return Minute(a as u16).gap(standing);
+    }
+    Minute(65535).gap(standing) + (a - 65535) as i32
 }
 
 // "Each visit's row is station, expected arrival, expected departure and lateness"

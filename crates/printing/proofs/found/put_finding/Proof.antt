@@ -1,6 +1,8 @@
--- `printing::found::put_finding` meets its contract: numbers of two bytes are numbers of four. Assumes nothing.
+-- `printing::found::put_finding` meets its contract: numbers of two bytes are numbers of four, and the line has as many of them as its list names areas. Assumes nothing.
 use Prim.Native.Nat.{_+_}
 use native.Mathlib.Omega.{arith}
+use Rattle.printing.specs.Lines.{four-at}
+use Rattle.printing.proofs.FoundLaws.{of-none, of-one, of-two}
 use borrow.Author.Needs.{needs}
 use Rattle.printing.proofs.found.put_finding.Statement.{statement}
 use Rattle.printing.proofs.found.put_finding.Tie as tie
@@ -50,6 +52,12 @@ shared-slice-read-second c = search needs
 cast-second : tie.Need-cast-second
 cast-second c = omega (arith, c .shared-slice-known5 .given (c .before .before .before .before .before .before .args .i + 3))
 
+cast-a : tie.Need-cast-a
+cast-a c = search needs
+
+cast-b : tie.Need-cast-b
+cast-b c = search needs
+
 put-line-requires : tie.Need-put-line-requires
 put-line-requires c κs = search needs
 
@@ -57,7 +65,32 @@ same-length : tie.Need-same-length
 same-length c = search needs
 
 returns : tie.Need-returns
-returns c = search needs
+unfolding four-at
+returns c = let s = c .before .before .before .before .before .before .before .before .before .before .before .before .before .args in rw (of-none (s .h .one) (s .h .other) (c .before .before .before .before .if1 .taken)) (c .before .before .put-line .ensures)
+
+put-line-requires-2 : tie.Need-put-line-requires-2
+put-line-requires-2 c κs = search needs
+
+same-length-2 : tie.Need-same-length-2
+same-length-2 c = search needs
+
+returns-2 : tie.Need-returns-2
+unfolding four-at
+returns-2 c =
+    let s = c .before .before .before .before .before .before .before .before .before .before .before .before .before .before .args in
+    rw (of-one (s .h .one) (s .h .other) (c .before .before .before .before .before .if1 .left) (c .before .before .before .before .if2 .taken)) (c .before .before .put-line2 .ensures)
+
+put-line-requires-3 : tie.Need-put-line-requires-3
+put-line-requires-3 c κs = search needs
+
+same-length-3 : tie.Need-same-length-3
+same-length-3 c = search needs
+
+returns-3 : tie.Need-returns-3
+unfolding four-at
+returns-3 c =
+    let s = c .before .before .before .before .before .before .before .before .before .before .before .before .before .before .args in
+    rw (of-two (s .h .one) (s .h .other) (c .before .before .before .before .before .if1 .left) (c .before .before .before .before .if2 .left)) (c .before .before .put-line3 .ensures)
 
 pub put-finding-spec : {M : Type 1} → statement M
 put-finding-spec =
@@ -78,6 +111,14 @@ put-finding-spec =
     mul-second
     shared-slice-read-second
     cast-second
+    cast-a
+    cast-b
     put-line-requires
     same-length
-    returns)
+    returns
+    put-line-requires-2
+    same-length-2
+    returns-2
+    put-line-requires-3
+    same-length-3
+    returns-3)

@@ -6,21 +6,21 @@ use denote.Ref.{now}
 use mathlib.Core.List.{List}
 use lib.ListN.{length, take, drop}
 use Rattle.timetable.specs.Outputs.{put}
-use Rattle.printing.specs.Lines.{findings-text}
+use Rattle.printing.specs.Lines.{of-areas, findings-text}
 use Rattle.printing.proofs.FoundLaws.{found-on, found-length, found-over}
 use Rattle.printing.proofs.found.put_findings.Statement.{statement}
 use Rattle.printing.proofs.found.put_findings.Tie as tie
 
 abbrev Inv-loop : tie.InvT-loop
-Inv-loop out₀ at numbers count next₀ i₀ out next i =
+Inv-loop out₀ at h numbers count next₀ i₀ out next i =
     (i ≤ count)
     × (next ≤ at + 68 * i)
     × (length out ≡ length out₀)
-    × (at + length (findings-text (take (4 * count) numbers)) ≡ next + length (findings-text (drop (4 * i) (take (4 * count) numbers))))
-    × (put at (findings-text (take (4 * count) numbers)) out₀ ≡ put next (findings-text (drop (4 * i) (take (4 * count) numbers))) out)
+    × (at + length (findings-text (h .letter) (of-areas (h .one) (h .other)) (take (4 * count) numbers)) ≡ next + length (findings-text (h .letter) (of-areas (h .one) (h .other)) (drop (4 * i) (take (4 * count) numbers))))
+    × (put at (findings-text (h .letter) (of-areas (h .one) (h .other)) (take (4 * count) numbers)) out₀ ≡ put next (findings-text (h .letter) (of-areas (h .one) (h .other)) (drop (4 * i) (take (4 * count) numbers))) out)
 
 abbrev μ-loop : tie.MeasureT-loop
-μ-loop out₀ at numbers count next₀ i₀ out next i = count - i
+μ-loop out₀ at h numbers count next₀ i₀ out next i = count - i
 
 loop-holds : tie.Need-loop-holds Inv-loop μ-loop
 loop-holds c = (omega arith, omega arith, refl, refl, refl)
@@ -43,12 +43,13 @@ loop-again c =
     let s = q .args in
     let l = c .before .before .before .before .before .loop in
     let w = c .before .before .put-finding in
-    let h = c .before .before .before .before .loop-test .taken in (
+    let t = c .before .before .before .before .loop-test .taken in
+    let areas = of-areas (s .h .one) (s .h .other) in (
       omega arith,
       omega (arith, w .ensures .2),
       w .kept .0 ∙ l .inv .2,
-      l .inv .3 ∙ omega (arith, w .ensures .0, found-length (now (s .numbers)) (s .count) (q .pre .2) (l .i) h),
-      rw (w .ensures .1, w .ensures .0) (l .inv .4 ∙ found-on (now (s .numbers)) (s .count) (q .pre .2) (l .i) (l .next) (l .out) h),
+      l .inv .3 ∙ omega (arith, w .ensures .0, found-length (s .h .letter) areas (now (s .numbers)) (s .count) (q .pre .2) (l .i) t),
+      rw (w .ensures .1, w .ensures .0) (l .inv .4 ∙ found-on (s .h .letter) areas (now (s .numbers)) (s .count) (q .pre .2) (l .i) (l .next) (l .out) t),
     )
 
 same-length : tie.Need-same-length Inv-loop μ-loop
@@ -60,7 +61,7 @@ returns c =
     let q = c .before .before .before .before in
     let s = q .args in
     let l = c .before .loop in
-    let none = found-over (now (s .numbers)) (s .count) (q .pre .2) (l .i) (c .loop-test .left) in
+    let none = found-over (s .h .letter) (of-areas (s .h .one) (s .h .other)) (now (s .numbers)) (s .count) (q .pre .2) (l .i) (c .loop-test .left) in
     (sym (omega (arith, l .inv .3, ap length none)), sym (l .inv .4 ∙ ap (λ (x : List ℕ). put (l .next) x (l .out)) none), omega (arith, l .inv .0, l .inv .1))
 
 pub put-findings-spec : {M : Type 1} → statement M
