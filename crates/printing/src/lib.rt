@@ -2,3 +2,4 @@
 mod found; // the lines of findings
 mod run; // the edits of a file: their lines, and the tally
 mod text; // lines of numbers
+mod written; // whether a timetable is written as it was read
