@@ -5,3 +5,6 @@ pub mod WholeLaws
 pub mod PlaceLaws
 pub mod InputLaws
 pub mod ShiftLaws
+pub mod WrittenLaws
+pub mod InspectReadLaws
+pub mod InspectPartLaws

@@ -5,3 +5,4 @@ pub mod shift; // all that `shift` prints
 mod text; // lines of numbers
 mod totals; // the line of totals
 mod whole; // the findings of a whole sheet
+mod written; // whether a timetable is written as it was read
