@@ -1,3 +1,9 @@
 pub mod TextLaws
 pub mod LineLaws
 pub mod FoundLaws
+pub mod PutLaws
+pub mod SheetLaws
+pub mod SignedLaws
+pub mod RowLaws
+pub mod RangeLaws
+pub mod JourneyLaws
