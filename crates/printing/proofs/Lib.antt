@@ -8,3 +8,9 @@ pub mod ShiftLaws
 pub mod WrittenLaws
 pub mod InspectReadLaws
 pub mod InspectPartLaws
+pub mod PutLaws
+pub mod SheetLaws
+pub mod SignedLaws
+pub mod RowLaws
+pub mod RangeLaws
+pub mod JourneyLaws

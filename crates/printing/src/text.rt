@@ -4,9 +4,12 @@ ghost use mathlib.Core.List.{[], _∷_};
 ghost use Prim.Native.Nat.{_+_, _≤_};
 ghost use lib.ListN.{length, take};
 ghost use Rattle.timetable.specs.Outputs.{put};
+ghost use Rattle.findings.specs.Builder.{Puts};
 ghost use Rattle.reports.specs.Text.{digits, word, head, line};
+ghost use Rattle.reports.specs.Inspect.{signed};
+ghost use Rattle.printing.specs.Journeys.{signed-word};
 
-fn put_byte(out: &mut [u8], at: usize, b: u8) -> usize
+pub fn put_byte(out: &mut [u8], at: usize, b: u8) -> usize
     requires { ⌜ at ≤ 2000000000 ⌝ }
     ensures { λ r. ⌜ (r ≡ at + 1) × (now (out .exit) ≡ put at (b ∷ []) (now (out .entry))) ⌝ }
 {
@@ -33,12 +36,33 @@ fn put_digits(out: &mut [u8], at: usize, x: u32, left: u8) -> usize
 }
 
 // A number with a blank before it.
-fn put_word(out: &mut [u8], at: usize, x: u32) -> usize
+pub fn put_word(out: &mut [u8], at: usize, x: u32) -> usize
     requires { ⌜ at ≤ 999999999 ⌝ }
     ensures { λ r. ⌜ (r ≡ at + length (word x)) × (now (out .exit) ≡ put at (word x) (now (out .entry))) × (r ≤ at + 11) ⌝ }
 {
     let next = put_byte(out, at, 32);
     put_digits(out, next, x, 10)
+}
+
+// A number with its sign, where it is below nought.
+fn put_signed(out: &mut [u8], at: usize, x: i32) -> usize
+    requires { ⌜ at ≤ 900000000 ⌝ }
+    ensures { λ r. ⌜ Puts at (signed x) (now (out .entry)) r (now (out .exit)) 11 ⌝ }
+{
+    if x < 0 {
+        let next = put_byte(out, at, 45);
+        return put_digits(out, next, (-1 - x) as u32 + 1, 10);
+    }
+    put_digits(out, at, x as u32, 10)
+}
+
+// The same with a blank before it.
+pub fn put_signed_word(out: &mut [u8], at: usize, x: i32) -> usize
+    requires { ⌜ at ≤ 800000000 ⌝ }
+    ensures { λ r. ⌜ Puts at (signed-word x) (now (out .entry)) r (now (out .exit)) 12 ⌝ }
+{
+    let next = put_byte(out, at, 32);
+    put_signed(out, next, x)
 }
 
 // A letter and the first k numbers.
