@@ -61,7 +61,7 @@ module _ (n : Network) (good : network-refusal n ≡ 0) where
     abbrev sheet : List ℕ
     sheet = encode-sheet m
 
-    divides : (buffer : List ℕ) → length buffer ≡ 49152 → (divide-refusal n sheet buffer ≡ 0) × (after-divide n sheet buffer ≡ divided n sheet)
+    pub divides : (buffer : List ℕ) → length buffer ≡ 49152 → (divide-refusal n sheet buffer ≡ 0) × (after-divide n sheet buffer ≡ divided n sheet)
     unfolding divide-refusal after-divide
     divides buffer size =
         let g = whole-good m w in
@@ -91,13 +91,13 @@ module _ (n : Network) (good : network-refusal n ≡ 0) where
         T-true (good-part n a (sheet-at (divided n sheet) (a .0)))
         (division-sheet n good (divided n sheet) (divided-good n good sheet (g .size) (g .fine)) (a .0) t)
 
-    area-listed : (a : Area) → T (area-ok a) → area-list-refusal n (sheet-at (divided n sheet) (a .0)) a ≡ 0
+    pub area-listed : (a : Area) → T (area-ok a) → area-list-refusal n (sheet-at (divided n sheet) (a .0)) a ≡ 0
     unfolding area-list-refusal
     area-listed a t = list-formed
         (eqb (length (sheet-at (divided n sheet) (a .0))) 8192) (3 if not (area-ok a) else network-refusal n) (good-part n a (sheet-at (divided n sheet) (a .0)))
         (part-size a t) (rw (T-true (area-ok a) t, good)) (part-good a t)
 
-    pair-listed : (a b : Area) → T (two-areas a b) → two-list-refusal n (sheet-at (divided n sheet) (a .0)) (sheet-at (divided n sheet) (b .0)) a b ≡ 0
+    pub pair-listed : (a b : Area) → T (two-areas a b) → two-list-refusal n (sheet-at (divided n sheet) (a .0)) (sheet-at (divided n sheet) (b .0)) a b ≡ 0
     unfolding two-list-refusal two-areas
     pair-listed a b t = list-formed
         (eqb (length (sheet-at (divided n sheet) (a .0))) 8192 && eqb (length (sheet-at (divided n sheet) (b .0))) 8192)
@@ -121,7 +121,7 @@ module _ (n : Network) (good : network-refusal n ≡ 0) where
         )
 
     -- the parts that its sheets hold
-    reads : (a : ℕ) → T (area-number a) → decode-sheet (sheet-at (divided n sheet) a) ≡ divide (area-of n) m a
+    pub reads : (a : ℕ) → T (area-number a) → decode-sheet (sheet-at (divided n sheet) a) ≡ divide (area-of n) m a
     reads a t = divided-reads n sheet (whole-good m w .size) a t ∙ ap (λ (x : Timetable). divide (area-of n) x a) (whole-back m w)
 
     same-sheets : (a : Area) → T (area-ok a) → sheet-at (divided n sheet) (a .0) ≡ encode-sheet (divide (area-of n) m (a .0))

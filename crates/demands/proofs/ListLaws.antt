@@ -60,14 +60,14 @@ module _ (n : Network) (division : List ℕ) (m : Timetable) (reads : (a : ℕ) 
   abbrev parts : Divided
   parts = divide (area-of n) m
 
-  area-same : (a : ℕ) → T (area-number a) → area-list n (sheet-at division a) (area a) ≡ numbers-of (own-list n (area-of n) parts a)
+  pub area-same : (a : ℕ) → T (area-number a) → area-list n (sheet-at division a) (area a) ≡ numbers-of (own-list n (area-of n) parts a)
   unfolding area-list own-list
   area-same a t = ap (λ (x : Timetable). numbers-of (group-findings n (area-of n) x a)) (reads a t)
 
   abbrev two : ℕ × ℕ → Bool
   two ab = area-number (ab .0) && area-number (ab .1)
 
-  pair-same : (ab : ℕ × ℕ) → T (two ab)
+  pub pair-same : (ab : ℕ × ℕ) → T (two ab)
       → two-list n (sheet-at division (ab .0)) (sheet-at division (ab .1)) (area (ab .0)) (area (ab .1)) ≡ numbers-of (pair-list n (area-of n) parts ab)
   unfolding two-list pair-list two-parts
   pair-same ab t =

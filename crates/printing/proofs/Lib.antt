@@ -14,3 +14,4 @@ pub mod SignedLaws
 pub mod RowLaws
 pub mod RangeLaws
 pub mod JourneyLaws
+pub mod ListLaws

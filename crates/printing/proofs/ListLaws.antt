@@ -1,0 +1,272 @@
+-- The lists of an area and of two areas, formed from the sheets of a division and printed: the division of a good sheet holds the parts of its timetable (demands), a list
+-- formed from those parts is that of the whole timetable (theory Reach), and four numbers a finding are one line each, of at most 30 bytes. Assumes nothing.
+use Prim.Native.Nat.{ℕ, zero, suc, _+_, _*_, _/_, _%_, _≤_, _<_}
+use mathlib.Core.Path.{_≡_, refl, _∙_, ap, ap₂}
+use mathlib.Core.Bool.{Bool, true, false, not, _&&_}
+use mathlib.Core.List.{List, [], _∷_, _++_, flatMap}
+use native.Mathlib.Omega.{arith}
+use native.Mathlib.Decide.{ℕ-discrete}
+use mathlib.Core.Logic.{by-cases}
+use lib.Dec.{T, ltb, eqb, leb, leb→le}
+use lib.ListN.{length, getD, take, length-append, length-take}
+use borrow.Author.Tests.{ltb-false, eq-eqb}
+use Rattle.base.specs.Choice.{if_then_else_}
+use Rattle.base.proofs.Tests.{T-true, true-T, and-l, and-r}
+use Rattle.railway.specs.Ranges.{area-ok}
+use Rattle.railway.specs.Networks.{network-refusal, area-of}
+use Rattle.timetable.specs.Machine.{Timetable}
+use Rattle.timetable.specs.Groups.{divide}
+use Rattle.timetable.specs.Good.{Whole}
+use Rattle.timetable.specs.Findings.{group-findings, pair-findings}
+use Rattle.timetable.specs.Outputs.{output, output-after}
+use Rattle.theory.proofs.Reach.{own-part, pair-part}
+use Rattle.sheet.specs.Sheets.{encode-sheet, decode-sheet, sheet-at, divided, area-part, after-divide}
+use Rattle.sheet.proofs.FlatLaws.{flat-append}
+use Rattle.sheet.proofs.SheetLaws.{area-number, divided-size}
+use Rattle.findings.specs.Lists.{numbers-of, area-list, two-list, sheet-list-refusal, area-list-refusal, two-areas, two-list-refusal}
+use Rattle.findings.proofs.BoundLaws.{area-list-most, two-list-most}
+use Rattle.demands.proofs.Central.{same-bytes}
+use Rattle.demands.proofs.DemandHolds.{whole-good, whole-back, divides, area-listed, pair-listed, reads}
+use Rattle.demands.proofs.ListLaws.{area-same, pair-same}
+use Rattle.reports.specs.Text.{digits, decimal, word, head, line}
+use Rattle.reports.specs.Inspect.{listed-text, area-text, pair-text}
+use Rattle.printing.specs.Types.{Area, Network, Finding, Output}
+use Rattle.printing.specs.Lines.{of-areas, findings-text}
+use Rattle.printing.proofs.FoundLaws.{of-none, of-one, of-two}
+use Rattle.printing.proofs.PutLaws.{written-whole, written-many, never-refused, never-short}
+use Rattle.printing.proofs.SheetLaws.{fine-size, fine-network, fine-sheet, sheet-whole}
+
+-- how long a line is
+
+-- one more digit for numbers ten times as large
+more-digits : (b w : ℕ) → ((k x : ℕ) → x < b → length (digits k x) ≤ w) → (k x : ℕ) → x < 10 * b → length (digits k x) ≤ w + 1
+unfolding digits
+more-digits b w most zero x h = omega arith
+more-digits b w most (suc k) x h = go (ltb x 10)
+  where
+    go : (c : Bool) → length (if c then (48 + x) ∷ [] else digits k (x / 10) ++ ((48 + x % 10) ∷ [])) ≤ w + 1
+    go true = omega arith
+    go false = omega (arith, length-append (digits k (x / 10)) ((48 + x % 10) ∷ []), most k (x / 10) (omega (arith, h)))
+
+one-digit : (k x : ℕ) → x < 10 → length (digits k x) ≤ 1
+unfolding digits
+one-digit zero x h = omega arith
+one-digit (suc k) x h = go (ltb x 10) refl
+  where
+    go : (c : Bool) → ltb x 10 ≡ c → length (if c then (48 + x) ∷ [] else digits k (x / 10) ++ ((48 + x % 10) ∷ [])) ≤ 1
+    go true e = omega arith
+    go false e = absurd (omega (arith, h, ltb-false x 10 e))
+
+area-word : (x : ℕ) → x ≤ 9 → length (word x) ≤ 2
+unfolding word decimal
+area-word x h = omega (arith, one-digit 10 x (omega (arith, h)))
+
+-- of a number that two bytes hold
+short-word : (x : ℕ) → x < 65536 → length (word x) ≤ 6
+unfolding word decimal
+short-word x h = omega (arith, more-digits 10000 4 (more-digits 1000 3 (more-digits 100 2 (more-digits 10 1 one-digit))) 10 x (omega (arith, h)))
+
+areas-short : (a b : ℕ) → a ≤ 9 → b ≤ 9 → length (flatMap word (of-areas a b)) ≤ 4
+unfolding flatMap
+areas-short a b p q = by-cases (ℕ-discrete a 0) (λ x. rw (of-none a b x) (omega arith)) (λ x. by-cases (ℕ-discrete b 0)
+    (λ y. rw (of-one a b x y) (omega (arith, length-append (word a) [], area-word a p)))
+    (λ y. rw (of-two a b x y) (omega (arith, length-append (word a) (word b ++ []), length-append (word b) [], area-word a p, area-word b q))))
+
+-- numbers that two bytes hold
+abbrev pub Short : List ℕ → Type 0
+Short xs = (i : ℕ) → getD xs i 0 < 65536
+
+short-taken : (k : ℕ) (xs : List ℕ) → Short xs → Short (take k xs)
+short-taken zero xs h i = omega arith
+short-taken (suc k) [] h i = omega arith
+short-taken (suc k) (x ∷ xs) h zero = h 0
+short-taken (suc k) (x ∷ xs) h (suc i) = short-taken k xs (λ j. h (suc j)) i
+
+module _ (letter : ℕ) (areas : List ℕ) (few : length (flatMap word areas) ≤ 4) where
+  line-short : (s r a b : ℕ) → s < 65536 → r < 65536 → a < 65536 → b < 65536 → length (line letter (areas ++ (s ∷ r ∷ a ∷ b ∷ []))) ≤ 30
+  unfolding line head flatMap
+  line-short s r a b hs hr ha hb =
+      omega (
+        arith,
+        few,
+        length-append (letter ∷ flatMap word (areas ++ (s ∷ r ∷ a ∷ b ∷ []))) (10 ∷ []),
+        ap length (flat-append word areas (s ∷ r ∷ a ∷ b ∷ [])),
+        length-append (flatMap word areas) (flatMap word (s ∷ r ∷ a ∷ b ∷ [])),
+        length-append (word s) (flatMap word (r ∷ a ∷ b ∷ [])),
+        length-append (word r) (flatMap word (a ∷ b ∷ [])),
+        length-append (word a) (flatMap word (b ∷ [])),
+        length-append (word b) [],
+        short-word s hs,
+        short-word r hr,
+        short-word a ha,
+        short-word b hb,
+      )
+
+  lines-short : (xs : List ℕ) → Short xs → 4 * length (findings-text letter areas xs) ≤ 30 * length xs
+  unfolding findings-text
+  lines-short [] h = omega arith
+  lines-short (s ∷ []) h = omega arith
+  lines-short (s ∷ r ∷ []) h = omega arith
+  lines-short (s ∷ r ∷ a ∷ []) h = omega arith
+  lines-short (s ∷ r ∷ a ∷ b ∷ rest) h =
+      omega (
+        arith,
+        length-append (line letter (areas ++ (s ∷ r ∷ a ∷ b ∷ []))) (findings-text letter areas rest),
+        line-short s r a b (h 0) (h 1) (h 2) (h 3),
+        lines-short rest (λ i. h (suc (suc (suc (suc i))))),
+      )
+
+pub list-short : (letter a b : ℕ) → a ≤ 9 → b ≤ 9 → (k : ℕ) → k ≤ 332160 → (xs : List ℕ) → Short xs → length (findings-text letter (of-areas a b) (take (4 * (k / 4)) xs)) ≤ 2491200
+list-short letter a b p q k h xs s =
+    omega (arith, h, lines-short letter (of-areas a b) (areas-short a b p q) (take (4 * (k / 4)) xs) (short-taken (4 * (k / 4)) xs s), length-take (4 * (k / 4)) xs)
+
+-- four numbers a finding
+
+pub listed-lines : (letter : ℕ) (areas : List ℕ) (fs : List Finding) → findings-text letter areas (numbers-of fs) ≡ listed-text letter areas fs
+unfolding findings-text listed-text numbers-of flatMap
+listed-lines letter areas [] = refl
+listed-lines letter areas (f ∷ fs) =
+    ap (λ (l : List ℕ). line letter (areas ++ (f .station .0 ∷ f .rule ∷ f .first ∷ f .second ∷ [])) ++ l) (listed-lines letter areas fs)
+
+pub numbers-many : (fs : List Finding) → length (numbers-of fs) ≡ 4 * length fs
+unfolding numbers-of flatMap
+numbers-many [] = refl
+numbers-many (f ∷ fs) = omega (arith, numbers-many fs)
+
+-- a list that a call wrote, printed
+module _ (letter : ℕ) (areas : List ℕ) (fs : List Finding) (refusal : ℕ) (xs b : List ℕ) (same : xs ≡ numbers-of fs) (none : refusal ≡ 0) (fits : length xs ≤ length b)
+    (k : ℕ) (many : k ≡ length xs) (later : List ℕ) (left : later ≡ output-after refusal xs b) where
+  taken : take (4 * (k / 4)) later ≡ xs
+  taken =
+      let all : 4 * (k / 4) ≡ length xs = omega (arith, many, ap length same, numbers-many fs) in
+      ap (λ (j : ℕ). take j later) all ∙ ap (take (length xs)) left ∙ written-whole refusal xs b none fits
+
+  pub list-there : k ≤ length later
+  list-there =
+      let all : 4 * (k / 4) ≡ length xs = omega (arith, many, ap length same, numbers-many fs) in
+      omega (arith, many, all, ap length taken, length-take (4 * (k / 4)) later)
+
+  pub list-printed : findings-text letter areas (take (4 * (k / 4)) later) ≡ listed-text letter areas fs
+  list-printed = ap (findings-text letter areas) (taken ∙ same) ∙ listed-lines letter areas fs
+
+pub area-low : (a : Area) → area-ok a ≡ true → (1 ≤ a .0) × (a .0 ≤ 9)
+area-low a ok =
+    let t : T (area-ok a) = true-T (area-ok a) ok in
+    (leb→le 1 (a .0) (and-l (leb 1 (a .0)) (leb (a .0) 6) t), omega (arith, leb→le (a .0) 6 (and-r (leb 1 (a .0)) (leb (a .0) 6) t)))
+
+-- the sheets of a division of a good sheet
+module _ (n : Network) (sheet : List ℕ) (fine : sheet-list-refusal n sheet ≡ 0) where
+  abbrev good : network-refusal n ≡ 0
+  good = fine-network n sheet fine
+
+  abbrev m : Timetable
+  m = decode-sheet sheet
+
+  abbrev whole : Whole n m
+  whole = sheet-whole n sheet fine
+
+  back : encode-sheet m ≡ sheet
+  back = same-bytes n good (encode-sheet m) sheet (whole-good n good m whole) (record { size = fine-size n sheet fine; fine = fine-sheet n sheet fine }) (whole-back n good m whole)
+
+  divided-there : (buffer : List ℕ) → length buffer ≡ 49152 → after-divide n sheet buffer ≡ divided n sheet
+  divided-there buffer size = rw back at (divides n good m whole buffer size .1)
+
+  part-is : (a : Area) → area-ok a ≡ true → area-part (divided n sheet) a ≡ sheet-at (divided n sheet) (a .0)
+  unfolding area-part
+  part-is a ok = rw (eq-eqb (length (divided n sheet)) 49152 (divided-size n sheet (fine-size n sheet fine)), ok)
+
+  parts-are : (a : ℕ) → T (area-number a) → decode-sheet (sheet-at (divided n sheet) a) ≡ divide (area-of n) m a
+  parts-are a t = rw back at (reads n good m whole a t)
+
+  module _ (a : Area) (ok : area-ok a ≡ true) where
+    area-fine : area-list-refusal n (area-part (divided n sheet) a) a ≡ 0
+    area-fine = rw (part-is a ok) (rw back at (area-listed n good m whole a (true-T (area-ok a) ok)))
+
+    area-numbers : area-list n (area-part (divided n sheet) a) a ≡ numbers-of (group-findings n (area-of n) m (a .0))
+    area-numbers =
+        rw (part-is a ok) (area-same n (divided n sheet) m parts-are (a .0) (true-T (area-ok a) ok) ∙ ap numbers-of (own-part n (area-of n) m (a .0)))
+
+    -- the call on it: d is the division, `part` the area's sheet, r what the call answers
+    module _ (z d part b : List ℕ) (long : length z ≡ 49152) (made : d ≡ after-divide n sheet z) (lent : part ≡ area-part d a) (room : length b ≡ 332160)
+        (r : Output) (answered : r ≡ output (area-list-refusal n part a) (area-list n part a) b) where
+      own-sheet : part ≡ area-part (divided n sheet) a
+      own-sheet = lent ∙ ap (λ (x : List ℕ). area-part x a) (made ∙ divided-there z long)
+
+      own-fine : area-list-refusal n part a ≡ 0
+      own-fine = ap (λ (x : List ℕ). area-list-refusal n x a) own-sheet ∙ area-fine
+
+      own-fits : length (area-list n part a) ≤ length b
+      own-fits = omega (arith, room, area-list-most n part a own-fine)
+
+      pub own-unrefused {ℓ} : {P : Type ℓ} (k : ℕ) → r ≡ Output.Refused k → P
+      own-unrefused k e = never-refused (area-list-refusal n part a) (area-list n part a) b own-fine own-fits r answered k e
+
+      pub own-roomy {ℓ} : {P : Type ℓ} (k : ℕ) → r ≡ Output.TooShort k → P
+      own-roomy k e = never-short (area-list-refusal n part a) (area-list n part a) b own-fine own-fits r answered k e
+
+      pub own-printed : (k : ℕ) → r ≡ Output.Written k → (later : List ℕ) → later ≡ output-after (area-list-refusal n part a) (area-list n part a) b
+          → (k ≤ 332160) × (k ≤ length later) × (findings-text 68 (of-areas (a .0) 0) (take (4 * (k / 4)) later) ≡ area-text n m (a .0))
+      unfolding area-text
+      own-printed k e later left =
+          let many = written-many (area-list-refusal n part a) (area-list n part a) b own-fine own-fits r answered k e in
+          let fs : List Finding = group-findings n (area-of n) m (a .0) in
+          let same : area-list n part a ≡ numbers-of fs = ap (λ (x : List ℕ). area-list n x a) own-sheet ∙ area-numbers in
+          let one : of-areas (a .0) 0 ≡ a .0 ∷ [] = of-one (a .0) 0 (λ q. omega (arith, area-low a ok .0, q)) refl in (
+            omega (arith, many, area-list-most n part a own-fine),
+            list-there 68 (of-areas (a .0) 0) fs (area-list-refusal n part a) (area-list n part a) b same own-fine own-fits k many later left,
+            list-printed 68 (of-areas (a .0) 0) fs (area-list-refusal n part a) (area-list n part a) b same own-fine own-fits k many later left
+                ∙ ap (λ (l : List ℕ). listed-text 68 l fs) one,
+          )
+
+  module _ (a b : Area) (two : two-areas a b ≡ true) where
+    pub first-ok : area-ok a ≡ true
+    unfolding two-areas
+    first-ok = T-true (area-ok a) (and-l (area-ok a) (area-ok b && not (eqb (a .0) (b .0))) (true-T (two-areas a b) two))
+
+    pub second-ok : area-ok b ≡ true
+    unfolding two-areas
+    second-ok = T-true (area-ok b) (and-l (area-ok b) (not (eqb (a .0) (b .0))) (and-r (area-ok a) (area-ok b && not (eqb (a .0) (b .0))) (true-T (two-areas a b) two)))
+
+    pair-fine : two-list-refusal n (area-part (divided n sheet) a) (area-part (divided n sheet) b) a b ≡ 0
+    pair-fine = rw (part-is a first-ok, part-is b second-ok) (rw back at (pair-listed n good m whole a b (true-T (two-areas a b) two)))
+
+    pair-numbers : two-list n (area-part (divided n sheet) a) (area-part (divided n sheet) b) a b ≡ numbers-of (pair-findings n (area-of n) m (a .0) (b .0))
+    pair-numbers =
+        rw (part-is a first-ok, part-is b second-ok)
+        (pair-same n (divided n sheet) m parts-are (a .0, b .0) (rw (first-ok, second-ok) tt) ∙ ap numbers-of (pair-part n (area-of n) m (a .0, b .0)))
+
+    -- the call on them
+    module _ (z d first second out : List ℕ) (long : length z ≡ 49152) (made : d ≡ after-divide n sheet z) (lent : first ≡ area-part d a) (other : second ≡ area-part d b)
+        (room : length out ≡ 332160) (r : Output) (answered : r ≡ output (two-list-refusal n first second a b) (two-list n first second a b) out) where
+      first-sheet : first ≡ area-part (divided n sheet) a
+      first-sheet = lent ∙ ap (λ (x : List ℕ). area-part x a) (made ∙ divided-there z long)
+
+      second-sheet : second ≡ area-part (divided n sheet) b
+      second-sheet = other ∙ ap (λ (x : List ℕ). area-part x b) (made ∙ divided-there z long)
+
+      two-fine : two-list-refusal n first second a b ≡ 0
+      two-fine = rw (first-sheet, second-sheet) pair-fine
+
+      two-fits : length (two-list n first second a b) ≤ length out
+      two-fits = omega (arith, room, two-list-most n first second a b two-fine)
+
+      pub two-unrefused {ℓ} : {P : Type ℓ} (k : ℕ) → r ≡ Output.Refused k → P
+      two-unrefused k e = never-refused (two-list-refusal n first second a b) (two-list n first second a b) out two-fine two-fits r answered k e
+
+      pub two-roomy {ℓ} : {P : Type ℓ} (k : ℕ) → r ≡ Output.TooShort k → P
+      two-roomy k e = never-short (two-list-refusal n first second a b) (two-list n first second a b) out two-fine two-fits r answered k e
+
+      pub two-printed : (k : ℕ) → r ≡ Output.Written k → (later : List ℕ) → later ≡ output-after (two-list-refusal n first second a b) (two-list n first second a b) out
+          → (k ≤ 332160) × (k ≤ length later) × (findings-text 80 (of-areas (a .0) (b .0)) (take (4 * (k / 4)) later) ≡ pair-text n m (a .0, b .0))
+      unfolding pair-text
+      two-printed k e later left =
+          let many = written-many (two-list-refusal n first second a b) (two-list n first second a b) out two-fine two-fits r answered k e in
+          let fs : List Finding = pair-findings n (area-of n) m (a .0) (b .0) in
+          let same : two-list n first second a b ≡ numbers-of fs = ap₂ (λ (x y : List ℕ). two-list n x y a b) first-sheet second-sheet ∙ pair-numbers in
+          let both : of-areas (a .0) (b .0) ≡ a .0 ∷ b .0 ∷ [] =
+          of-two (a .0) (b .0) (λ q. omega (arith, area-low a first-ok .0, q)) (λ q. omega (arith, area-low b second-ok .0, q)) in (
+            omega (arith, many, two-list-most n first second a b two-fine),
+            list-there 80 (of-areas (a .0) (b .0)) fs (two-list-refusal n first second a b) (two-list n first second a b) out same two-fine two-fits k many later left,
+            list-printed 80 (of-areas (a .0) (b .0)) fs (two-list-refusal n first second a b) (two-list n first second a b) out same two-fine two-fits k many later left
+                ∙ ap (λ (l : List ℕ). listed-text 80 l fs) both,
+          )

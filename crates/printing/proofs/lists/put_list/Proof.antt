@@ -1,0 +1,23 @@
+-- `printing::lists::put_list` meets its contract: numbers of two bytes have at most five digits, so no line is longer than 30 bytes. Assumes nothing.
+use native.Mathlib.Omega.{arith}
+use denote.Ref.{now}
+use borrow.Author.Needs.{needs}
+use Rattle.printing.proofs.ListLaws.{list-short}
+use Rattle.printing.proofs.lists.put_list.Statement.{statement}
+use Rattle.printing.proofs.lists.put_list.Tie as tie
+
+put-findings-requires : tie.Need-put-findings-requires
+put-findings-requires c κs = search needs
+
+same-length : tie.Need-same-length
+same-length c = search needs
+
+returns : tie.Need-returns
+returns c =
+    let q = c .before .before .before .before .before .before in
+    let s = q .args in
+    let w = c .before .before .put-findings .ensures in
+    (w .0, w .1, omega (arith, w .0, list-short (s .h .letter) (s .h .one) (s .h .other) (q .pre .0) (q .pre .1) (s .k) (q .pre .2) (now (s .numbers)) (λ i. c .before .before .before .before .shared-slice-known .given i .fits)))
+
+pub put-list-spec : {M : Type 1} → statement M
+put-list-spec = tie.close (tie.spec put-findings-requires same-length returns)
