@@ -4,6 +4,7 @@
 All comes from one seed:
  - Files, good and damaged ones of `shift` and of `inspect`, examples of document 01, and every single fault in one small file
    of each program: both outputs must be equal byte for byte. Where it is known what must be printed, both must print that.
+ - Pieces: some of the files again, through a pipe that delivers a few bytes at a time.
  - Reorderings: a file of edits in an order that keeps the order of every two edits with a common area. Each edit's answer,
    the findings, the totals and the tally must be those of the first order.
  - The second implementation's outputs tell what was reached: every refusal, every rule, every limit has to be. They must also
@@ -84,6 +85,12 @@ FIXED = [
      b"".join(b"E %d 0 0\n" % edit for edit in range(1, 25)) + b"E 25 12 0\nT 24 0 0\nA 24 1 24 0\n"),
 ]
 
+# The same, and how many bytes come at a time; the last ones are too long for a file by a byte, and as long as may be.
+PIECES = [(*fixed, 1) for fixed in FIXED if fixed[3] is not None] + [
+    (f"{length} zeros of {program}", program, bytes(length), prints, 1000)
+    for program in ("shift", "inspect") for length, prints in ((16385, b"R 5 0\n"), (16384, b"R 3 0\n"))
+]
+
 # Single faults at every number of one file of each program.
 SWEEP = list(sweep())
 
@@ -100,6 +107,19 @@ def run(program, data):
     # A death by a signal is no ending; nor is a panic.
     ended = f"exit status {done.returncode}" if done.returncode < 0 or done.returncode == 101 else ""
     return done.stdout, ended
+
+
+def run_in_pieces(program, data, size):
+    """The same, the input coming so many bytes at a time."""
+    with subprocess.Popen([program], bufsize=0, stdin=subprocess.PIPE, stdout=subprocess.PIPE, stderr=subprocess.DEVNULL) as begun:
+        try:
+            for at in range(0, len(data), size):
+                begun.stdin.write(data[at:at + size])
+                time.sleep(0.002)
+        except BrokenPipeError:
+            pass  # it has read as much as it needs
+        output, _ = begun.communicate(timeout=OPTIONS.timeout)
+    return output
 
 
 def first_difference(one, other):
@@ -241,6 +261,12 @@ def do_fixed(index):
     return ("fixed files", *compare(name, program, data, expected))
 
 
+def do_pieces(index):
+    name, program, data, expected, size = PIECES[index]
+    output = run_in_pieces(OPTIONS.programs[program], data, size)
+    return "files in pieces", differences(f"{name} in pieces", [("program", output, "must print", expected)]), set()
+
+
 def do_sweep(index):
     program, what, data, expected = SWEEP[index]
     return ("files of the sweep", *compare(f"{program} sweep {what}", program, data, expected))
@@ -299,7 +325,7 @@ def do_orders(index):
 
 def job(one):
     what, index = one
-    return {"fixed": do_fixed, "sweep": do_sweep, "file": do_file, "orders": do_orders}[what](index)
+    return {"fixed": do_fixed, "pieces": do_pieces, "sweep": do_sweep, "file": do_file, "orders": do_orders}[what](index)
 
 
 def begin(options):
@@ -329,7 +355,8 @@ def main():
     options.save = os.path.join(tempfile.gettempdir(), f"compare-{os.getpid()}")
 
     began = time.time()
-    jobs = [("fixed", index) for index in range(len(FIXED))] + [("sweep", index) for index in range(len(SWEEP))]
+    jobs = [("fixed", index) for index in range(len(FIXED))] + [("pieces", index) for index in range(len(PIECES))]
+    jobs += [("sweep", index) for index in range(len(SWEEP))]
     jobs = jobs if options.files else []
     jobs += [("file", index) for index in range(options.files)]
     jobs += [("orders", index) for index in range(-(-options.reorderings // ORDERS_PER_FILE))]

@@ -22,7 +22,7 @@ module _ (n : Network) (division : List ℕ) where
   unfolding known-good
   network-good k = eqb-true (network-refusal n) 0 (T-true (eqb (network-refusal n) 0) (and-l (eqb (network-refusal n) 0) (division-passes n division) (true-T (known-good n division) k)))
 
-  sheets-good : (k : known-good n division ≡ true) → GoodDivision n (network-good k) division
+  pub sheets-good : (k : known-good n division ≡ true) → GoodDivision n (network-good k) division
   unfolding known-good division-passes
   sheets-good k =
       let p : T (eqb (length division) 49152 && good-division n division) =
@@ -32,7 +32,7 @@ module _ (n : Network) (division : List ℕ) where
         fine = and-r (eqb (length division) 49152) (good-division n division) p;
       }
 
-  is-known : (good : network-refusal n ≡ 0) → GoodDivision n good division → known-good n division ≡ true
+  pub is-known : (good : network-refusal n ≡ 0) → GoodDivision n good division → known-good n division ≡ true
   unfolding known-good division-passes
   is-known good g = rw (good, eq-eqb (length division) 49152 (g .size), T-true (good-division n division) (g .fine))
 

@@ -41,7 +41,7 @@ groups-some (suc left) (b ∷ bytes) k q z = go (ltb b 128) (groups-some left by
     go false h e = before-some (b - 128) (read-groups left bytes) h k e z
 
 -- nor is that of a file
-abbrev Told : {A : Type 0} → Outcome A → Type 0
+abbrev pub Told : {A : Type 0} → Outcome A → Type 0
 Told o = (k p : ℕ) → o ≡ refused k p → ¬ (k ≡ 0)
 
 field-told : (lo hi : ℕ) (file : List ℕ) (at : ℕ) → Told (field-at lo hi file at)
@@ -56,18 +56,18 @@ field-told lo hi file at = go (read-number (drop at file)) (groups-some 3 (drop 
         range true e = let s : _≡_ {A = ℕ} 0 1 = cc in omega (arith, s)
         range false e = let s : 3 ≡ k = cc in omega (arith, s, z)
 
-behind-told : {A B : Type 0} (o : Outcome A) (f : A → ℕ → Outcome B) → Told o → ((a : A) (next : ℕ) → Told (f a next)) → Told (behind o f)
+pub behind-told : {A B : Type 0} (o : Outcome A) (f : A → ℕ → Outcome B) → Told o → ((a : A) (next : ℕ) → Told (f a next)) → Told (behind o f)
 unfolding behind
 behind-told (accepted a next) f h g = g a next
 behind-told (refused j p₀) f h g = λ k p q. h k p (let s : j ≡ k = cc in let u : p₀ ≡ p = cc in rw (s, u))
 
-read-told : {A : Type 0} (f : Format A) (file : List ℕ) (at : ℕ) → Told (read f file at)
+pub read-told : {A : Type 0} (f : Format A) (file : List ℕ) (at : ℕ) → Told (read f file at)
 unfolding read
 read-told (done a) file at = λ k p q z. let s : _≡_ {A = ℕ} 0 1 = cc in omega (arith, s)
 read-told (field lo hi f) file at = behind-told (field-at lo hi file at) (λ n next. read (f n) file next) (field-told lo hi file at) (λ n next. read-told (f n) file next)
 read-told (here f) file at = read-told (f at) file at
 
-ended-told : {A : Type 0} (file : List ℕ) (o : Outcome A) → Told o → Told (ended file o)
+pub ended-told : {A : Type 0} (file : List ℕ) (o : Outcome A) → Told o → Told (ended file o)
 unfolding ended
 ended-told file (refused j p₀) h = h
 ended-told file (accepted a next) h = λ k p q z. go k p z (leb (length file) next) q

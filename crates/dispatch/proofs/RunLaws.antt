@@ -39,7 +39,7 @@ pub record Held (file : List ℕ) (r : EditsRead) : Type 0 where
   pub readable : can-be-read (r .count) file (r .first) ≡ true
   pub are : edits-at (r .count) file (r .first) ≡ edits .entry
 
-ended-taken : {A : Type 0} (file : List ℕ) (o : Outcome A) (a : A) (next : ℕ) → ended file o ≡ accepted a next → o ≡ accepted a next
+pub ended-taken : {A : Type 0} (file : List ℕ) (o : Outcome A) (a : A) (next : ℕ) → ended file o ≡ accepted a next → o ≡ accepted a next
 unfolding ended
 ended-taken file (refused k p) a next e = e
 ended-taken file (accepted b p) a next e = go (leb (length file) p) e
@@ -48,7 +48,7 @@ ended-taken file (accepted b p) a next e = go (leb (length file) p) e
     go true q = q
     go false q = clash a next 1 p q
 
-taken-there : (file : List ℕ) (k p j at : ℕ) (es : List Edit) (u : ℕ) → j ≡ k → at ≡ p → read (edits-on k) file p ≡ accepted es u
+pub taken-there : (file : List ℕ) (k p j at : ℕ) (es : List Edit) (u : ℕ) → j ≡ k → at ≡ p → read (edits-on k) file p ≡ accepted es u
     → (can-be-read j file at ≡ true) × (edits-at j file at ≡ es)
 unfolding can-be-read edits-at is-accepted taken
 taken-there file k p j at es u c s h = (rw (c, s, h), rw (c, s, h))

@@ -147,7 +147,7 @@ module _ (n : Network) (g : network-refusal n ≡ 0) (u : UnusedBlank n) where
 
 -- the network file
 
-unless-taken : {A : Type 0} (l : Option (Placed LineRow)) (a b : A) (p next : ℕ) → unless-unjoined l (accepted a p) ≡ accepted b next → (l ≡ none) × (a ≡ b) × (p ≡ next)
+pub unless-taken : {A : Type 0} (l : Option (Placed LineRow)) (a b : A) (p next : ℕ) → unless-unjoined l (accepted a p) ≡ accepted b next → (l ≡ none) × (a ≡ b) × (p ≡ next)
 unfolding unless-unjoined
 unless-taken none a b p next e = (refl, (cc), (cc))
 unless-taken (some l) a b p next e = clash b next _ _ e

@@ -1,6 +1,13 @@
 pub mod TextLaws
 pub mod LineLaws
 pub mod FoundLaws
+pub mod WholeLaws
+pub mod PlaceLaws
+pub mod InputLaws
+pub mod ShiftLaws
+pub mod WrittenLaws
+pub mod InspectReadLaws
+pub mod InspectPartLaws
 pub mod PutLaws
 pub mod SheetLaws
 pub mod SignedLaws

@@ -5,11 +5,13 @@ use lib.Dec.{eqb}
 use lib.ListN.{getD}
 use Rattle.base.specs.Choice.{if_then_else_}
 use Rattle.base.specs.Runs.{answers}
-use Rattle.timetable.specs.Listing.{answer-lines}
+use Rattle.timetable.specs.Machine.{Timetable}
+use Rattle.timetable.specs.Listing.{answer-lines, tally-line, listing}
 use Rattle.timetable.specs.Count.{raise-all}
 use Rattle.machine.specs.Calls.{division-answer, division-after}
 use Rattle.reports.specs.Text.{line}
 use Rattle.reports.specs.Shift.{line-text}
+use Rattle.reports.specs.Inspect.{whole-text, totals-text}
 use Rattle.printing.specs.Types.{Edit, Network, Answer, Tally}
 
 -- what the edits answer on a division, each on what the one before left
@@ -36,7 +38,15 @@ findings-text letter areas (s ∷ r ∷ []) = []
 findings-text letter areas (s ∷ r ∷ a ∷ []) = []
 findings-text letter areas (s ∷ r ∷ a ∷ b ∷ rest) = line letter (areas ++ (s ∷ r ∷ a ∷ b ∷ [])) ++ findings-text letter areas rest
 
+-- the lines behind those of the edits: findings, totals, the tally
+unfoldable pub end-text : Network → Timetable → Tally → List ℕ
+end-text n m y = whole-text n m ++ (totals-text n m ++ line-text (tally-line y))
+
+-- all lines of a file that is read as a network and these edits
+unfoldable pub run-text : Network → List Edit → List ℕ
+run-text n es = flatMap line-text (listing n es)
+
 -- The key ring of this module: `unfolding opened` opens every definition above.
 unfoldable pub opened : Unit {0}
-unfolding told answers-text of-areas four-at findings-text
+unfolding told answers-text of-areas four-at findings-text end-text run-text
 opened = tt

@@ -122,13 +122,13 @@ module _ (file : List ℕ) (at : ℕ) where
 
 -- stations of all entries
 
-pub stations-fit : (file : List ℕ) (x : Entries) (next : ℕ) → read timetable-format file 0 ≡ accepted x next
+pub stations-fit : (file : List ℕ) (at : ℕ) (x : Entries) (next : ℕ) → read timetable-format file at ≡ accepted x next
     → T (every (λ p. station-ok (p .entry .station)) (x .visits)) × T (every (λ p. station-ok (p .entry .station)) (x .relations))
 unfolding read visit-part relation-part visits-format relations-format
-stations-fit file x next e =
-    let (vs, p, u, v) = then-taken visit-part behind-visits file 0 x next (sym (ap (λ (f : Format Entries). read f file 0) parts) ∙ e) in
+stations-fit file at x next e =
+    let (vs, p, u, v) = then-taken visit-part behind-visits file at x next (sym (ap (λ (f : Format Entries). read f file at) parts) ∙ e) in
     let (rs, q, w, y) = then-taken relation-part (both-parts vs) file p x next v in
-    let (k, r, a, b) = behind-taken (field-at 0 384 file 0) (λ k p. read (visits-format k) file p) vs p u in
+    let (k, r, a, b) = behind-taken (field-at 0 384 file at) (λ k p. read (visits-format k) file p) vs p u in
     let (j, s, c, d) = behind-taken (field-at 0 96 file p) (λ k p. read (relations-format k) file p) rs q w in
     let z : record { visits = vs; relations = rs } ≡ x = cc in (
       rw (← z) (entries-all visit-entry visit-bar file (λ e. station-ok (e .station)) (λ bar at a next. visit-station bar file at a next) k [] r vs p b),
@@ -148,7 +148,7 @@ entered-next refusal enter (p ∷ ps) m next later end e = go (eqb (refusal (p .
     go true q ih = ih q
     go false q ih = let z : _≡_ {A = ℕ} 0 1 = cc in absurd (omega arith)
 
-timetable-next : (n : Network) (x : Entries) (next : ℕ) (m : Timetable) (end : ℕ) → timetable-of n x next ≡ accepted m end → end ≡ next
+pub timetable-next : (n : Network) (x : Entries) (next : ℕ) (m : Timetable) (end : ℕ) → timetable-of n x next ≡ accepted m end → end ≡ next
 unfolding timetable-of
 timetable-next n x next m end e =
     let (l, p, u, v) = behind-taken (entered (visit-refusal n) enter-visit (x .visits) _ next) (λ m next. entered (relation-refusal n) enter-relation (x .relations) m next) m end e in
@@ -198,7 +198,7 @@ module _ (n : Network) (file sheet : List ℕ) where
             entries-outcome = rw (not-three, q, le-leb (length file) next h, ne-eqb (network-refusal n) 4 (λ z. w (e ∙ z)))
 
             reached : Held (timetable-of n x next) (all-through n x (progress (zeros 8192) no-fault))
-            reached = let (a, b) = stations-fit file x next q in timetable-held n x a b next
+            reached = let (a, b) = stations-fit file 0 x next q in timetable-held n x a b next
 
             pub entry-refused : ¬ (f .number ≡ 0) → (TimetableRead.Refused (f .number) (f .place) ≡ read-answer n file sheet) × (sheet ≡ read-after n file sheet)
             unfolding Held

@@ -5,3 +5,5 @@ pub mod EnterLaws
 pub mod LoopLaws
 pub mod SheetEntries
 pub mod CallLaws
+pub mod InspectLaws
+pub mod PlaceLaws

@@ -24,7 +24,7 @@ pub fn read_timetable(file: &[u8], n: Network, sheet: &mut [u8]) -> TimetableRea
         return TimetableRead::Refused(3, 0);
     }
     let mut own = [0u8; 8192];
-    let found = read::entries(file, n, &mut own);
+    let found = read::entries(file, 0, n, &mut own);
     if found.accepted {
         if found.place < file.len() {
             return TimetableRead::Refused(1, found.place);

@@ -5,3 +5,4 @@ mod relation; // a relation entry
 mod enter; // an entry tested for 7 and 12 and put into a sheet
 mod read; // the entries of a file
 pub mod calls; // the calls
+pub mod inspect; // the input of `inspect`: network, then timetable

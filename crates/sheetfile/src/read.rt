@@ -143,11 +143,11 @@ fn relations(
 }
 
 // "count of visits (0..384)", and the visits.
-fn visit_part(file: &[u8], n: Network, sheet: &mut [u8], fault: Fault) -> EntriesRead
+fn visit_part(file: &[u8], at: usize, n: Network, sheet: &mut [u8], fault: Fault) -> EntriesRead
     requires { ⌜ length (now sheet) ≡ 8192 ⌝ }
-    ensures { λ r. ⌜ (r ≡ entries-read (visit-step n) (record { sheet = now (sheet .entry); fault = fault }) (read visit-part (now (file .entry)) 0)) × (r .accepted ≡ true → now (sheet .exit) ≡ entries-sheet (visit-step n) (record { sheet = now (sheet .entry); fault = fault }) (read visit-part (now (file .entry)) 0)) ⌝ }
+    ensures { λ r. ⌜ (r ≡ entries-read (visit-step n) (record { sheet = now (sheet .entry); fault = fault }) (read visit-part (now (file .entry)) at)) × (r .accepted ≡ true → now (sheet .exit) ≡ entries-sheet (visit-step n) (record { sheet = now (sheet .entry); fault = fault }) (read visit-part (now (file .entry)) at)) ⌝ }
 {
-    let count = field(file, 0, 0, 384);
+    let count = field(file, at, 0, 384);
     match count {
         FieldRead::Refused(k, p) => refused_entries(k, p),
         FieldRead::Value(k, next) => visits(file, next, k as usize, n, sheet, fault),
@@ -166,16 +166,16 @@ fn relation_part(file: &[u8], at: usize, n: Network, sheet: &mut [u8], fault: Fa
     }
 }
 
-// All entries of the file, put into the sheet.
-pub fn entries(file: &[u8], n: Network, sheet: &mut [u8]) -> EntriesRead
+// All entries from a place of the file on, put into the sheet.
+pub fn entries(file: &[u8], at: usize, n: Network, sheet: &mut [u8]) -> EntriesRead
     requires { ⌜ length (now sheet) ≡ 8192 ⌝ }
-    ensures { λ r. ⌜ (r ≡ timetable-entries n (record { sheet = now (sheet .entry); fault = no-fault }) (read timetable-format (now (file .entry)) 0)) × (r .accepted ≡ true → now (sheet .exit) ≡ timetable-sheet n (record { sheet = now (sheet .entry); fault = no-fault }) (read timetable-format (now (file .entry)) 0)) ⌝ }
+    ensures { λ r. ⌜ (r ≡ timetable-entries n (record { sheet = now (sheet .entry); fault = no-fault }) (read timetable-format (now (file .entry)) at)) × (r .accepted ≡ true → now (sheet .exit) ≡ timetable-sheet n (record { sheet = now (sheet .entry); fault = no-fault }) (read timetable-format (now (file .entry)) at)) ⌝ }
 {
     let none = Fault {
         number: 0,
         place: 0,
     };
-    let found = visit_part(file, n, sheet, none);
+    let found = visit_part(file, at, n, sheet, none);
     if found.accepted {
         return relation_part(file, found.place, n, sheet, found.fault);
     }

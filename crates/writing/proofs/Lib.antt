@@ -3,3 +3,4 @@ pub mod RelationLaws
 pub mod NetworkLaws
 pub mod TimetableLaws
 pub mod CallLaws
+pub mod CountLaws

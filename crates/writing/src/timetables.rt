@@ -2,7 +2,10 @@
 // buffer from a place on and answers the place behind them; on a buffer that is too short it only counts.
 ghost use mathlib.Core.Path.{_≡_};
 ghost use Prim.Native.Nat.{_+_, _≤_};
+ghost use lib.Dec.{eqb};
 ghost use lib.ListN.{length};
+ghost use Rattle.base.specs.Choice.{if_then_else_};
+ghost use Rattle.timetable.specs.Count.{visit-count, relation-count};
 ghost use Rattle.timetable.specs.Formats.{bytes-of};
 ghost use Rattle.timetable.specs.Outputs.{put};
 ghost use Rattle.timetable.specs.TimetableFile.{in-link-numbers, out-link-numbers, visit-numbers};
@@ -182,6 +185,25 @@ fn relation_total(sheet: &[u8], n: Network) -> usize
         i += 1;
     }
     total
+}
+
+// How many visits, and how many relations, the sheet holds; 0 of what is no sheet.
+pub fn visits_in(sheet: &[u8], n: Network) -> usize
+    ensures { λ r. ⌜ (r ≡ (if eqb (length (now (sheet .entry))) 8192 then visit-count n (decode-sheet (now (sheet .entry))) else 0)) × (r ≤ 384) ⌝ }
+{
+    if sheet.len() != 8192 {
+        return 0;
+    }
+    visit_total(sheet, n)
+}
+
+pub fn relations_in(sheet: &[u8], n: Network) -> usize
+    ensures { λ r. ⌜ (r ≡ (if eqb (length (now (sheet .entry))) 8192 then relation-count n (decode-sheet (now (sheet .entry))) else 0)) × (r ≤ 96) ⌝ }
+{
+    if sheet.len() != 8192 {
+        return 0;
+    }
+    relation_total(sheet, n)
 }
 
 fn put_all_visits(out: &mut [u8], at: usize, sheet: &[u8], n: Network) -> usize

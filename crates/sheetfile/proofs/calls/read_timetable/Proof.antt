@@ -70,11 +70,11 @@ returns-5 c =
     let g = progress (zeros 8192) no-fault in
     let (x, o, f) = timetable-took (s .n) g (read timetable-format (now (s .file)) 0) (v .result) (v .ensures .0) (c .before .before .before .before .before .before .before .before .before .before .if3 .taken) in
     let k = c .before .before .copy in
-    let size : length (now (s .sheet)) ≡ 8192 = omega arith in
+    let size : length (now (s .sheet)) ≡ 8192 = c .before .before .before .before .before .before .before .before .before .before .before .before .before .before .before .before .if1 .left in
     let own = v .ensures .1 (c .before .before .before .before .before .before .before .before .before .before .if3 .taken) ∙ ap (timetable-sheet (s .n) g) o in
-    let (a, b) = all-entered (s .n) (now (s .file)) (now (s .sheet)) size (z .result) (z .ensures) (c .before .before .before .before .before .before .before .before .before .before .before .before .before .before .if2 .left) x (v .result .place) o (c .before .before .before .before .before .before .before .before .if4 .left) (c .before .before .before .before .before .before .before .if5 .left) (v .result .fault) f (c .before .before .before .before .before .if6 .taken) (v .last .1 .1 .0) own in
-    let long : length (v .last .1 .1 .0) ≡ 8192 = v .kept .1 .1 .0 ∙ length-replicate {A = ℕ} 8192 0 in
-    (a, k .ensures ∙ overwrites (now (s .sheet)) (v .last .1 .1 .0) (size ∙ sym long) ∙ b)
+    let (a, b) = all-entered (s .n) (now (s .file)) (now (s .sheet)) size (z .result) (z .ensures) (c .before .before .before .before .before .before .before .before .before .before .before .before .before .before .if2 .left) x (v .result .place) o (c .before .before .before .before .before .before .before .before .if4 .left) (c .before .before .before .before .before .before .before .if5 .left) (v .result .fault) f (c .before .before .before .before .before .if6 .taken) (v .last .1 .1 .1 .0) own in
+    let long : length (v .last .1 .1 .1 .0) ≡ 8192 = v .kept .1 .1 .1 .0 ∙ length-replicate {A = ℕ} 8192 0 in
+    (a, k .ensures ∙ overwrites (now (s .sheet)) (v .last .1 .1 .1 .0) (size ∙ sym long) ∙ b)
 
 returns-6 : tie.Need-returns-6
 returns-6 c =

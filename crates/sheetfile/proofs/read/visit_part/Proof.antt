@@ -38,7 +38,7 @@ visits-requires c κs =
     let s = c .before .before .before .before .before .before .before .args in
     let g = c .before .before .count2 .given in
     let o = field-value _ (g .0 .0) (g .0 .1 .0) (sym (c .before .before .before .before .field .ensures) ∙ g .1) in
-    (c .before .before .before .before .before .before .before .pre, omega (arith, field-bounded 0 384 (now (s .file)) 0 (g .0 .0) (g .0 .1 .0) o .1))
+    (c .before .before .before .before .before .before .before .pre, omega (arith, field-bounded 0 384 (now (s .file)) (s .at) (g .0 .0) (g .0 .1 .0) o .1))
 
 returns : tie.Need-returns
 unfolding entries-read unanswered
@@ -46,7 +46,7 @@ returns c =
     let s = c .before .before .before .before .before .before .before .args in
     let g = c .before .before .count .given in
     let o = field-refused _ (g .0 .0) (g .0 .1 .0) (sym (c .before .before .before .before .field .ensures) ∙ g .1) in (
-      c .refused-entries .ensures ∙ sym (ap (entries-read (visit-step (s .n)) (progress (now (s .sheet)) (s .fault))) (visit-part-stop (now (s .file)) 0 (g .0 .0) (g .0 .1 .0) o)),
+      c .refused-entries .ensures ∙ sym (ap (entries-read (visit-step (s .n)) (progress (now (s .sheet)) (s .fault))) (visit-part-stop (now (s .file)) (s .at) (g .0 .0) (g .0 .1 .0) o)),
       λ t. absurd (false≢true (sym (ap (λ (x : EntriesRead). x .accepted) (c .refused-entries .ensures)) ∙ t)),
     )
 
@@ -58,7 +58,7 @@ returns-2 c =
     let s = c .before .before .before .before .before .before .before .before .before .before .args in
     let g = c .before .before .before .before .before .count2 .given in
     let o = field-value _ (g .0 .0) (g .0 .1 .0) (sym (c .before .before .before .before .before .before .before .field .ensures) ∙ g .1) in
-    let q = visit-part-then (now (s .file)) 0 (g .0 .0) (g .0 .1 .0) o in
+    let q = visit-part-then (now (s .file)) (s .at) (g .0 .0) (g .0 .1 .0) o in
     let v = c .before .before .visits .ensures in (
       v .0 ∙ sym (ap (entries-read (visit-step (s .n)) (progress (now (s .sheet)) (s .fault))) q),
       λ t. v .1 t ∙ sym (ap (entries-sheet (visit-step (s .n)) (progress (now (s .sheet)) (s .fault))) q),

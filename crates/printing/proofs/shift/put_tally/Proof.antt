@@ -1,0 +1,19 @@
+-- `printing::shift::put_tally` meets its contract: one line of four numbers. Assumes nothing.
+use borrow.Author.Needs.{needs}
+use Rattle.timetable.specs.Listing.{tally-line}
+use Rattle.reports.specs.Shift.{line-text}
+use Rattle.printing.proofs.shift.put_tally.Statement.{statement}
+use Rattle.printing.proofs.shift.put_tally.Tie as tie
+
+put-line-requires : tie.Need-put-line-requires
+put-line-requires c κs = search needs
+
+same-length : tie.Need-same-length
+same-length c = search needs
+
+returns : tie.Need-returns
+unfolding line-text tally-line
+returns c = c .before .before .put-line .ensures
+
+pub put-tally-spec : {M : Type 1} → statement M
+put-tally-spec = tie.close (tie.spec put-line-requires same-length returns)

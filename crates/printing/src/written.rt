@@ -1,0 +1,56 @@
+// The line W: whether a timetable is written as it was read.
+ghost use mathlib.Core.Path.{_≡_};
+ghost use Prim.Native.Nat.{_≤_};
+ghost use lib.ListN.{length};
+ghost use Rattle.base.specs.Lists.{same};
+ghost use Rattle.sheet.specs.Sheets.{decode-sheet};
+ghost use Rattle.writing.specs.Writing.{timetable-bytes};
+ghost use Rattle.findings.specs.Builder.{Puts};
+ghost use Rattle.findings.specs.Lists.{sheet-list-refusal};
+ghost use Rattle.reports.specs.Inspect.{written-text};
+use crate::text;
+use railway::network::Network;
+use timetable::Output;
+use writing::timetables::write_timetable;
+
+// Whether the bytes are the same.
+fn is_same(a: &[u8], b: &[u8]) -> bool
+    ensures { λ r. ⌜ r ≡ same (now (a .entry)) (now (b .entry)) ⌝ }
+{
+    if a.len() != b.len() {
+        return false;
+    }
+    let mut i: usize = 0;
+    while i < a.len() {
+        if a[i] != b[i] {
+            return false;
+        }
+        i += 1;
+    }
+    true
+}
+
+// Whether the bytes are the file of the sheet's timetable. A file that is longer than any input is not.
+fn is_written(sheet: &[u8], n: Network, bytes: &[u8]) -> bool
+    requires { ⌜ (sheet-list-refusal n (now sheet) ≡ 0) × (length (now bytes) ≤ 16384) ⌝ }
+    ensures { λ r. ⌜ r ≡ same (timetable-bytes n (now (sheet .entry))) (now (bytes .entry)) ⌝ }
+{
+    let mut file = [0u8; 16384];
+    let output = write_timetable(sheet, n, &mut file);
+    match output {
+        Output::Written(k) => is_same(&file[0..k], bytes),
+        Output::Refused(_k) => false,
+        Output::TooShort(_k) => false,
+    }
+}
+
+// 1 where it is, else 0.
+pub fn put_written(out: &mut [u8], sheet: &[u8], n: Network, bytes: &[u8]) -> usize
+    requires { ⌜ (sheet-list-refusal n (now sheet) ≡ 0) × (length (now bytes) ≤ 16384) ⌝ }
+    ensures { λ r. ⌜ Puts 0 (written-text n (decode-sheet (now (sheet .entry))) (now (bytes .entry))) (now (out .entry)) r (now (out .exit)) 68 ⌝ }
+{
+    if is_written(sheet, n, bytes) {
+        return text::put_line(out, 0, 87, [1, 0, 0, 0, 0, 0], 1);
+    }
+    text::put_line(out, 0, 87, [0, 0, 0, 0, 0, 0], 1)
+}
