@@ -1,7 +1,7 @@
 -- How long a list of findings is at most: a finding is four numbers, a visit has 24 findings under one rule, a station 24 visits and 6 relations, whatever the
 -- bytes of its page are, and a good network 16 stations. So a list has at most 332,160 numbers. Assumes nothing.
 use Prim.Native.Nat.{ℕ, _+_, _*_, _≤_, min}
-use mathlib.Core.Path.{_≡_, refl, sym, ap, _∙_}
+use mathlib.Core.Path.{_≡_, refl, sym, _∙_}
 use mathlib.Core.Bool.{Bool, true, false, not, _&&_, _||_}
 use mathlib.Core.List.{List, [], _∷_, _++_, flatMap}
 use native.Mathlib.Omega.{arith}

@@ -2,17 +2,15 @@
 -- from the place of the first. Assumes nothing.
 use Prim.Native.Nat.{ℕ, _≤_, _<_}
 use mathlib.Core.Path.{_≡_, refl, sym, _∙_, ap}
-use mathlib.Core.Bool.{Bool, true, false}
-use mathlib.Core.List.{List, []}
+use mathlib.Core.Bool.{true}
+use mathlib.Core.List.{List}
 use mathlib.Core.Option.{Option, none, some}
 use native.Mathlib.Omega.{arith}
-use lib.Dec.{ltb}
 use lib.ListN.{length}
 use borrow.Author.Tests.{lt-ltb, le-ltb}
-use Rattle.base.specs.Choice.{if_then_else_}
 use Rattle.railway.specs.Networks.{network-refusal}
 use Rattle.railway.specs.declared.network.LineRow.{LineRow}
-use Rattle.timetable.specs.Formats.{Outcome, accepted, refused, _and-then_, done, field-at, behind, read, read-file, ended, Placed, placed}
+use Rattle.timetable.specs.Formats.{Outcome, accepted, refused, _and-then_, done, field-at, read, read-file, ended, Placed, placed}
 use Rattle.timetable.specs.NetworkFile.{network-format, network-of, unjoined, unless-unjoined}
 use Rattle.timetable.specs.EditsFile.{edits-on, edits-format, Shift, Input, shift-format, read-shift}
 use Rattle.formats.specs.RoundTrips.{Bytes}
@@ -26,7 +24,7 @@ use Rattle.dispatch.specs.Taken.{edits-at, can-be-read}
 use Rattle.dispatch.proofs.RefusalLaws.{Told, behind-told, read-told, ended-told}
 use Rattle.dispatch.proofs.RunLaws.{ended-taken, taken-there}
 use Rattle.reports.specs.Shift.{refusal-text, shift-told, shift-text}
-use Rattle.printing.specs.Types.{Edit, Network}
+use Rattle.printing.specs.Types.{Edit}
 use Rattle.printing.specs.Lines.{run-text}
 use Rattle.printing.proofs.PlaceLaws.{value-same, refused-within}
 

@@ -1,10 +1,10 @@
 -- The place that a refusal of `shift`'s input carries lies within the file or at its end: a number ends within the bytes, so each place that is reached does, and so
 -- does the place of each line that was read. By induction over the format. Assumes nothing.
 use Prim.Native.Nat.{ℕ, zero, suc, _+_, _≤_}
-use mathlib.Core.Path.{_≡_, refl, sym, _∙_, ap}
+use mathlib.Core.Path.{_≡_, refl, sym, _∙_}
 use mathlib.Core.Bool.{Bool, true, false, not}
 use mathlib.Core.List.{List, [], _∷_}
-use mathlib.Core.Option.{Option, none, some}
+use mathlib.Core.Option.{some}
 use native.Mathlib.Omega.{arith}
 use lib.Dec.{T, leb, eqb, le→leb, leb→le}
 use lib.ListN.{length, drop, length-drop}
@@ -108,7 +108,7 @@ module _ (file : List ℕ) where
       accepted-at : (lo hi at n next : ℕ) → at ≤ length file → field-at lo hi file at ≡ accepted n next → next ≤ length file
       accepted-at lo hi at n next h e = rw e at (field-within lo hi at h)
 
-  first-in : (f : Placed LineRow → Bool) (ls : List (Placed LineRow)) → T (every placed-in ls) → (o : Outcome Shift) → Within o → Within (unless-unjoined (first f ls) o)
+  first-in : {A : Type 0} (f : Placed LineRow → Bool) (ls : List (Placed LineRow)) → T (every placed-in ls) → (o : Outcome A) → Within o → Within (unless-unjoined (first f ls) o)
   unfolding first unless-unjoined place-of
   first-in f [] t o h = h
   first-in f (l ∷ ls) t o h = go (f l) (first-in f ls (every-tail placed-in l ls t) o h)

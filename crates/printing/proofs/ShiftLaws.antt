@@ -1,7 +1,7 @@
 -- What `shift` prints, part by part. An empty division is the divided sheet of the timetable in which nothing is placed; edits on it answer as the central machine does
 -- and leave the divided sheet of its timetable (demands DemandHolds), which merges back. So the lines made of the bytes are those of the listing. Assumes nothing.
 use Prim.Native.Nat.{ℕ, _*_, _≤_}
-use mathlib.Core.Path.{_≡_, refl, sym, _∙_, ap, ap₂}
+use mathlib.Core.Path.{_≡_, sym, _∙_, ap, ap₂}
 use mathlib.Core.Bool.{Bool, true, false}
 use mathlib.Core.List.{List, [], _∷_, _++_, map, flatMap, append-nil}
 use native.Mathlib.Omega.{arith}
@@ -60,7 +60,7 @@ module _ (n : Network) (good : network-refusal n ≡ 0) where
     merges buffer size =
         rw (eq-eqb (length division) 49152 (facts .size), eq-eqb (length buffer) 8192 size, good, T-true (good-division n division) (facts .fine))
 
-    pub merged-long : length (merged n division) ≡ 8192
+    merged-long : length (merged n division) ≡ 8192
     merged-long = merged-size n good division (facts .size)
 
     pub merged-listed : sheet-list-refusal n (merged n division) ≡ 0
@@ -97,7 +97,7 @@ module _ (n : Network) (good : network-refusal n ≡ 0) where
       go k t true = bare-page k t
       go k t false = zeros-blank 512
 
-  pub empty-division : zeros 49152 ≡ divided n bare
+  empty-division : zeros 49152 ≡ divided n bare
   empty-division = sym (blank-zeros (divided n bare) division-blank ∙ ap zeros (divided-size n bare (bare-good .size)))
 
   pub empty-known : known-good n (zeros 49152) ≡ true
@@ -144,7 +144,7 @@ module _ (n : Network) (good : network-refusal n ≡ 0) where
         (flat-append line-text (map finding-line (findings n last)) _
         ∙ ap₂ _++_ (findings-lines (findings n last)) (ap (λ (l : List ℕ). totals-text n last ++ l) (append-nil _))))
 
-    pub text-parts : (d : List ℕ) (y : Tally) → d ≡ division-of n es (zeros 49152) → y ≡ raise-all zero-tally es (told n es (zeros 49152))
+    text-parts : (d : List ℕ) (y : Tally) → d ≡ division-of n es (zeros 49152) → y ≡ raise-all zero-tally es (told n es (zeros 49152))
         → run-text n es ≡ answers-text 1 (told n es (zeros 49152)) ++ end-text n (decode-sheet (merged n d)) y
     text-parts d y p q = rw (p, q, left-merged) (listing-parts (told n es (zeros 49152)) told-central)
 

@@ -5,13 +5,14 @@ use mathlib.Core.Path.{_≡_, refl, sym, _∙_, ap}
 use mathlib.Core.Bool.{Bool, true, false}
 use mathlib.Core.List.{List, [], _∷_, _++_, flatMap}
 use native.Mathlib.Omega.{arith}
-use lib.Dec.{ltb, leb, eqb}
+use lib.Dec.{ltb}
 use lib.ListN.{length, getD, take, drop, length-append, length-take}
 use lib.Seq.{take-append-seam}
-use borrow.Author.Tests.{ltb-true, ltb-false, le-leb}
+use borrow.Author.Tests.{ltb-false}
 use Rattle.base.specs.Choice.{if_then_else_}
 use Rattle.timetable.specs.Findings.{findings}
 use Rattle.timetable.specs.Outputs.{output, output-after}
+use Rattle.timetable.proofs.PutLaws.{put-whole, fits-in}
 use Rattle.sheet.specs.Sheets.{decode-sheet}
 use Rattle.findings.specs.Lists.{numbers-of, sheet-list, sheet-list-refusal}
 use Rattle.findings.proofs.BoundLaws.{sheet-list-most}
@@ -109,12 +110,10 @@ text-listed letter areas (f ∷ fs) =
 
 module _ (xs buffer : List ℕ) (fits : length xs ≤ length buffer) where
   room : output 0 xs buffer ≡ Output.Written (length xs)
-  unfolding output
-  room = rw (le-leb (length xs) (length buffer) fits)
+  room = sym (fits-in xs buffer (length xs) refl fits .0)
 
   pub room-left : output-after 0 xs buffer ≡ xs ++ drop (length xs) buffer
-  unfolding output-after
-  room-left = rw (le-leb (length xs) (length buffer) fits)
+  room-left = sym (fits-in xs buffer (length xs) refl fits .1) ∙ put-whole xs buffer fits
 
   pub room-written : (k : ℕ) → Output.Written k ≡ output 0 xs buffer → k ≡ length xs
   room-written k e = let s : Output.Written k ≡ Output.Written (length xs) = e ∙ room in cc

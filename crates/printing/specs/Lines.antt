@@ -7,7 +7,6 @@ use Rattle.base.specs.Choice.{if_then_else_}
 use Rattle.base.specs.Runs.{answers}
 use Rattle.timetable.specs.Machine.{Timetable}
 use Rattle.timetable.specs.Listing.{answer-lines, tally-line, listing}
-use Rattle.timetable.specs.Count.{raise-all}
 use Rattle.machine.specs.Calls.{division-answer, division-after}
 use Rattle.reports.specs.Text.{line}
 use Rattle.reports.specs.Shift.{line-text}

@@ -1,6 +1,6 @@
 -- `main` is safe: the text is no longer than the buffer. That the buffer has 2,300,000 bytes is cited, as counting them would take too long. Assumes nothing.
 use Prim.Native.Nat.{ℕ, _≤_}
-use mathlib.Core.Path.{_≡_, sym, _∙_}
+use mathlib.Core.Path.{_≡_, sym}
 use mathlib.Core.List.{List}
 use native.Mathlib.Omega.{arith}
 use lib.ListN.{length, replicate, length-replicate}

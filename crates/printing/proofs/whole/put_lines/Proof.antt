@@ -1,6 +1,4 @@
 -- `printing::whole::put_lines` meets its contract: the lines under no area; their numbers stand in two bytes each. Assumes nothing.
-use Prim.Native.Nat.{_*_}
-use mathlib.Core.List.{[]}
 use native.Mathlib.Omega.{arith}
 use denote.Ref.{now}
 use borrow.Author.Needs.{needs}

@@ -1,7 +1,6 @@
 -- `printing::whole::put_whole` meets its contract: the array has room for any list, so the call writes the numbers of all findings, and their lines are put.
 -- Assumes nothing.
 use native.Mathlib.Omega.{arith}
-use mathlib.Core.Path.{_∙_}
 use Prim.Native.Nat.{ℕ}
 use denote.Ref.{now}
 use lib.ListN.{length-replicate}

@@ -12,7 +12,7 @@ use Rattle.writing.proofs.timetables.relations_in.Tie as tie
 returns : tie.Need-returns
 returns c =
     let s = c .before .before .args in
-    (no-sheet (s .n) (now (s .sheet)) (relation-count (s .n) (decode-sheet (now (s .sheet)))) (c .if1 .taken), omega arith)
+    (no-sheet (now (s .sheet)) (relation-count (s .n) (decode-sheet (now (s .sheet)))) (c .if1 .taken), omega arith)
 
 relation-total-requires : tie.Need-relation-total-requires
 relation-total-requires c κs = search needs

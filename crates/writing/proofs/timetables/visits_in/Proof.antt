@@ -12,7 +12,7 @@ use Rattle.writing.proofs.timetables.visits_in.Tie as tie
 returns : tie.Need-returns
 returns c =
     let s = c .before .before .args in
-    (no-sheet (s .n) (now (s .sheet)) (visit-count (s .n) (decode-sheet (now (s .sheet)))) (c .if1 .taken), omega arith)
+    (no-sheet (now (s .sheet)) (visit-count (s .n) (decode-sheet (now (s .sheet)))) (c .if1 .taken), omega arith)
 
 visit-total-requires : tie.Need-visit-total-requires
 visit-total-requires c κs = search needs
