@@ -1,16 +1,15 @@
 -- The lists of an area and of two areas, formed from the sheets of a division and printed: the division of a good sheet holds the parts of its timetable (demands), a list
 -- formed from those parts is that of the whole timetable (theory Reach), and four numbers a finding are one line each, of at most 30 bytes. Assumes nothing.
-use Prim.Native.Nat.{ℕ, zero, suc, _+_, _*_, _/_, _%_, _≤_, _<_}
+use Prim.Native.Nat.{ℕ, zero, suc, _*_, _/_, _≤_, _<_}
 use mathlib.Core.Path.{_≡_, refl, _∙_, ap, ap₂}
-use mathlib.Core.Bool.{Bool, true, false, not, _&&_}
+use mathlib.Core.Bool.{true, not, _&&_}
 use mathlib.Core.List.{List, [], _∷_, _++_, flatMap}
 use native.Mathlib.Omega.{arith}
 use native.Mathlib.Decide.{ℕ-discrete}
 use mathlib.Core.Logic.{by-cases}
-use lib.Dec.{T, ltb, eqb, leb, leb→le}
-use lib.ListN.{length, getD, take, length-append, length-take}
-use borrow.Author.Tests.{ltb-false, eq-eqb}
-use Rattle.base.specs.Choice.{if_then_else_}
+use lib.Dec.{T, eqb, leb, leb→le}
+use lib.ListN.{length, take, length-append, length-take}
+use borrow.Author.Tests.{eq-eqb}
 use Rattle.base.proofs.Tests.{T-true, true-T, and-l, and-r}
 use Rattle.railway.specs.Ranges.{area-ok}
 use Rattle.railway.specs.Networks.{network-refusal, area-of}
@@ -28,53 +27,26 @@ use Rattle.findings.proofs.BoundLaws.{area-list-most, two-list-most}
 use Rattle.demands.proofs.Central.{same-bytes}
 use Rattle.demands.proofs.DemandHolds.{whole-good, whole-back, divides, area-listed, pair-listed, reads}
 use Rattle.demands.proofs.ListLaws.{area-same, pair-same}
-use Rattle.reports.specs.Text.{digits, decimal, word, head, line}
+use Rattle.reports.specs.Text.{decimal, word, head, line}
 use Rattle.reports.specs.Inspect.{listed-text, area-text, pair-text}
 use Rattle.printing.specs.Types.{Area, Network, Finding, Output}
 use Rattle.printing.specs.Lines.{of-areas, findings-text}
 use Rattle.printing.proofs.FoundLaws.{of-none, of-one, of-two}
+use Rattle.printing.proofs.WholeLaws.{one-digit, word-most, Short, numbers-many, text-listed}
 use Rattle.printing.proofs.PutLaws.{written-whole, written-many, never-refused, never-short}
 use Rattle.printing.proofs.SheetLaws.{fine-size, fine-network, fine-sheet, sheet-whole}
 
 -- how long a line is
 
--- one more digit for numbers ten times as large
-more-digits : (b w : ℕ) → ((k x : ℕ) → x < b → length (digits k x) ≤ w) → (k x : ℕ) → x < 10 * b → length (digits k x) ≤ w + 1
-unfolding digits
-more-digits b w most zero x h = omega arith
-more-digits b w most (suc k) x h = go (ltb x 10)
-  where
-    go : (c : Bool) → length (if c then (48 + x) ∷ [] else digits k (x / 10) ++ ((48 + x % 10) ∷ [])) ≤ w + 1
-    go true = omega arith
-    go false = omega (arith, length-append (digits k (x / 10)) ((48 + x % 10) ∷ []), most k (x / 10) (omega (arith, h)))
-
-one-digit : (k x : ℕ) → x < 10 → length (digits k x) ≤ 1
-unfolding digits
-one-digit zero x h = omega arith
-one-digit (suc k) x h = go (ltb x 10) refl
-  where
-    go : (c : Bool) → ltb x 10 ≡ c → length (if c then (48 + x) ∷ [] else digits k (x / 10) ++ ((48 + x % 10) ∷ [])) ≤ 1
-    go true e = omega arith
-    go false e = absurd (omega (arith, h, ltb-false x 10 e))
-
 area-word : (x : ℕ) → x ≤ 9 → length (word x) ≤ 2
 unfolding word decimal
 area-word x h = omega (arith, one-digit 10 x (omega (arith, h)))
-
--- of a number that two bytes hold
-short-word : (x : ℕ) → x < 65536 → length (word x) ≤ 6
-unfolding word decimal
-short-word x h = omega (arith, more-digits 10000 4 (more-digits 1000 3 (more-digits 100 2 (more-digits 10 1 one-digit))) 10 x (omega (arith, h)))
 
 areas-short : (a b : ℕ) → a ≤ 9 → b ≤ 9 → length (flatMap word (of-areas a b)) ≤ 4
 unfolding flatMap
 areas-short a b p q = by-cases (ℕ-discrete a 0) (λ x. rw (of-none a b x) (omega arith)) (λ x. by-cases (ℕ-discrete b 0)
     (λ y. rw (of-one a b x y) (omega (arith, length-append (word a) [], area-word a p)))
     (λ y. rw (of-two a b x y) (omega (arith, length-append (word a) (word b ++ []), length-append (word b) [], area-word a p, area-word b q))))
-
--- numbers that two bytes hold
-abbrev pub Short : List ℕ → Type 0
-Short xs = (i : ℕ) → getD xs i 0 < 65536
 
 short-taken : (k : ℕ) (xs : List ℕ) → Short xs → Short (take k xs)
 short-taken zero xs h i = omega arith
@@ -96,10 +68,10 @@ module _ (letter : ℕ) (areas : List ℕ) (few : length (flatMap word areas) �
         length-append (word r) (flatMap word (a ∷ b ∷ [])),
         length-append (word a) (flatMap word (b ∷ [])),
         length-append (word b) [],
-        short-word s hs,
-        short-word r hr,
-        short-word a ha,
-        short-word b hb,
+        word-most s hs,
+        word-most r hr,
+        word-most a ha,
+        word-most b hb,
       )
 
   lines-short : (xs : List ℕ) → Short xs → 4 * length (findings-text letter areas xs) ≤ 30 * length xs
@@ -120,19 +92,6 @@ pub list-short : (letter a b : ℕ) → a ≤ 9 → b ≤ 9 → (k : ℕ) → k 
 list-short letter a b p q k h xs s =
     omega (arith, h, lines-short letter (of-areas a b) (areas-short a b p q) (take (4 * (k / 4)) xs) (short-taken (4 * (k / 4)) xs s), length-take (4 * (k / 4)) xs)
 
--- four numbers a finding
-
-pub listed-lines : (letter : ℕ) (areas : List ℕ) (fs : List Finding) → findings-text letter areas (numbers-of fs) ≡ listed-text letter areas fs
-unfolding findings-text listed-text numbers-of flatMap
-listed-lines letter areas [] = refl
-listed-lines letter areas (f ∷ fs) =
-    ap (λ (l : List ℕ). line letter (areas ++ (f .station .0 ∷ f .rule ∷ f .first ∷ f .second ∷ [])) ++ l) (listed-lines letter areas fs)
-
-pub numbers-many : (fs : List Finding) → length (numbers-of fs) ≡ 4 * length fs
-unfolding numbers-of flatMap
-numbers-many [] = refl
-numbers-many (f ∷ fs) = omega (arith, numbers-many fs)
-
 -- a list that a call wrote, printed
 module _ (letter : ℕ) (areas : List ℕ) (fs : List Finding) (refusal : ℕ) (xs b : List ℕ) (same : xs ≡ numbers-of fs) (none : refusal ≡ 0) (fits : length xs ≤ length b)
     (k : ℕ) (many : k ≡ length xs) (later : List ℕ) (left : later ≡ output-after refusal xs b) where
@@ -147,7 +106,7 @@ module _ (letter : ℕ) (areas : List ℕ) (fs : List Finding) (refusal : ℕ) (
       omega (arith, many, all, ap length taken, length-take (4 * (k / 4)) later)
 
   pub list-printed : findings-text letter areas (take (4 * (k / 4)) later) ≡ listed-text letter areas fs
-  list-printed = ap (findings-text letter areas) (taken ∙ same) ∙ listed-lines letter areas fs
+  list-printed = ap (findings-text letter areas) (taken ∙ same) ∙ text-listed letter areas fs
 
 pub area-low : (a : Area) → area-ok a ≡ true → (1 ≤ a .0) × (a .0 ≤ 9)
 area-low a ok =

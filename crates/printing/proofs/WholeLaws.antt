@@ -32,7 +32,7 @@ more-digits b w most (suc k) x h = go (ltb x 10)
     go true = omega arith
     go false = omega (arith, length-append (digits k (x / 10)) ((48 + x % 10) ∷ []), most k (x / 10) (omega (arith, h)))
 
-one-digit : (k x : ℕ) → x < 10 → length (digits k x) ≤ 1
+pub one-digit : (k x : ℕ) → x < 10 → length (digits k x) ≤ 1
 unfolding digits
 one-digit zero x h = omega arith
 one-digit (suc k) x h = go (ltb x 10) refl
@@ -44,7 +44,7 @@ one-digit (suc k) x h = go (ltb x 10) refl
 five-digits : (k x : ℕ) → x < 100000 → length (digits k x) ≤ 5
 five-digits k x h = more-digits 10000 4 (more-digits 1000 3 (more-digits 100 2 (more-digits 10 1 one-digit))) k x (omega (arith, h))
 
-word-most : (x : ℕ) → x < 65536 → length (word x) ≤ 6
+pub word-most : (x : ℕ) → x < 65536 → length (word x) ≤ 6
 unfolding word decimal
 word-most x h = omega (arith, five-digits 10 x (omega (arith, h)))
 
