@@ -17,7 +17,6 @@ use Rattle.sheetfile.specs.Inspect.{inspect-outcome, inspect-read, inspect-shee
 use Rattle.sheetfile.proofs.PlaceLaws.{Within, inspect-within, first-within}
 use Rattle.reports.specs.Shift.{refusal-text}
 use Rattle.reports.specs.Inspect.{parts-of, inspect-told, inspect-parts, inspect-part}
-use Rattle.printing.specs.Types.{Network}
 use Rattle.printing.proofs.InspectReadLaws.{inspected}
 
 pub too-long : (input : List ℕ) (k : ℕ) → 16384 < length input → inspect-part input k ≡ getD (refusal-text 5 0 ∷ []) k []

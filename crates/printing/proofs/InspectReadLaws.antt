@@ -1,16 +1,14 @@
 -- An accepted input of `inspect` gives a good network and a whole timetable under it, so the sheet read is good and holds that timetable: what the file's numbers walk is
 -- the network's format and then the timetable's. Assumes nothing.
 use Prim.Native.Nat.{ℕ, _+_}
-use mathlib.Core.Path.{_≡_, refl, sym, _∙_, ap, subst}
-use mathlib.Core.Bool.{Bool, true, false}
+use mathlib.Core.Path.{_≡_, sym, _∙_, ap, subst}
 use mathlib.Core.List.{List}
-use native.Mathlib.Omega.{arith}
 use lib.ListN.{length}
 use borrow.Author.Tests.{eq-eqb}
 use Rattle.base.proofs.Tests.{T-true}
 use Rattle.railway.specs.Networks.{network-refusal, listed}
-use Rattle.timetable.specs.Formats.{Format, done, here, Outcome, accepted, refused, _and-then_, behind, read-file, Placed, placed}
-use Rattle.timetable.specs.NetworkFile.{Listed, network-format, network-of, unjoined, unless-unjoined}
+use Rattle.timetable.specs.Formats.{done, accepted, _and-then_, behind, read-file, Placed, placed}
+use Rattle.timetable.specs.NetworkFile.{network-format, network-of, unjoined, unless-unjoined}
 use Rattle.timetable.specs.Machine.{Timetable}
 use Rattle.timetable.specs.Good.{Whole}
 use Rattle.timetable.specs.TimetableFile.{Entries, timetable-format, timetable-of}

@@ -4,7 +4,6 @@ use Prim.Native.Nat.{ℕ, _<_, _≤_}
 use mathlib.Core.Path.{_≡_, refl, sym, _∙_, ap}
 use mathlib.Core.Bool.{true, false}
 use mathlib.Core.List.{List}
-use native.Mathlib.Omega.{arith}
 use lib.ListN.{length}
 use borrow.Author.Tests.{eq-eqb, ne-eqb}
 use Rattle.timetable.specs.Formats.{Format, done, Outcome, accepted, refused, _and-then_, behind, read, ended, read-file, Placed, placed}
@@ -18,11 +17,8 @@ use Rattle.files.proofs.EntryLaws.{then-on, then-stop, made, unmade}
 use Rattle.files.proofs.DraftLaws.{placed-some, placed-none}
 use Rattle.files.proofs.NetworkLaws.{ends-there, goes-on, fault-some, fault-none, draft-value, draft-refusal}
 use Rattle.records.specs.Bytes.{zeros}
-use Rattle.sheet.specs.Sheets.{encode-sheet}
-use Rattle.sheetfile.specs.Types.{Network}
 use Rattle.sheetfile.specs.declared.enter.Fault.{Fault}
 use Rattle.sheetfile.specs.declared.read.EntriesRead.{EntriesRead}
-use Rattle.sheetfile.specs.declared.inspect.InspectRead.{InspectRead}
 use Rattle.sheetfile.specs.Entering.{Progress, no-fault, all-through, timetable-entries, timetable-sheet}
 use Rattle.sheetfile.specs.Inspect.{inspect-outcome, inspect-read, inspect-sheet, inspect-answer, inspect-after}
 use Rattle.sheetfile.proofs.SheetEntries.{progress, Held, timetable-held}

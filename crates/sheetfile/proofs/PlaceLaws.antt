@@ -15,7 +15,6 @@ use Rattle.base.proofs.Tests.{true-T, every-head, every-tail, every-cons}
 use Rattle.numbers.specs.Numbers.{group-before, read-groups, read-number}
 use Rattle.numbers.specs.declared.Reading.{Reading}
 use Rattle.numbers.specs.declared.Reading.the-variants.{Value, Refused}
-use Rattle.railway.specs.declared.network.StationRow.{StationRow}
 use Rattle.railway.specs.declared.network.LineRow.{LineRow}
 use Rattle.railway.specs.Networks.{ends-listed}
 use Rattle.timetable.specs.Formats.{Format, done, field, here, Outcome, accepted, refused, _and-then_, placed-field, field-at, behind, read, ended, read-file, entries, Placed, placed}
@@ -28,7 +27,6 @@ use Rattle.timetable.specs.TimetableFile.{visit-refusal, relation-refusal, ente
 use Rattle.timetable.specs.InspectFile.{Inspection, Both, inspect-format, inspection, read-inspect}
 use Rattle.files.proofs.EntryLaws.{clash, behind-taken, then-taken}
 use Rattle.files.proofs.DraftLaws.{placed-read}
-use Rattle.sheetfile.specs.Types.{StationRelation, Network}
 
 -- one number
 

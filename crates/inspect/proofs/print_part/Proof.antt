@@ -3,7 +3,6 @@ use Prim.Native.Nat.{ℕ, _≤_}
 use mathlib.Core.Path.{_≡_, sym, _∙_, subst}
 use native.Mathlib.Omega.{arith}
 use lib.ListN.{length, length-replicate, length-take}
-use borrow.Author.Needs.{needs}
 use Rattle.inspect.proofs.print_part.Statement.{statement}
 use Rattle.inspect.proofs.print_part.Tie as tie
 

@@ -1,6 +1,6 @@
 -- `printing::inspect::inspect_part` meets its contract: the input is too long, refused or accepted, and has that part. Assumes nothing.
 use Prim.Native.Nat.{ℕ}
-use mathlib.Core.Path.{_≡_, refl, sym, _∙_, ap}
+use mathlib.Core.Path.{_∙_}
 use native.Mathlib.Omega.{arith}
 use lib.ListN.{length-replicate, length-drop}
 use denote.Ref.{now}

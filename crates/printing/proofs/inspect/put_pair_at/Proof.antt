@@ -1,8 +1,5 @@
 -- `printing::inspect::put_pair_at` meets its contract: the areas at the index are those of the pair. Assumes nothing.
-use Prim.Native.Nat.{ℕ}
-use mathlib.Core.Path.{_≡_, refl, sym, _∙_, ap}
 use native.Mathlib.Omega.{arith}
-use denote.Ref.{now}
 use Rattle.printing.proofs.InspectPartLaws.{pair-at, two-at}
 use borrow.Author.Needs.{needs}
 use Rattle.printing.proofs.inspect.put_pair_at.Statement.{statement}

@@ -1,6 +1,6 @@
 -- `printing::inspect::put_part` meets its contract: each index has its part. Assumes nothing.
 use Prim.Native.Nat.{_≤_}
-use mathlib.Core.Path.{_≡_, refl, sym, _∙_, ap}
+use mathlib.Core.Path.{refl}
 use native.Mathlib.Omega.{arith}
 use denote.Ref.{now}
 use Rattle.timetable.specs.Outputs.{put}

@@ -1,7 +1,6 @@
 -- `printing::inspect::put_refusal` meets its contract: the line is the first part, and there is no other. Assumes nothing.
-use mathlib.Core.Path.{_≡_, refl, sym, _∙_, ap}
+use mathlib.Core.Path.{refl}
 use native.Mathlib.Omega.{arith}
-use denote.Ref.{now}
 use Rattle.timetable.specs.Outputs.{put}
 use Rattle.reports.specs.Shift.{refusal-text}
 use Rattle.printing.proofs.InspectPartLaws.{one-part, no-part}

@@ -1,6 +1,4 @@
 -- `printing::written::put_written` meets its contract: one line for each answer. Assumes nothing.
-use mathlib.Core.Path.{_≡_, refl, sym, _∙_, ap}
-use mathlib.Core.List.{List}
 use native.Mathlib.Omega.{arith}
 use denote.Ref.{now}
 use Rattle.printing.proofs.WrittenLaws.{line-yes, line-no}

@@ -1,7 +1,6 @@
 -- `sheetfile::inspect::read_inspect` meets its contract: each return is one law of the network and the entries that were read. Assumes nothing.
 use Prim.Native.Nat.{ℕ}
-use mathlib.Core.Path.{_≡_, refl, sym, _∙_, ap}
-use native.Mathlib.Omega.{arith}
+use mathlib.Core.Path.{_≡_, sym, _∙_}
 use lib.ListN.{length, length-replicate}
 use denote.Ref.{now}
 use Rattle.sheet.proofs.CopyLaws.{overwrites}
