@@ -1,15 +1,17 @@
 -- The parts that `inspect` prints, by their index: F, six of D, fifteen of P, T, J, W. Assumes nothing.
 use Prim.Native.Nat.{ℕ, zero, suc, _+_, _-_, _≤_, _<_}
-use mathlib.Core.Path.{_≡_, refl, sym, _∙_, ap}
+use mathlib.Core.Path.{_≡_, refl, sym, _∙_, ap, ap₂}
 use mathlib.Core.Bool.{Bool, true}
 use mathlib.Core.List.{List, [], _∷_, _++_, map}
 use native.Mathlib.Omega.{arith}
 use lib.Dec.{T}
 use lib.ListN.{length, getD, List·getD-eq-default, List·getD-append, List·getD-map}
 use lib.Seq.{getD-append-add}
+use borrow.Author.Tests.{le-leb}
 use Rattle.base.specs.Lists as Lists
 use Rattle.base.specs.Lists.{every, pairs}
-use Rattle.base.proofs.Tests.{true-T, every-head, every-tail}
+use Rattle.base.proofs.Tests.{T-true, every-head, every-tail}
+use Rattle.railway.specs.Ranges.{area-ok}
 use Rattle.timetable.specs.Machine.{Timetable}
 use Rattle.findings.specs.Lists.{two-areas}
 use Rattle.reports.specs.Inspect.{whole-text, area-text, pair-text, totals-text, journeys-text, written-text, six, parts-of}
@@ -26,19 +28,37 @@ map-at f [] i d e h = absurd (omega (arith, h))
 map-at f (x ∷ xs) zero d e h = refl
 map-at f (x ∷ xs) (suc i) d e h = map-at f xs i d e (omega (arith, h))
 
+-- one part, and nothing behind it
+
+pub one-part : (part : List ℕ) (k : ℕ) → k ≡ 0 → getD (part ∷ []) k [] ≡ part
+one-part part k e = rw e
+
+pub no-part : (part : List ℕ) (k : ℕ) → ¬ (k ≡ 0) → getD (part ∷ []) k [] ≡ []
+no-part part k d = List·getD-eq-default (part ∷ []) [] {n = k} (omega (arith, d))
+
 -- the fifteen pairs
 
-pub firsts : (i : ℕ) → getD (1 ∷ 1 ∷ 1 ∷ 1 ∷ 1 ∷ 2 ∷ 2 ∷ 2 ∷ 2 ∷ 3 ∷ 3 ∷ 3 ∷ 4 ∷ 4 ∷ 5 ∷ []) i 0 ≡ getD (pairs six) i (0, 0) .0
-unfolding Lists.opened
-firsts i = List·getD-map (λ (p : ℕ × ℕ). p .0) (pairs six) i (0, 0)
+-- their areas, as the code lists them
+abbrev pub firsts : List ℕ
+firsts = 1 ∷ 1 ∷ 1 ∷ 1 ∷ 1 ∷ 2 ∷ 2 ∷ 2 ∷ 2 ∷ 3 ∷ 3 ∷ 3 ∷ 4 ∷ 4 ∷ 5 ∷ []
 
-pub seconds : (i : ℕ) → getD (2 ∷ 3 ∷ 4 ∷ 5 ∷ 6 ∷ 3 ∷ 4 ∷ 5 ∷ 6 ∷ 4 ∷ 5 ∷ 6 ∷ 5 ∷ 6 ∷ 6 ∷ []) i 0 ≡ getD (pairs six) i (0, 0) .1
-unfolding Lists.opened
-seconds i = List·getD-map (λ (p : ℕ × ℕ). p .1) (pairs six) i (0, 0)
+abbrev pub seconds : List ℕ
+seconds = 2 ∷ 3 ∷ 4 ∷ 5 ∷ 6 ∷ 3 ∷ 4 ∷ 5 ∷ 6 ∷ 4 ∷ 5 ∷ 6 ∷ 5 ∷ 6 ∷ 6 ∷ []
 
-pub two-of : (i : ℕ) → i < 15 → T (two-areas (record { 0 = getD (pairs six) i (0, 0) .0 }) (record { 0 = getD (pairs six) i (0, 0) .1 }))
+pub pair-at : (i : ℕ) → (getD firsts i 0, getD seconds i 0) ≡ getD (pairs six) i (0, 0)
+unfolding Lists.opened
+pair-at i = ap₂ (λ (a b : ℕ). (a, b)) (List·getD-map (λ (p : ℕ × ℕ). p .0) (pairs six) i (0, 0)) (List·getD-map (λ (p : ℕ × ℕ). p .1) (pairs six) i (0, 0))
+
+abbrev different : ℕ × ℕ → Bool
+different p = two-areas (record { 0 = p .0 }) (record { 0 = p .1 })
+
+pub two-at : (i : ℕ) → i < 15 → two-areas (record { 0 = getD firsts i 0 }) (record { 0 = getD seconds i 0 }) ≡ true
 unfolding Lists.opened two-areas
-two-of i h = every-at (λ (p : ℕ × ℕ). two-areas (record { 0 = p .0 }) (record { 0 = p .1 })) (pairs six) i (0, 0) tt h
+two-at i h = ap different (pair-at i) ∙ T-true (different (getD (pairs six) i (0, 0))) (every-at different (pairs six) i (0, 0) tt h)
+
+-- the six areas
+pub area-at : (k : ℕ) → ¬ (k ≡ 0) → k < 7 → area-ok (record { 0 = k }) ≡ true
+area-at k d h = rw (le-leb 1 k (omega (arith, d)), le-leb k 6 (omega (arith, h)))
 
 -- the parts
 

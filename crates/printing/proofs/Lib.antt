@@ -8,6 +8,7 @@ pub mod ShiftLaws
 pub mod WrittenLaws
 pub mod InspectReadLaws
 pub mod InspectPartLaws
+pub mod InspectLaws
 pub mod PutLaws
 pub mod SheetLaws
 pub mod SignedLaws

@@ -1,5 +1,6 @@
 // What the programs print, made from the bytes of their input.
 mod found; // the lines of findings
+pub mod inspect; // the parts of what `inspect` prints
 mod journeys; // the projection from each visit
 mod lists; // the findings of an area, and of two
 mod run; // the edits of a file: their lines, and the tally

@@ -26,7 +26,9 @@ fn put_refusal(out: &mut [u8], k: u8, place: usize) -> usize
     requires { ⌜ place ≤ 16384 ⌝ }
     ensures { λ r. ⌜ Puts 0 (refusal-text k place) (now (out .entry)) r (now (out .exit)) 68 ⌝ }
 {
-    text::put_line(out, 0, 82, [k as u32, place as u32, 0, 0, 0, 0], 2)
+    let number = k as u32;
+    let byte = place as u32;
+    text::put_line(out, 0, 82, [number, byte, 0, 0, 0, 0], 2)
 }
 
 // "A: the tally."

@@ -4,8 +4,8 @@ use Rattle.reports.specs.Shift.{refusal-text}
 use Rattle.printing.proofs.shift.put_refusal.Statement.{statement}
 use Rattle.printing.proofs.shift.put_refusal.Tie as tie
 
-cast-t7 : tie.Need-cast-t7
-cast-t7 c = search needs
+cast-byte : tie.Need-cast-byte
+cast-byte c = search needs
 
 put-line-requires : tie.Need-put-line-requires
 put-line-requires c κs = search needs
@@ -18,4 +18,4 @@ unfolding refusal-text
 returns c = c .before .before .put-line .ensures
 
 pub put-refusal-spec : {M : Type 1} → statement M
-put-refusal-spec = tie.close (tie.spec cast-t7 put-line-requires same-length returns)
+put-refusal-spec = tie.close (tie.spec cast-byte put-line-requires same-length returns)
