@@ -1,6 +1,6 @@
 -- Numbers four by four: the four at a place, and the rest behind them; and the areas that a list is of. Assumes nothing.
 use Prim.Native.Nat.{ℕ, _+_, _*_, _≤_, _<_}
-use mathlib.Core.Path.{_≡_, refl, sym, _∙_, ap}
+use mathlib.Core.Path.{_≡_, refl, _∙_, ap}
 use mathlib.Core.List.{List, [], _∷_, _++_}
 use native.Mathlib.Omega.{arith}
 use borrow.Author.Tests.{eq-eqb, ne-eqb}
@@ -24,17 +24,14 @@ pub of-two : (a b : ℕ) → (a ≡ 0 → ⊥) → (b ≡ 0 → ⊥) → of-area
 unfolding of-areas
 of-two a b p q = rw (ne-eqb a 0 p, ne-eqb b 0 q) refl
 
-four-next : (l : List ℕ) (i : ℕ) → i + 4 ≤ length l → drop i l ≡ getD l i 0 ∷ getD l (i + 1) 0 ∷ getD l (i + 2) 0 ∷ getD l (i + 3) 0 ∷ drop (i + 4) l
-four-next l i h =
-    let b : drop (i + 1) l ≡ getD l (i + 1) 0 ∷ drop (i + 1 + 1) l = drop-next l (i + 1) 0 (omega arith) in
-    let c : drop (i + 2) l ≡ getD l (i + 2) 0 ∷ drop (i + 2 + 1) l = drop-next l (i + 2) 0 (omega arith) in
-    let d : drop (i + 3) l ≡ getD l (i + 3) 0 ∷ drop (i + 3 + 1) l = drop-next l (i + 3) 0 (omega arith) in
+pub four-next : {A : Type 0} (l : List A) (i : ℕ) (d : A) → i + 4 ≤ length l → drop i l ≡ getD l i d ∷ getD l (i + 1) d ∷ getD l (i + 2) d ∷ getD l (i + 3) d ∷ drop (i + 4) l
+four-next l i d h =
     let two : i + 1 + 1 ≡ i + 2 = omega arith in
     let three : i + 2 + 1 ≡ i + 3 = omega arith in
     let four : i + 3 + 1 ≡ i + 4 = omega arith in
-    drop-next l i 0 (omega arith)
-    ∙ ap (λ (r : List ℕ). getD l i 0 ∷ r) (b ∙ ap (λ (r : List ℕ). getD l (i + 1) 0 ∷ r) (ap (λ (j : ℕ). drop j l) two
-    ∙ c ∙ ap (λ (r : List ℕ). getD l (i + 2) 0 ∷ r) (ap (λ (j : ℕ). drop j l) three ∙ d ∙ ap (λ (j : ℕ). getD l (i + 3) 0 ∷ drop j l) four)))
+    drop-next l i d (omega arith)
+    ∙ ap (λ (r : List _). getD l i d ∷ r) (drop-next l (i + 1) d (omega arith) ∙ ap (λ (r : List _). getD l (i + 1) d ∷ r) (ap (λ (j : ℕ). drop j l) two
+    ∙ drop-next l (i + 2) d (omega arith) ∙ ap (λ (r : List _). getD l (i + 2) d ∷ r) (ap (λ (j : ℕ). drop j l) three ∙ drop-next l (i + 3) d (omega arith) ∙ ap (λ (j : ℕ). getD l (i + 3) d ∷ drop j l) four)))
 
 module _ (letter : ℕ) (areas xs : List ℕ) (k : ℕ) (fits : 4 * k ≤ length xs) (i : ℕ) where
   abbrev left : ℕ → List ℕ
@@ -48,7 +45,7 @@ module _ (letter : ℕ) (areas xs : List ℕ) (k : ℕ) (fits : 4 * k ≤ length
   line-next h =
       let l : List ℕ = take (4 * k) xs in
       let step : 4 * i + 4 ≡ 4 * (i + 1) = omega arith in
-      ap (findings-text letter areas) (four-next l (4 * i) (simp length-take (omega (arith, h))))
+      ap (findings-text letter areas) (four-next l (4 * i) 0 (simp length-take (omega (arith, h))))
       ∙ rw (getD-take (4 * k) xs (4 * i) 0 (omega (arith, h)), getD-take (4 * k) xs (4 * i + 1) 0 (omega (arith, h)), getD-take (4 * k) xs (4 * i + 2) 0 (omega (arith, h)), getD-take (4 * k) xs (4 * i + 3) 0 (omega (arith, h)), step)
 
   pub found-on : (at : ℕ) (b : List ℕ) → i < k → put at (left i) b ≡ put (at + length line-at) (left (i + 1)) (put at line-at b)

@@ -1,6 +1,6 @@
 -- The lists of an area and of two areas, formed from the sheets of a division and printed: the division of a good sheet holds the parts of its timetable (demands), a list
 -- formed from those parts is that of the whole timetable (theory Reach), and four numbers a finding are one line each, of at most 30 bytes. Assumes nothing.
-use Prim.Native.Nat.{ℕ, zero, suc, _*_, _/_, _≤_, _<_}
+use Prim.Native.Nat.{ℕ, _*_, _/_, _≤_}
 use mathlib.Core.Path.{_≡_, refl, _∙_, ap, ap₂}
 use mathlib.Core.Bool.{true, not, _&&_}
 use mathlib.Core.List.{List, [], _∷_, _++_, flatMap}
@@ -8,7 +8,7 @@ use native.Mathlib.Omega.{arith}
 use native.Mathlib.Decide.{ℕ-discrete}
 use mathlib.Core.Logic.{by-cases}
 use lib.Dec.{T, eqb, leb, leb→le}
-use lib.ListN.{length, take, length-append, length-take}
+use lib.ListN.{length, take, length-append}
 use borrow.Author.Tests.{eq-eqb}
 use Rattle.base.proofs.Tests.{T-true, true-T, and-l, and-r}
 use Rattle.railway.specs.Ranges.{area-ok}
@@ -20,20 +20,19 @@ use Rattle.timetable.specs.Findings.{group-findings, pair-findings}
 use Rattle.timetable.specs.Outputs.{output, output-after}
 use Rattle.theory.proofs.Reach.{own-part, pair-part}
 use Rattle.sheet.specs.Sheets.{encode-sheet, decode-sheet, sheet-at, divided, area-part, after-divide}
-use Rattle.sheet.proofs.FlatLaws.{flat-append}
 use Rattle.sheet.proofs.SheetLaws.{area-number, divided-size}
 use Rattle.findings.specs.Lists.{numbers-of, area-list, two-list, sheet-list-refusal, area-list-refusal, two-areas, two-list-refusal}
 use Rattle.findings.proofs.BoundLaws.{area-list-most, two-list-most}
 use Rattle.demands.proofs.Central.{same-bytes}
 use Rattle.demands.proofs.DemandHolds.{whole-good, whole-back, divides, area-listed, pair-listed, reads}
 use Rattle.demands.proofs.ListLaws.{area-same, pair-same}
-use Rattle.reports.specs.Text.{decimal, word, head, line}
+use Rattle.reports.specs.Text.{decimal, word}
 use Rattle.reports.specs.Inspect.{listed-text, area-text, pair-text}
 use Rattle.printing.specs.Types.{Area, Network, Finding, Output}
 use Rattle.printing.specs.Lines.{of-areas, findings-text}
 use Rattle.printing.proofs.FoundLaws.{of-none, of-one, of-two}
-use Rattle.printing.proofs.WholeLaws.{one-digit, word-most, Short, numbers-many, text-listed}
-use Rattle.printing.proofs.PutLaws.{written-whole, written-many, never-refused, never-short}
+use Rattle.printing.proofs.WholeLaws.{one-digit, Short, line-most, lines-short, list-there, list-printed}
+use Rattle.printing.proofs.PutLaws.{written-many, never-refused, never-short}
 use Rattle.printing.proofs.SheetLaws.{fine-size, fine-network, fine-sheet, sheet-whole}
 
 -- how long a line is
@@ -48,65 +47,9 @@ areas-short a b p q = by-cases (ℕ-discrete a 0) (λ x. rw (of-none a b x) (ome
     (λ y. rw (of-one a b x y) (omega (arith, length-append (word a) [], area-word a p)))
     (λ y. rw (of-two a b x y) (omega (arith, length-append (word a) (word b ++ []), length-append (word b) [], area-word a p, area-word b q))))
 
-short-taken : (k : ℕ) (xs : List ℕ) → Short xs → Short (take k xs)
-short-taken zero xs h i = omega arith
-short-taken (suc k) [] h i = omega arith
-short-taken (suc k) (x ∷ xs) h zero = h 0
-short-taken (suc k) (x ∷ xs) h (suc i) = short-taken k xs (λ j. h (suc j)) i
-
-module _ (letter : ℕ) (areas : List ℕ) (few : length (flatMap word areas) ≤ 4) where
-  line-short : (s r a b : ℕ) → s < 65536 → r < 65536 → a < 65536 → b < 65536 → length (line letter (areas ++ (s ∷ r ∷ a ∷ b ∷ []))) ≤ 30
-  unfolding line head flatMap
-  line-short s r a b hs hr ha hb =
-      omega (
-        arith,
-        few,
-        length-append (letter ∷ flatMap word (areas ++ (s ∷ r ∷ a ∷ b ∷ []))) (10 ∷ []),
-        ap length (flat-append word areas (s ∷ r ∷ a ∷ b ∷ [])),
-        length-append (flatMap word areas) (flatMap word (s ∷ r ∷ a ∷ b ∷ [])),
-        length-append (word s) (flatMap word (r ∷ a ∷ b ∷ [])),
-        length-append (word r) (flatMap word (a ∷ b ∷ [])),
-        length-append (word a) (flatMap word (b ∷ [])),
-        length-append (word b) [],
-        word-most s hs,
-        word-most r hr,
-        word-most a ha,
-        word-most b hb,
-      )
-
-  lines-short : (xs : List ℕ) → Short xs → 4 * length (findings-text letter areas xs) ≤ 30 * length xs
-  unfolding findings-text
-  lines-short [] h = omega arith
-  lines-short (s ∷ []) h = omega arith
-  lines-short (s ∷ r ∷ []) h = omega arith
-  lines-short (s ∷ r ∷ a ∷ []) h = omega arith
-  lines-short (s ∷ r ∷ a ∷ b ∷ rest) h =
-      omega (
-        arith,
-        length-append (line letter (areas ++ (s ∷ r ∷ a ∷ b ∷ []))) (findings-text letter areas rest),
-        line-short s r a b (h 0) (h 1) (h 2) (h 3),
-        lines-short rest (λ i. h (suc (suc (suc (suc i))))),
-      )
-
-pub list-short : (letter a b : ℕ) → a ≤ 9 → b ≤ 9 → (k : ℕ) → k ≤ 332160 → (xs : List ℕ) → Short xs → length (findings-text letter (of-areas a b) (take (4 * (k / 4)) xs)) ≤ 2491200
-list-short letter a b p q k h xs s =
-    omega (arith, h, lines-short letter (of-areas a b) (areas-short a b p q) (take (4 * (k / 4)) xs) (short-taken (4 * (k / 4)) xs s), length-take (4 * (k / 4)) xs)
-
--- a list that a call wrote, printed
-module _ (letter : ℕ) (areas : List ℕ) (fs : List Finding) (refusal : ℕ) (xs b : List ℕ) (same : xs ≡ numbers-of fs) (none : refusal ≡ 0) (fits : length xs ≤ length b)
-    (k : ℕ) (many : k ≡ length xs) (later : List ℕ) (left : later ≡ output-after refusal xs b) where
-  taken : take (4 * (k / 4)) later ≡ xs
-  taken =
-      let all : 4 * (k / 4) ≡ length xs = omega (arith, many, ap length same, numbers-many fs) in
-      ap (λ (j : ℕ). take j later) all ∙ ap (take (length xs)) left ∙ written-whole refusal xs b none fits
-
-  pub list-there : k ≤ length later
-  list-there =
-      let all : 4 * (k / 4) ≡ length xs = omega (arith, many, ap length same, numbers-many fs) in
-      omega (arith, many, all, ap length taken, length-take (4 * (k / 4)) later)
-
-  pub list-printed : findings-text letter areas (take (4 * (k / 4)) later) ≡ listed-text letter areas fs
-  list-printed = ap (findings-text letter areas) (taken ∙ same) ∙ text-listed letter areas fs
+pub list-short : (letter a b : ℕ) → a ≤ 9 → b ≤ 9 → (k : ℕ) → k ≤ 332160 → (xs : List ℕ) → Short xs → k ≤ length xs → length (findings-text letter (of-areas a b) (take (4 * (k / 4)) xs)) ≤ 2491200
+list-short letter a b p q k h xs s fits =
+    omega (arith, h, lines-short letter (of-areas a b) 30 (line-most letter (of-areas a b) 4 (areas-short a b p q)) xs (k / 4) s (omega (arith, fits)))
 
 pub area-low : (a : Area) → area-ok a ≡ true → (1 ≤ a .0) × (a .0 ≤ 9)
 area-low a ok =

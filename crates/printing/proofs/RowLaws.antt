@@ -13,7 +13,6 @@ use mir.Syntax.{w32}
 use mir.Val.{toZ, ofZ}
 use Rattle.base.specs.Lists.{every}
 use Rattle.base.proofs.Tests.{T-true, true-T, parts, every-head, every-tail}
-use Rattle.base.proofs.Lengths.{drop-next}
 use Rattle.timetable.specs.Outputs.{put}
 use Rattle.timetable.proofs.PutLaws.{put-append}
 use Rattle.projection.specs.Numbers.{row-numbers, rows-numbers}
@@ -23,6 +22,7 @@ use Rattle.reports.specs.Inspect.{signed, row-text}
 use Rattle.printing.specs.Types.{Row}
 use Rattle.printing.specs.Journeys.{signed-word, small, row-at, row-line, rows-text}
 use Rattle.printing.proofs.SignedLaws.{small-kept}
+use Rattle.printing.proofs.FoundLaws.{four-next}
 use Rattle.printing.proofs.PutLaws.{puts-two, puts-last, puts-as}
 
 -- an element at an index
@@ -63,15 +63,6 @@ row-at-small zs k i fits h e = let z : 4 * i + 0 ≡ 4 * i = omega arith in rw (
     one j q = rw (getD-take (4 * k) zs (4 * i + j) (pos 0) (omega arith)) at (T-true (small (getD (take (4 * k) zs) (4 * i + j) (pos 0))) (every-at small (take (4 * k) zs) (4 * i + j) (pos 0) (true-T (every small (take (4 * k) zs)) e) (simp length-take (omega arith))))
 
 -- numbers, four by four
-
-four-next : {A : Type 0} (l : List A) (i : ℕ) (d : A) → i + 4 ≤ length l → drop i l ≡ getD l i d ∷ getD l (i + 1) d ∷ getD l (i + 2) d ∷ getD l (i + 3) d ∷ drop (i + 4) l
-four-next l i d h =
-    let two : i + 1 + 1 ≡ i + 2 = omega arith in
-    let three : i + 2 + 1 ≡ i + 3 = omega arith in
-    let four : i + 3 + 1 ≡ i + 4 = omega arith in
-    drop-next l i d (omega arith)
-    ∙ ap (λ (r : List _). getD l i d ∷ r) (drop-next l (i + 1) d (omega arith) ∙ ap (λ (r : List _). getD l (i + 1) d ∷ r) (ap (λ (j : ℕ). drop j l) two
-    ∙ drop-next l (i + 2) d (omega arith) ∙ ap (λ (r : List _). getD l (i + 2) d ∷ r) (ap (λ (j : ℕ). drop j l) three ∙ drop-next l (i + 3) d (omega arith) ∙ ap (λ (j : ℕ). getD l (i + 3) d ∷ drop j l) four)))
 
 module _ (s t : ℕ) (zs : List ℤ) (k : ℕ) (fits : 4 * k ≤ length zs) (i : ℕ) where
   abbrev left : ℕ → List ℕ

@@ -1,25 +1,26 @@
 -- The lines of a whole list of findings, from the numbers that the call wrote. Numbers of two bytes have at most five digits, so a line has at most 26 bytes.
 -- Assumes nothing.
 use Prim.Native.Nat.{ℕ, zero, suc, _+_, _*_, _/_, _%_, _≤_, _<_}
-use mathlib.Core.Path.{_≡_, refl, sym, _∙_, ap}
+use mathlib.Core.Path.{_≡_, refl, _∙_, ap}
 use mathlib.Core.Bool.{Bool, true, false}
 use mathlib.Core.List.{List, [], _∷_, _++_, flatMap}
 use native.Mathlib.Omega.{arith}
 use lib.Dec.{ltb}
-use lib.ListN.{length, getD, take, drop, length-append, length-take}
-use lib.Seq.{take-append-seam}
+use lib.ListN.{length, getD, take, length-append, length-take}
 use borrow.Author.Tests.{ltb-false}
 use Rattle.base.specs.Choice.{if_then_else_}
 use Rattle.timetable.specs.Findings.{findings}
 use Rattle.timetable.specs.Outputs.{output, output-after}
-use Rattle.timetable.proofs.PutLaws.{put-whole, fits-in}
 use Rattle.sheet.specs.Sheets.{decode-sheet}
+use Rattle.sheet.proofs.FlatLaws.{flat-append}
 use Rattle.findings.specs.Lists.{numbers-of, sheet-list, sheet-list-refusal}
 use Rattle.findings.proofs.BoundLaws.{sheet-list-most}
 use Rattle.reports.specs.Text.{digits, decimal, word, head, line}
 use Rattle.reports.specs.Inspect.{listed-text, whole-text}
 use Rattle.printing.specs.Types.{Network, Finding, Output}
 use Rattle.printing.specs.Lines.{findings-text}
+use Rattle.printing.proofs.PutLaws as put-laws
+use Rattle.printing.proofs.PutLaws.{written-whole}
 
 -- digits
 
@@ -53,45 +54,55 @@ word-most x h = omega (arith, five-digits 10 x (omega (arith, h)))
 abbrev pub Short : List ℕ → Type 0
 Short xs = (i : ℕ) → getD xs i 0 < 65536
 
-line-most : (s r a b : ℕ) → s < 65536 → r < 65536 → a < 65536 → b < 65536 → length (line 70 (s ∷ r ∷ a ∷ b ∷ [])) ≤ 26
-unfolding line head flatMap
-line-most s r a b hs hr ha hb =
-    omega (
-      arith,
-      length-append (70 ∷ flatMap word (s ∷ r ∷ a ∷ b ∷ [])) (10 ∷ []),
-      length-append (word s) (flatMap word (r ∷ a ∷ b ∷ [])),
-      length-append (word r) (flatMap word (a ∷ b ∷ [])),
-      length-append (word a) (flatMap word (b ∷ [])),
-      length-append (word b) [],
-      word-most s hs,
-      word-most r hr,
-      word-most a ha,
-      word-most b hb,
-    )
+-- a line of four of them behind areas
+module _ (letter : ℕ) (areas : List ℕ) where
+  pub line-most : (w : ℕ) → length (flatMap word areas) ≤ w → (s r a b : ℕ) → s < 65536 → r < 65536 → a < 65536 → b < 65536
+      → length (line letter (areas ++ (s ∷ r ∷ a ∷ b ∷ []))) ≤ 26 + w
+  unfolding line head flatMap
+  line-most w few s r a b hs hr ha hb =
+      omega (
+        arith,
+        few,
+        length-append (letter ∷ flatMap word (areas ++ (s ∷ r ∷ a ∷ b ∷ []))) (10 ∷ []),
+        ap length (flat-append word areas (s ∷ r ∷ a ∷ b ∷ [])),
+        length-append (flatMap word areas) (flatMap word (s ∷ r ∷ a ∷ b ∷ [])),
+        length-append (word s) (flatMap word (r ∷ a ∷ b ∷ [])),
+        length-append (word r) (flatMap word (a ∷ b ∷ [])),
+        length-append (word a) (flatMap word (b ∷ [])),
+        length-append (word b) [],
+        word-most s hs,
+        word-most r hr,
+        word-most a ha,
+        word-most b hb,
+      )
 
-lines-most : (xs : List ℕ) → Short xs → 4 * length (findings-text 70 [] xs) ≤ 26 * length xs
-unfolding findings-text
-lines-most [] h = omega arith
-lines-most (s ∷ []) h = omega arith
-lines-most (s ∷ r ∷ []) h = omega arith
-lines-most (s ∷ r ∷ a ∷ []) h = omega arith
-lines-most (s ∷ r ∷ a ∷ b ∷ rest) h =
-    omega (
-      arith,
-      length-append (line 70 (s ∷ r ∷ a ∷ b ∷ [])) (findings-text 70 [] rest),
-      line-most s r a b (h 0) (h 1) (h 2) (h 3),
-      lines-most rest (λ i. h (suc (suc (suc (suc i))))),
-    )
+  -- lines of at most v bytes
+  module _ (v : ℕ) (most : (s r a b : ℕ) → s < 65536 → r < 65536 → a < 65536 → b < 65536 → length (line letter (areas ++ (s ∷ r ∷ a ∷ b ∷ []))) ≤ v) where
+    lines-most : (xs : List ℕ) → Short xs → 4 * length (findings-text letter areas xs) ≤ length xs * v
+    unfolding findings-text
+    lines-most [] h = omega arith
+    lines-most (s ∷ []) h = omega arith
+    lines-most (s ∷ r ∷ []) h = omega arith
+    lines-most (s ∷ r ∷ a ∷ []) h = omega arith
+    lines-most (s ∷ r ∷ a ∷ b ∷ rest) h =
+        omega (
+          arith,
+          length-append (line letter (areas ++ (s ∷ r ∷ a ∷ b ∷ []))) (findings-text letter areas rest),
+          most s r a b (h 0) (h 1) (h 2) (h 3),
+          lines-most rest (λ i. h (suc (suc (suc (suc i))))),
+        )
 
--- the first k findings of such numbers
-pub lines-short : (xs : List ℕ) (k : ℕ) → Short xs → 4 * k ≤ length xs → length (findings-text 70 [] (take (4 * k) xs)) ≤ 26 * k
-lines-short xs k h fits = omega (arith, lines-most (take (4 * k) xs) (front-short (4 * k) xs h), length-take (4 * k) xs, fits)
-  where
-    front-short : (j : ℕ) (ys : List ℕ) → Short ys → Short (take j ys)
-    front-short zero ys g i = omega arith
-    front-short (suc j) [] g i = omega arith
-    front-short (suc j) (y ∷ ys) g zero = g 0
-    front-short (suc j) (y ∷ ys) g (suc i) = front-short j ys (λ l. g (suc l)) i
+    -- the first k findings of such numbers
+    pub lines-short : (xs : List ℕ) (k : ℕ) → Short xs → 4 * k ≤ length xs → length (findings-text letter areas (take (4 * k) xs)) ≤ k * v
+    lines-short xs k h fits =
+        let len : length (take (4 * k) xs) ≡ 4 * k = omega (arith, length-take (4 * k) xs, fits) in
+        omega (arith, rw len at (lines-most (take (4 * k) xs) (front-short (4 * k) xs h)))
+      where
+        front-short : (j : ℕ) (ys : List ℕ) → Short ys → Short (take j ys)
+        front-short zero ys g i = omega arith
+        front-short (suc j) [] g i = omega arith
+        front-short (suc j) (y ∷ ys) g zero = g 0
+        front-short (suc j) (y ∷ ys) g (suc i) = front-short j ys (λ l. g (suc l)) i
 
 -- findings and their numbers
 
@@ -106,23 +117,21 @@ text-listed letter areas [] = refl
 text-listed letter areas (f ∷ fs) =
     ap (λ (l : List ℕ). line letter (areas ++ (f .station .0 ∷ f .rule ∷ f .first ∷ f .second ∷ [])) ++ l) (text-listed letter areas fs)
 
--- what a call answers and leaves in a buffer that has room
+-- a list that a call wrote, printed
+module _ (letter : ℕ) (areas : List ℕ) (fs : List Finding) (refusal : ℕ) (xs b : List ℕ) (same : xs ≡ numbers-of fs) (none : refusal ≡ 0) (fits : length xs ≤ length b)
+    (k : ℕ) (many : k ≡ length xs) (later : List ℕ) (left : later ≡ output-after refusal xs b) where
+  taken : take (4 * (k / 4)) later ≡ xs
+  taken =
+      let all : 4 * (k / 4) ≡ length xs = omega (arith, many, ap length same, numbers-many fs) in
+      ap (λ (j : ℕ). take j later) all ∙ ap (take (length xs)) left ∙ written-whole refusal xs b none fits
 
-module _ (xs buffer : List ℕ) (fits : length xs ≤ length buffer) where
-  room : output 0 xs buffer ≡ Output.Written (length xs)
-  room = sym (fits-in xs buffer (length xs) refl fits .0)
+  pub list-there : k ≤ length later
+  list-there =
+      let all : 4 * (k / 4) ≡ length xs = omega (arith, many, ap length same, numbers-many fs) in
+      omega (arith, many, all, ap length taken, length-take (4 * (k / 4)) later)
 
-  pub room-left : output-after 0 xs buffer ≡ xs ++ drop (length xs) buffer
-  room-left = sym (fits-in xs buffer (length xs) refl fits .1) ∙ put-whole xs buffer fits
-
-  pub room-written : (k : ℕ) → Output.Written k ≡ output 0 xs buffer → k ≡ length xs
-  room-written k e = let s : Output.Written k ≡ Output.Written (length xs) = e ∙ room in cc
-
-  pub room-refused {ℓ} : {P : Type ℓ} (k : ℕ) → Output.Refused k ≡ output 0 xs buffer → P
-  room-refused k e = let s : Output.Refused k ≡ Output.Written (length xs) = e ∙ room in let z : _≡_ {A = ℕ} 0 1 = cc in absurd (omega (arith, z))
-
-  pub room-short {ℓ} : {P : Type ℓ} (k : ℕ) → Output.TooShort k ≡ output 0 xs buffer → P
-  room-short k e = let s : Output.TooShort k ≡ Output.Written (length xs) = e ∙ room in let z : _≡_ {A = ℕ} 0 1 = cc in absurd (omega (arith, z))
+  pub list-printed : findings-text letter areas (take (4 * (k / 4)) later) ≡ listed-text letter areas fs
+  list-printed = ap (findings-text letter areas) (taken ∙ same) ∙ text-listed letter areas fs
 
 -- the list of a good sheet, in a buffer that has room for any
 module _ (n : Network) (sheet : List ℕ) (good : sheet-list-refusal n sheet ≡ 0) (buffer : List ℕ) (many : length buffer ≡ 332160) where
@@ -140,32 +149,27 @@ module _ (n : Network) (sheet : List ℕ) (good : sheet-list-refusal n sheet ≡
   four = numbers-many fs
 
   module _ (r : Output) (told : r ≡ output (sheet-list-refusal n sheet) xs buffer) where
-    as-room : r ≡ output 0 xs buffer
-    as-room = told ∙ ap (λ (k : ℕ). output k xs buffer) good
-
     pub never-refused {ℓ} : {P : Type ℓ} (k : ℕ) → r ≡ Output.Refused k → P
-    never-refused k e = room-refused xs buffer fits k (sym e ∙ as-room)
+    never-refused k e = put-laws.never-refused (sheet-list-refusal n sheet) xs buffer good fits r told k e
 
     pub never-short {ℓ} : {P : Type ℓ} (k : ℕ) → r ≡ Output.TooShort k → P
-    never-short k e = room-short xs buffer fits k (sym e ∙ as-room)
+    never-short k e = put-laws.never-short (sheet-list-refusal n sheet) xs buffer good fits r told k e
 
     module _ (k : ℕ) (e : r ≡ Output.Written k) where
-      pub counted : k / 4 ≡ length fs
-      counted = omega (arith, room-written xs buffer fits k (sym e ∙ as-room), four)
+      length-is : k ≡ length xs
+      length-is = put-laws.written-many (sheet-list-refusal n sheet) xs buffer good fits r told k e
 
-      front : 4 * (k / 4) ≡ length xs
-      front = omega (arith, counted, four)
+      pub counted : k / 4 ≡ length fs
+      counted = omega (arith, length-is, four)
 
       pub few-found : k / 4 ≤ 83040
-      few-found = omega (arith, front, sheet-list-most n sheet good)
+      few-found = omega (arith, length-is, sheet-list-most n sheet good)
 
       module _ (after : List ℕ) (left : after ≡ output-after (sheet-list-refusal n sheet) xs buffer) where
-        after-is : after ≡ xs ++ drop (length xs) buffer
-        after-is = left ∙ ap (λ (j : ℕ). output-after j xs buffer) good ∙ room-left xs buffer fits
-
         pub found-fit : 4 * (k / 4) ≤ length after
-        found-fit = omega (arith, front, ap length after-is, length-append xs (drop (length xs) buffer))
+        unfolding sheet-list
+        found-fit = omega (arith, list-there 70 [] fs (sheet-list-refusal n sheet) xs buffer refl good fits k length-is after left)
 
         pub found-text : findings-text 70 [] (take (4 * (k / 4)) after) ≡ whole-text n (decode-sheet sheet)
         unfolding whole-text sheet-list
-        found-text = rw (front, after-is) (ap (findings-text 70 []) (take-append-seam xs (drop (length xs) buffer)) ∙ text-listed 70 [] fs)
+        found-text = list-printed 70 [] fs (sheet-list-refusal n sheet) xs buffer refl good fits k length-is after left

@@ -17,7 +17,7 @@ returns c =
     let q = c .before .before .before .before .before .before in
     let s = q .args in
     let w = c .before .before .put-findings .ensures in
-    (w .0, w .1, omega (arith, w .0, list-short (s .h .letter) (s .h .one) (s .h .other) (q .pre .0) (q .pre .1) (s .k) (q .pre .2) (now (s .numbers)) (λ i. c .before .before .before .before .shared-slice-known .given i .fits)))
+    (w .0, w .1, omega (arith, w .0, list-short (s .h .letter) (s .h .one) (s .h .other) (q .pre .0) (q .pre .1) (s .k) (q .pre .2) (now (s .numbers)) (λ i. c .before .before .before .before .shared-slice-known .given i .fits) (q .pre .3)))
 
 pub put-list-spec : {M : Type 1} → statement M
 put-list-spec = tie.close (tie.spec put-findings-requires same-length returns)
