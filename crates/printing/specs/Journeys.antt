@@ -21,7 +21,7 @@ small z = leb (mag z) 10000
 unfoldable pub row-at : List ℤ → ℕ → List ℤ
 row-at zs i = getD zs i (pos 0) ∷ getD zs (i + 1) (pos 0) ∷ getD zs (i + 2) (pos 0) ∷ getD zs (i + 3) (pos 0) ∷ []
 
--- "J, the station and the train", and the numbers of a row
+-- J, the station and the train, and the numbers of a row
 unfoldable pub row-line : ℕ → ℕ → List ℤ → List ℕ
 row-line s t zs = head 74 (s ∷ t ∷ []) ++ (flatMap signed-word zs ++ (10 ∷ []))
 

@@ -1,4 +1,4 @@
--- The parts of what `shift` prints, as the functions write them. Assumes nothing.
+-- Parts of what the programs print, as the functions write them. Assumes nothing.
 use Prim.Native.Nat.{ℕ, _+_}
 use mathlib.Core.List.{List, [], _∷_, _++_, flatMap}
 use lib.Dec.{eqb}

@@ -27,7 +27,7 @@ use rules::entries;
 use sheet::page;
 use timetable::Output;
 
-// "its stored arrival plus 5 (at most 2879) as the expected one"
+// The stored arrival plus 5, at most the last minute.
 fn expected(stored: Minute) -> Minute
     ensures { λ r. ⌜ r .0 ≡ min (stored .0 + 5) 2879 ⌝ }
 {

@@ -25,7 +25,7 @@ fn put_list(out: &mut [u8], h: Heading, numbers: &[u16], k: usize) -> usize
     found::put_findings(out, 0, h, numbers, k / 4)
 }
 
-// "each area's (D and the area)"
+// D, the area, and each finding of its list.
 pub fn put_area(out: &mut [u8], sheet: &[u8], n: Network, a: Area) -> usize
     requires { ⌜ (sheet-list-refusal n (now sheet) ≡ 0) × (area-ok a ≡ true) ⌝ }
     ensures { λ r. ⌜ Puts 0 (area-text n (decode-sheet (now (sheet .entry))) (a .0)) (now (out .entry)) r (now (out .exit)) 2491200 ⌝ }
@@ -48,7 +48,7 @@ pub fn put_area(out: &mut [u8], sheet: &[u8], n: Network, a: Area) -> usize
     }
 }
 
-// "each pair's (P and the two areas)"
+// P, the two areas, and each finding of their list.
 pub fn put_pair(out: &mut [u8], sheet: &[u8], n: Network, a: Area, b: Area) -> usize
     requires { ⌜ (sheet-list-refusal n (now sheet) ≡ 0) × (two-areas a b ≡ true) ⌝ }
     ensures { λ r. ⌜ Puts 0 (pair-text n (decode-sheet (now (sheet .entry))) (a .0, b .0)) (now (out .entry)) r (now (out .exit)) 2491200 ⌝ }

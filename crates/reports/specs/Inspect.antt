@@ -1,6 +1,6 @@
--- What the program `inspect` prints, as bytes: of a network and a timetable in one file, "the central findings (F), each area's (D and the area) and each pair's (P and
--- the two areas)", T as `shift` has it, from each visit its projection (J, the station and the train), and whether the timetable is written as it was read (W).
--- It takes the input that `shift` takes, and refuses it as that does. Assumes nothing.
+-- What the program `inspect` prints, as bytes: of a network and a timetable in one file, the central findings (F), each area's (D and the area) and each pair's (P and
+-- the two areas), T as `shift` has it, from each visit its projection (J, the station and the train), and whether the timetable is written as it was read (W).
+-- The limit of its input and the line of a refusal are those of `shift`. Document 01 does not have this program; it runs what document 01 has beside `shift`. Assumes nothing.
 use Prim.Native.Nat.{ℕ, _+_, min}
 use mathlib.Core.List.{List, [], _∷_, _++_, map, flatMap}
 use lib.Dec.{ltb}
@@ -48,7 +48,7 @@ module _ (n : Network) (m : Timetable) where
   unfoldable pub totals-text : List ℕ
   totals-text = line 84 (visit-count n m ∷ relation-count n m ∷ length (findings n m) ∷ [])
 
-  -- "the projection with its stored arrival plus 5 (at most 2879) as the expected one"
+  -- the projection from a visit, with its stored arrival plus 5, at most the last minute, as the expected one
   unfoldable pub visit-text : Station → Entry → List ℕ
   visit-text s e = flatMap (row-text (s .0) (e .train .0)) (projection m (e .train) s (min (arr (e .visit) + 5) 2879))
 
@@ -59,10 +59,11 @@ module _ (n : Network) (m : Timetable) where
   unfoldable pub written-text : List ℕ → List ℕ
   written-text bytes = line 87 ((1 if same (bytes-of (timetable-numbers n m)) bytes else 0) ∷ [])
 
--- the parts, in their order: F, six of D, fifteen of P, T, J, W
+-- the areas
 abbrev pub six : List ℕ
 six = 1 ∷ 2 ∷ 3 ∷ 4 ∷ 5 ∷ 6 ∷ []
 
+-- the parts, in their order: F, six of D, fifteen of P, T, J, W
 unfoldable pub parts-of : Network → Timetable → List ℕ → List (List ℕ)
 parts-of n m bytes =
     whole-text n m
