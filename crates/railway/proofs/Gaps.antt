@@ -1,4 +1,5 @@
--- The difference of two small numbers, as a signed machine number: it fits, and it is their difference. Assumes nothing.
+-- The difference of two small numbers, as a signed machine number: it fits, and it is their difference. Assumes
+-- nothing.
 use Prim.Native.Nat.{ℕ, zero, suc, _+_, _-_, _<_, _≤_}
 use mathlib.Core.Path.{_≡_, refl, sym, _∙_, ap}
 use mathlib.Core.Bool.{Bool, true, false, cond}

@@ -1,4 +1,2 @@
 pub mod Gaps
 pub mod RelationLaws
-pub mod RowLaws
-pub mod NetworkLaws

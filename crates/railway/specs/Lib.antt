@@ -2,4 +2,3 @@ pub mod Types
 pub mod Ranges
 pub mod Relations
 pub mod Edits
-pub mod Networks

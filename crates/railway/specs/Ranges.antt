@@ -1,4 +1,5 @@
--- The ranges of the sorts, and when two of a sort are the same. Document 01, "The railway and its numbers". Assumes nothing.
+-- The ranges of the sorts, and when two of a sort are the same. Document 01, "The railway and its numbers". Assumes
+-- nothing.
 use Prim.Native.Nat.{ℕ}
 use mathlib.Core.Bool.{Bool, true, false}
 use lib.Dec.{leb, eqb}

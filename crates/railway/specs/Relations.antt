@@ -1,4 +1,5 @@
--- Relations: their trains, their ranges and their order. Document 01, "The railway and its numbers" and "Findings". Assumes nothing.
+-- Relations: their trains, their ranges and their order. Document 01, "The railway and its numbers" and "Findings".
+-- Assumes nothing.
 use Prim.Native.Nat.{ℕ}
 use mathlib.Core.Bool.{Bool, true, false, not, _&&_, _||_}
 use mathlib.Core.List.{List, [], _∷_}

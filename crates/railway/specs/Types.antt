@@ -1,15 +1,10 @@
--- The types that src/ declares, under one module for this crate's own files. `Nothing` stands in two enums: write InLink.Nothing and OutLink.Nothing.
+-- The types of the crates below and of this crate, under one module for this crate's own files.
 pub use Rattle.railway.specs.declared.sorts.Station.{Station}
 pub use Rattle.railway.specs.declared.sorts.Train.{Train}
 pub use Rattle.railway.specs.declared.sorts.Track.{Track}
 pub use Rattle.railway.specs.declared.sorts.Line.{Line}
 pub use Rattle.railway.specs.declared.sorts.Area.{Area}
 pub use Rattle.railway.specs.declared.minute.Minute.{Minute}
-pub use Rattle.railway.specs.declared.visit.Inward.{Inward}
-pub use Rattle.railway.specs.declared.visit.Outward.{Outward}
-pub use Rattle.railway.specs.declared.visit.InLink.{InLink}
-pub use Rattle.railway.specs.declared.visit.OutLink.{OutLink}
-pub use Rattle.railway.specs.declared.visit.Visit.{Visit}
 pub use Rattle.railway.specs.declared.relation.Trains.{Trains}
 pub use Rattle.railway.specs.declared.relation.Pair.{Pair}
 pub use Rattle.railway.specs.declared.relation.Relation.{Relation}
@@ -21,10 +16,4 @@ pub use Rattle.railway.specs.declared.edit.Report.{Report}
 pub use Rattle.railway.specs.declared.edit.StationRelation.{StationRelation}
 pub use Rattle.railway.specs.declared.edit.Cancellation.{Cancellation}
 pub use Rattle.railway.specs.declared.edit.Edit.{Edit}
-pub use Rattle.railway.specs.declared.edit.Edit.the-variants.{Place, Prepend, Append, DeleteFirst, DeleteLast, Amend}
-pub use Rattle.railway.specs.declared.edit.Edit.the-variants.{ReportArrival, ReportDeparture, AddRelation, RemoveRelation, DeleteTrain}
-pub use Rattle.railway.specs.declared.network.StationRow.{StationRow}
-pub use Rattle.railway.specs.declared.network.LineRow.{LineRow}
-pub use Rattle.railway.specs.declared.network.Network.{Network}
-pub use Rattle.railway.specs.declared.network.StationFound.{StationFound}
-pub use Rattle.railway.specs.declared.network.LineFound.{LineFound}
+pub use Rattle.railway.specs.declared.edit.Edit.the-variants.{Place, Prepend, Append, DeleteFirst, DeleteLast, Amend, ReportArrival, ReportDeparture, AddRelation, RemoveRelation, DeleteTrain}

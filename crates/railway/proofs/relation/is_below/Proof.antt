@@ -1,4 +1,5 @@
--- `railway::relation::is_below` meets its contract. The loop's invariant: the lists compare as what is left of them. Assumes nothing.
+-- `railway::relation::is_below` meets its contract. The loop's invariant: the lists compare as what is left of them.
+-- Assumes nothing.
 use Prim.Native.Nat.{_≤_, _-_}
 use mathlib.Core.Path.{_≡_, refl, sym, _∙_}
 use native.Mathlib.Omega.{arith}
@@ -72,17 +73,5 @@ returns-3 c =
 pub is-below-spec : {M : Type 1} → statement M
 is-below-spec =
     tie.close
-    (tie.spec
-    Inv-loop
-    μ-loop
-    loop-holds
-    mul-x
-    array-read-x
-    mul-y
-    array-read-y
-    returns
-    returns-2
-    add-i
-    loop-less
-    loop-again
-    returns-3)
+    (tie.spec Inv-loop μ-loop loop-holds mul-x array-read-x mul-y array-read-y returns returns-2 add-i loop-less
+    loop-again returns-3)

@@ -1,4 +1,5 @@
--- `railway::relation::is_same` meets its contract. The loop's invariant: the lists compare as what is left of them. Assumes nothing.
+-- `railway::relation::is_same` meets its contract. The loop's invariant: the lists compare as what is left of them.
+-- Assumes nothing.
 use Prim.Native.Nat.{_≤_, _-_}
 use mathlib.Core.Path.{_≡_, refl, sym, _∙_}
 use native.Mathlib.Omega.{arith}
@@ -66,16 +67,5 @@ returns-2 c =
 pub is-same-spec : {M : Type 1} → statement M
 is-same-spec =
     tie.close
-    (tie.spec
-    Inv-loop
-    μ-loop
-    loop-holds
-    mul-x
-    array-read-x
-    mul-y
-    array-read-y
-    add-i
-    loop-less
-    loop-again
-    returns
+    (tie.spec Inv-loop μ-loop loop-holds mul-x array-read-x mul-y array-read-y add-i loop-less loop-again returns
     returns-2)

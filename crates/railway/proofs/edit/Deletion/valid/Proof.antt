@@ -1,4 +1,5 @@
--- `railway::edit::Deletion::valid` meets its contract: each return rewrites with the tests that led there. Assumes nothing.
+-- `railway::edit::Deletion::valid` meets its contract: each return rewrites with the tests that led there. Assumes
+-- nothing.
 use borrow.Author.Needs.{needs}
 use Rattle.railway.specs.Edits.{deletion-ok}
 use Rattle.railway.proofs.edit.Deletion.valid.Statement.{statement}

@@ -117,37 +117,8 @@ returns-11 c = simp (c .before .before .self11 .given .1, ← c .valid11 .ensure
 pub valid-spec : {M : Type 1} → statement M
 valid-spec =
     tie.close
-    (tie.spec
-    enum-known-self
-    valid-requires
-    enum-known-self-2
-    valid-requires-2
-    enum-known-self-3
-    valid-requires-3
-    enum-known-self-4
-    valid-requires-4
-    enum-known-self-5
-    valid-requires-5
-    enum-known-self-6
-    valid-requires-6
-    enum-known-self-7
-    valid-requires-7
-    enum-known-self-8
-    valid-requires-8
-    enum-known-self-9
-    valid-requires-9
-    enum-known-self-10
-    valid-requires-10
-    enum-known-self-11
-    valid-requires-11
-    returns
-    returns-2
-    returns-3
-    returns-4
-    returns-5
-    returns-6
-    returns-7
-    returns-8
-    returns-9
-    returns-10
-    returns-11)
+    (tie.spec enum-known-self valid-requires enum-known-self-2 valid-requires-2 enum-known-self-3 valid-requires-3
+    enum-known-self-4 valid-requires-4 enum-known-self-5 valid-requires-5 enum-known-self-6 valid-requires-6
+    enum-known-self-7 valid-requires-7 enum-known-self-8 valid-requires-8 enum-known-self-9 valid-requires-9
+    enum-known-self-10 valid-requires-10 enum-known-self-11 valid-requires-11 returns returns-2 returns-3 returns-4
+    returns-5 returns-6 returns-7 returns-8 returns-9 returns-10 returns-11)

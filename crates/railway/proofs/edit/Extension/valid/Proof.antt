@@ -1,4 +1,5 @@
--- `railway::edit::Extension::valid` meets its contract: each return rewrites with the tests that led there. Assumes nothing.
+-- `railway::edit::Extension::valid` meets its contract: each return rewrites with the tests that led there. Assumes
+-- nothing.
 use borrow.Author.Needs.{needs}
 use Rattle.railway.specs.Edits.{extension-ok}
 use Rattle.railway.proofs.edit.Extension.valid.Statement.{statement}
@@ -35,12 +36,5 @@ returns-4 c = simp (c .if1 .left, ← c .before .valid .ensures)
 pub valid-spec : {M : Type 1} → statement M
 valid-spec =
     tie.close
-    (tie.spec
-    valid-requires
-    valid-requires-2
-    valid-requires-3
-    run-valid-requires
-    returns
-    returns-2
-    returns-3
+    (tie.spec valid-requires valid-requires-2 valid-requires-3 run-valid-requires returns returns-2 returns-3
     returns-4)

@@ -42,14 +42,5 @@ returns-5 c = simp (c .if1 .left, ← c .before .valid .ensures)
 pub valid-spec : {M : Type 1} → statement M
 valid-spec =
     tie.close
-    (tie.spec
-    valid-requires
-    valid-requires-2
-    valid-requires-3
-    valid-requires-4
-    valid-requires-5
-    returns
-    returns-2
-    returns-3
-    returns-4
-    returns-5)
+    (tie.spec valid-requires valid-requires-2 valid-requires-3 valid-requires-4 valid-requires-5 returns returns-2
+    returns-3 returns-4 returns-5)

@@ -1,4 +1,5 @@
--- `railway::edit::Report::valid` meets its contract: each return rewrites with the tests that led there. Assumes nothing.
+-- `railway::edit::Report::valid` meets its contract: each return rewrites with the tests that led there. Assumes
+-- nothing.
 use borrow.Author.Needs.{needs}
 use Rattle.railway.specs.Edits.{report-ok}
 use Rattle.railway.proofs.edit.Report.valid.Statement.{statement}

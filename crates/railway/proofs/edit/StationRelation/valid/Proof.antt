@@ -1,4 +1,5 @@
--- `railway::edit::StationRelation::valid` meets its contract: each return rewrites with the tests that led there. Assumes nothing.
+-- `railway::edit::StationRelation::valid` meets its contract: each return rewrites with the tests that led there.
+-- Assumes nothing.
 use borrow.Author.Needs.{needs}
 use Rattle.railway.specs.Edits.{station-relation-ok}
 use Rattle.railway.proofs.edit.StationRelation.valid.Statement.{statement}

@@ -1,4 +1,5 @@
--- `railway::minute::Minute::gap` meets its contract: two minutes of 16 bits differ by a number that fits 32. Assumes nothing.
+-- `railway::minute::Minute::gap` meets its contract: two minutes of 16 bits differ by a number that fits 32. Assumes
+-- nothing.
 use borrow.Author.Needs.{needs}
 use native.Mathlib.Omega.{arith}
 use Rattle.railway.proofs.minute.Minute.gap.Statement.{statement}

@@ -1,4 +1,5 @@
--- `railway::relation::Pair::valid` meets its contract: each return rewrites with the tests that led there. Assumes nothing.
+-- `railway::relation::Pair::valid` meets its contract: each return rewrites with the tests that led there. Assumes
+-- nothing.
 use borrow.Author.Needs.{needs}
 use Rattle.railway.specs.Relations.{pair-ok}
 use Rattle.railway.proofs.relation.Pair.valid.Statement.{statement}

@@ -37,13 +37,5 @@ returns-3 c = simp (c .before .self3 .given .1)
 pub key-spec : {M : Type 1} → statement M
 key-spec =
     tie.close
-    (tie.spec
-    enum-known-self
-    key-requires
-    enum-known-self-2
-    key-requires-2
-    enum-known-self-3
-    cast-t9
-    returns
-    returns-2
-    returns-3)
+    (tie.spec enum-known-self key-requires enum-known-self-2 key-requires-2 enum-known-self-3 cast-t9 returns
+    returns-2 returns-3)

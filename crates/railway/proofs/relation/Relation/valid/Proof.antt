@@ -1,4 +1,5 @@
--- `railway::relation::Relation::valid` meets its contract: each return rewrites with the tests that led there. Assumes nothing.
+-- `railway::relation::Relation::valid` meets its contract: each return rewrites with the tests that led there. Assumes
+-- nothing.
 use borrow.Author.Needs.{needs}
 use Rattle.railway.specs.Relations.{relation-ok}
 use Rattle.railway.proofs.relation.Relation.valid.Statement.{statement}
@@ -58,19 +59,6 @@ returns-6 c = simp (c .before .before .before .self3 .given .1, c .if3 .left, �
 pub valid-spec : {M : Type 1} → statement M
 valid-spec =
     tie.close
-    (tie.spec
-    enum-known-self
-    interval-valid-requires
-    valid-requires
-    returns
-    enum-known-self-2
-    interval-valid-requires-2
-    valid-requires-2
-    returns-2
-    enum-known-self-3
-    interval-valid-requires-3
-    valid-requires-3
-    returns-3
-    returns-4
-    returns-5
-    returns-6)
+    (tie.spec enum-known-self interval-valid-requires valid-requires returns enum-known-self-2
+    interval-valid-requires-2 valid-requires-2 returns-2 enum-known-self-3 interval-valid-requires-3 valid-requires-3
+    returns-3 returns-4 returns-5 returns-6)

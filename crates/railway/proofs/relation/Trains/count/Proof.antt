@@ -1,4 +1,5 @@
--- `railway::relation::Trains::count` meets its contract: it adds one for each place that holds a train. Assumes nothing.
+-- `railway::relation::Trains::count` meets its contract: it adds one for each place that holds a train. Assumes
+-- nothing.
 use borrow.Author.Needs.{needs}
 use Rattle.railway.specs.Relations.{used}
 use Rattle.railway.proofs.RelationLaws.{used-count}
@@ -33,12 +34,5 @@ returns c = rw (used-count (c .before .before .before .before .args .self)) (cc)
 pub count-spec : {M : Type 1} → statement M
 count-spec =
     tie.close
-    (tie.spec
-    held-requires
-    held-requires-2
-    add-result
-    held-requires-3
-    add-result-2
-    held-requires-4
-    add-result-3
+    (tie.spec held-requires held-requires-2 add-result held-requires-3 add-result-2 held-requires-4 add-result-3
     returns)

@@ -1,4 +1,5 @@
--- `railway::relation::Trains::valid` meets its contract: each return rewrites with the tests that led there. Assumes nothing.
+-- `railway::relation::Trains::valid` meets its contract: each return rewrites with the tests that led there. Assumes
+-- nothing.
 use borrow.Author.Tests.{le-ltb, lt-ltb}
 use borrow.Author.Needs.{needs}
 use Rattle.railway.specs.Relations.{trains-ok}
@@ -40,13 +41,5 @@ returns-5 c = simp (c .if1 .left, ← c .before .valid .ensures)
 pub valid-spec : {M : Type 1} → statement M
 valid-spec =
     tie.close
-    (tie.spec
-    valid-requires
-    valid-requires-2
-    further-requires
-    further-requires-2
-    returns
-    returns-2
-    returns-3
-    returns-4
-    returns-5)
+    (tie.spec valid-requires valid-requires-2 further-requires further-requires-2 returns returns-2 returns-3
+    returns-4 returns-5)

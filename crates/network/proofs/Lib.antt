@@ -1,0 +1,3 @@
+pub mod NetworkLaws
+pub mod RowLaws
+pub mod AreaLaws

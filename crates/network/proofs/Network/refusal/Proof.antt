@@ -1,0 +1,28 @@
+-- `railway::network::Network::refusal` meets its contract: each return rewrites with the tests that led there. Assumes
+-- nothing.
+use borrow.Author.Needs.{needs}
+use Rattle.network.specs.Networks.{network-refusal}
+use Rattle.network.proofs.Network.refusal.Statement.{statement}
+use Rattle.network.proofs.Network.refusal.Tie as tie
+
+in-range-requires : tie.Need-in-range-requires
+in-range-requires c κs = search needs
+
+lines-joined-requires : tie.Need-lines-joined-requires
+lines-joined-requires c κs = search needs
+
+returns : tie.Need-returns
+unfolding network-refusal
+returns c = simp (c .if2 .taken, ← c .before .lines-joined .ensures, c .before .before .if1 .taken, ← c .before .before .before .in-range .ensures)
+
+returns-2 : tie.Need-returns-2
+unfolding network-refusal
+returns-2 c = simp (c .if2 .left, ← c .before .lines-joined .ensures, c .before .before .if1 .taken, ← c .before .before .before .in-range .ensures)
+
+returns-3 : tie.Need-returns-3
+unfolding network-refusal
+returns-3 c = simp (c .if1 .left, ← c .before .in-range .ensures)
+
+pub refusal-spec : {M : Type 1} → statement M
+refusal-spec =
+    tie.close (tie.spec in-range-requires lines-joined-requires returns returns-2 returns-3)
