@@ -2,3 +2,5 @@ pub mod Locality
 pub mod Partition
 pub mod TableLaws
 pub mod PutLaws
+pub mod RefusalLaws
+pub mod OutcomeLaws

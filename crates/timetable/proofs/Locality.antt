@@ -1,23 +1,24 @@
--- An edit reads and changes only the tables of the stations that it names, and one refused with 3 or 7 names none. An edit's meaning sees the tables of s and p
--- alone, so each fact is proved once for all meanings, by the tests that decide what an edit names: its values are in range (`edit-ok`), its network knows it
--- (`known`), and the station is s or p. Assumes nothing.
+-- An edit reads and changes only the tables of the stations that it names, and one refused with 3 or 7 names none. An
+-- edit's meaning sees the tables of s and p alone, so each fact is proved once for all meanings, by the tests that
+-- decide what an edit names: its values are in range (`edit-ok`), its network knows it (`known`), and the station is s
+-- or p. Assumes nothing.
 use Prim.Native.Nat.{ℕ, _+_}
 use mathlib.Core.Path.{_≡_, refl, sym, _∙_, ap, ap₂}
 use mathlib.Core.Bool.{Bool, true, false, not, _&&_, _||_}
 use mathlib.Core.List.{List, [], _∷_}
 use lib.Dec.{T, eqb, eqb-refl, eqb→eq}
+use borrow.Author.Tests.{ne-eqb, eqb-false}
 use Rattle.base.specs.Choice.{if_then_else_, _if_else_}
 use Rattle.base.specs.Lists.{any, count, is}
 use Rattle.base.proofs.Tests.{if-yes, if-no, and-l, and-r, or-l, or-r, or-cases}
 use Rattle.railway.specs.Ranges.{same-station}
-use Rattle.railway.specs.Edits.{edit-ok}
-use Rattle.railway.specs.Networks.{stations-of, listed}
+use Rattle.network.specs.Networks.{stations-of, listed}
 use Rattle.timetable.specs.Types.{Station, Network, Answer}
 use Rattle.timetable.specs.Types.{Edit, Place, Prepend, Append, DeleteFirst, DeleteLast, Amend}
 use Rattle.timetable.specs.Types.{ReportArrival, ReportDeparture, AddRelation, RemoveRelation, DeleteTrain}
 use Rattle.timetable.specs.Visits.{lacks-in, lacks-out, first-stands, last-stands, alters}
 use Rattle.timetable.specs.Tables.{Table, without, visit-of, has-visit, has-relation, full-visits, full-relations}
-use Rattle.timetable.specs.Machine.{Timetable, put, Action, Meaning, local, throughout, meaning, known, refused-as, refusal, changed, removed-by, answer, after}
+use Rattle.timetable.specs.Machine.{Timetable, put, Action, Meaning, local, throughout, meaning, known, room, edit-refusal, sound, refused-as, refusal, changed, removed-by, answer, after}
 use Rattle.timetable.specs.Groups.{reaches, names}
 
 pub same-station-equal : (k s : Station) → T (same-station k s) → k ≡ s
@@ -52,15 +53,15 @@ module _ (n : Network) (m m′ : Timetable) where
   -- c says that the network knows the action
   refuses-agree : (a : Action) (c : Bool)
       → ((k : Station) → T (c && at-ends a k) → m k ≡ m′ k)
-      → (7 if not c else a .refuses (m (a .home)) (m (a .away))) ≡ (7 if not c else a .refuses (m′ (a .home)) (m′ (a .away)))
+      → (7 if not c else a .refuses n (m (a .home)) (m (a .away))) ≡ (7 if not c else a .refuses n (m′ (a .home)) (m′ (a .away)))
   refuses-agree a false h = refl
-  refuses-agree a true h = ap₂ (a .refuses) (h (a .home) (home-at-end a)) (h (a .away) (away-at-end a))
+  refuses-agree a true h = ap₂ (a .refuses n) (h (a .home) (home-at-end a)) (h (a .away) (away-at-end a))
 
-  refusal-agree : (b : Bool) (μ : Meaning) → Agree b μ → (3 if not b else refused-as n μ m) ≡ (3 if not b else refused-as n μ m′)
+  refusal-agree : (b : Bool) (v : ℕ) (μ : Meaning) → Agree b μ → (if b then refused-as n μ m else v) ≡ (if b then refused-as n μ m′ else v)
   unfolding refused-as reaches
-  refusal-agree false μ h = refl
-  refusal-agree true (throughout t) h = refl
-  refusal-agree true (local a) h = refuses-agree a (known n a) h
+  refusal-agree false v μ h = refl
+  refusal-agree true v (throughout t) h = refl
+  refusal-agree true v (local a) h = refuses-agree a (known n a) h
 
   removed-agree : (μ : Meaning) → Agree true μ → removed-by n μ m ≡ removed-by n μ m′
   unfolding removed-by reaches listed
@@ -86,11 +87,11 @@ module _ (n : Network) (m m′ : Timetable) where
   changed-agree true (local a) h k r = put-agree a k (known n a) h r
 
   -- an edit that is not refused is in range
-  removal-agree : (b : Bool) (μ : Meaning) → Agree b μ
-      → (if eqb (3 if not b else refused-as n μ m) 0 then removed-by n μ m else 0)
-      ≡ (if eqb (3 if not b else refused-as n μ m) 0 then removed-by n μ m′ else 0)
-  removal-agree false μ h = refl
-  removal-agree true μ h = λ i. if eqb (refused-as n μ m) 0 then removed-agree μ h i else 0
+  removal-agree : (b : Bool) (v : ℕ) (μ : Meaning) → (b ≡ false → ¬ (v ≡ 0)) → Agree b μ
+      → (if eqb (if b then refused-as n μ m else v) 0 then removed-by n μ m else 0)
+      ≡ (if eqb (if b then refused-as n μ m else v) 0 then removed-by n μ m′ else 0)
+  removal-agree false v μ z h = rw (ne-eqb v 0 (z refl))
+  removal-agree true v μ z h = λ i. if eqb (refused-as n μ m) 0 then removed-agree μ h i else 0
 
   -- z says that the edit is not refused
   accepted-agree : (z b : Bool) (μ : Meaning) → Agree b μ → (k : Station) → T (b && reaches n μ k)
@@ -104,12 +105,12 @@ Agree-on n e m m′ = (k : Station) → T (names n e k) → m k ≡ m′ k
 
 pub same-refusal : (n : Network) (e : Edit) (m m′ : Timetable) → Agree-on n e m m′ → refusal n e m ≡ refusal n e m′
 unfolding refusal names
-same-refusal n e m m′ h = refusal-agree n m m′ (edit-ok e) (meaning e) h
+same-refusal n e m m′ h = refusal-agree n m m′ (sound e) (edit-refusal e) (meaning e) h
 
 pub same-answer : (n : Network) (e : Edit) (m m′ : Timetable) → Agree-on n e m m′ → answer n e m ≡ answer n e m′
 unfolding answer refusal names
 same-answer n e m m′ h =
-    (λ i. record { refusal = refusal n e m; removed = removal-agree n m m′ (edit-ok e) (meaning e) h i })
+    (λ i. record { refusal = refusal n e m; removed = removal-agree n m m′ (sound e) (edit-refusal e) (meaning e) (eqb-false (edit-refusal e) 0) h i })
     ∙ ap (λ (r : ℕ). told r) (same-refusal n e m m′ h)
   where
     told : ℕ → Answer
@@ -119,7 +120,7 @@ same-answer n e m m′ h =
 pub same-change : (n : Network) (e : Edit) (m m′ : Timetable) → Agree-on n e m m′ → (k : Station) → T (names n e k) → after n e m k ≡ after n e m′ k
 unfolding after names
 same-change n e m m′ h k r =
-    accepted-agree n m m′ (eqb (refusal n e m) 0) (edit-ok e) (meaning e) h k r
+    accepted-agree n m m′ (eqb (refusal n e m) 0) (sound e) (meaning e) h k r
     ∙ ap (λ (q : ℕ). (if eqb q 0 then changed n (meaning e) m′ else m′) k) (same-refusal n e m m′ h)
 
 -- what an edit changes
@@ -141,17 +142,17 @@ action-kept true r a m k away = go (eqb r 0)
     go true = elsewhere-kept a m k away
     go false = refl
 
-meaning-kept : (n : Network) (m : Timetable) (b : Bool) (μ : Meaning) (k : Station) → ¬ T (b && reaches n μ k)
-    → (if eqb (3 if not b else refused-as n μ m) 0 then changed n μ m else m) k ≡ m k
+meaning-kept : (n : Network) (m : Timetable) (b : Bool) (v : ℕ) (μ : Meaning) (k : Station) → (b ≡ false → ¬ (v ≡ 0)) → ¬ T (b && reaches n μ k)
+    → (if eqb (if b then refused-as n μ m else v) 0 then changed n μ m else m) k ≡ m k
 unfolding reaches refused-as changed
-meaning-kept n m false μ k away = refl
-meaning-kept n m true (throughout t) k away = if-no (listed n k) _ _ away
-meaning-kept n m true (local a) k away = action-kept (known n a) (a .refuses (m (a .home)) (m (a .away))) a m k away
+meaning-kept n m false v μ k z away = rw (ne-eqb v 0 (z refl))
+meaning-kept n m true v (throughout t) k z away = if-no (listed n k) _ _ away
+meaning-kept n m true v (local a) k z away = action-kept (known n a) (a .refuses n (m (a .home)) (m (a .away))) a m k away
 
 -- an edit leaves every table that it does not name
 pub others-kept : (n : Network) (e : Edit) (m : Timetable) (k : Station) → ¬ T (names n e k) → after n e m k ≡ m k
 unfolding after refusal names
-others-kept n e m k away = meaning-kept n m (edit-ok e) (meaning e) k away
+others-kept n e m k away = meaning-kept n m (sound e) (edit-refusal e) (meaning e) k (eqb-false (edit-refusal e) 0) away
 
 -- what an edit names
 
@@ -168,35 +169,39 @@ no : ¬ ⊥
 no t = t
 
 abbrev Tables-later : Meaning → Type 0
-Tables-later (local a) = (here there : Table) → Later (a .refuses here there)
+Tables-later (local a) = (n : Network) (here there : Table) → Later (a .refuses n here there)
 Tables-later (throughout t) = Unit {0}
+
+room-later : (n : Network) (s : Station) (tab : Table) → Later (room n s tab)
+unfolding room
+room-later n s tab = either 12 (full-visits tab) 0 no no
 
 tables-later : (e : Edit) → Tables-later (meaning e)
 unfolding meaning
-tables-later (Place p) = λ here there. either 8 (has-visit (p .train) here) _ no (either 12 (full-visits here) 0 no no)
-tables-later (Prepend x) = λ here there.
+tables-later (Place p) = λ n here there. either 8 (has-visit (p .train) here) _ no (room-later n _ here)
+tables-later (Prepend x) = λ n here there.
     either 8 (has-visit (x .plan .train) here) _ no
     (either 9 (not (has-visit (x .plan .train) there)) _ no
     (either 10 (not (is lacks-in (visit-of (x .plan .train) there))) _ no
-    (either 12 (full-visits here) 0 no no)))
-tables-later (Append x) = λ here there.
+    (room-later n _ here)))
+tables-later (Append x) = λ n here there.
     either 8 (has-visit (x .plan .train) here) _ no
     (either 9 (not (has-visit (x .plan .train) there)) _ no
     (either 10 (not (is lacks-out (visit-of (x .plan .train) there))) _ no
-    (either 12 (full-visits here) 0 no no)))
-tables-later (DeleteFirst d) = λ here there.
+    (room-later n _ here)))
+tables-later (DeleteFirst d) = λ n here there.
     either 9 (not (has-visit (d .train) here && has-visit (d .train) there)) _ no
     (either 10 (not (is (λ v. is (first-stands (d .station) (d .other) v) (visit-of (d .train) there)) (visit-of (d .train) here))) 0 no no)
-tables-later (DeleteLast d) = λ here there.
+tables-later (DeleteLast d) = λ n here there.
     either 9 (not (has-visit (d .train) here && has-visit (d .train) there)) _ no
     (either 10 (not (is (λ v. is (last-stands (d .station) (d .other) v) (visit-of (d .train) there)) (visit-of (d .train) here))) 0 no no)
-tables-later (Amend p) = λ here there.
+tables-later (Amend p) = λ n here there.
     either 9 (not (has-visit (p .train) here)) _ no
     (either 11 (is (alters p) (visit-of (p .train) here)) 0 no no)
-tables-later (ReportArrival r) = λ here there. either 9 (not (has-visit (r .train) here)) 0 no no
-tables-later (ReportDeparture r) = λ here there. either 9 (not (has-visit (r .train) here)) 0 no no
-tables-later (AddRelation r) = λ here there. either 8 (has-relation (r .relation) here) _ no (either 12 (full-relations here) 0 no no)
-tables-later (RemoveRelation r) = λ here there. either 9 (not (has-relation (r .relation) here)) 0 no no
+tables-later (ReportArrival r) = λ n here there. either 9 (not (has-visit (r .train) here)) 0 no no
+tables-later (ReportDeparture r) = λ n here there. either 9 (not (has-visit (r .train) here)) 0 no no
+tables-later (AddRelation r) = λ n here there. either 8 (has-relation (r .relation) here) _ no (either 12 (full-relations here) 0 no no)
+tables-later (RemoveRelation r) = λ n here there. either 9 (not (has-relation (r .relation) here)) 0 no no
 tables-later (DeleteTrain c) = tt
 
 -- c says that the network knows the action, r is what its tables refuse it with
@@ -205,18 +210,18 @@ unknown-none a true r k later t u = later t
 unknown-none a false r k later t u = u
 
 -- b says that the edit's values are in range
-meaning-none : (n : Network) (b : Bool) (μ : Meaning) (m : Timetable) (k : Station) → Tables-later μ
-    → T (eqb (3 if not b else refused-as n μ m) 3 || eqb (3 if not b else refused-as n μ m) 7) → ¬ T (b && reaches n μ k)
+meaning-none : (n : Network) (b : Bool) (v : ℕ) (μ : Meaning) (m : Timetable) (k : Station) → Tables-later μ
+    → T (eqb (if b then refused-as n μ m else v) 3 || eqb (if b then refused-as n μ m else v) 7) → ¬ T (b && reaches n μ k)
 unfolding refused-as reaches
-meaning-none n false μ m k later t u = u
-meaning-none n true (local a) m k later t u =
-    unknown-none a (known n a) (a .refuses (m (a .home)) (m (a .away))) k (later (m (a .home)) (m (a .away))) t u
-meaning-none n true (throughout x) m k later t u = t
+meaning-none n false v μ m k later t u = u
+meaning-none n true v (local a) m k later t u =
+    unknown-none a (known n a) (a .refuses n (m (a .home)) (m (a .away))) k (later n (m (a .home)) (m (a .away))) t u
+meaning-none n true v (throughout x) m k later t u = t
 
 -- "one refused with 3 or 7 names none"
 pub names-none : (n : Network) (e : Edit) (m : Timetable) → T (eqb (refusal n e m) 3 || eqb (refusal n e m) 7) → (k : Station) → ¬ T (names n e k)
 unfolding refusal names
-names-none n e m t k = meaning-none n (edit-ok e) (meaning e) m k (tables-later e) t
+names-none n e m t k = meaning-none n (sound e) (edit-refusal e) (meaning e) m k (tables-later e) t
 
 reached-listed : (n : Network) (μ : Meaning) (k : Station) → T (reaches n μ k) → T (listed n k)
 unfolding reaches known
@@ -232,4 +237,4 @@ reached-listed n (local a) k r =
 -- a station that an edit names is listed
 pub names-listed : (n : Network) (e : Edit) (k : Station) → T (names n e k) → T (listed n k)
 unfolding names
-names-listed n e k r = reached-listed n (meaning e) k (and-r (edit-ok e) (reaches n (meaning e) k) r)
+names-listed n e k r = reached-listed n (meaning e) k (and-r (sound e) (reaches n (meaning e) k) r)

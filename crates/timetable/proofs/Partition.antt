@@ -1,5 +1,6 @@
--- The groups' lists and the pairs' lists together are the whole list of findings, whatever is counted: a finding is in just one group's list or one pair's
--- list, since of the groups just one has its station and just one its far station. Assumes nothing.
+-- The groups' lists and the pairs' lists together are the whole list of findings, whatever is counted: a finding is in
+-- just one group's list or one pair's list, since of the groups just one has its station and just one its far station.
+-- Assumes nothing.
 use Prim.Native.Nat.{ℕ, _+_, _<_}
 use mathlib.Core.Path.{_≡_, refl, _∙_}
 use mathlib.Core.Bool.{Bool, true, false, _&&_}

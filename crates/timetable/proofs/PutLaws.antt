@@ -1,5 +1,5 @@
--- Numbers written from a place on, those past the end dropped: two lists one behind the other are written one after the other, and what fits from the start on is
--- written whole, as the calls that fill a buffer promise. Assumes nothing.
+-- Numbers written from a place on, those past the end dropped: two lists one behind the other are written one after the
+-- other, and what fits from the start on is written whole, as the calls that fill a buffer promise. Assumes nothing.
 use Prim.Native.Nat.{ℕ, zero, suc, _+_, _≤_, _<_}
 use mathlib.Core.Path.{_≡_, refl, sym, _∙_, ap}
 use mathlib.Core.Bool.{true, false, _&&_}

@@ -1,5 +1,6 @@
--- What the functions on a table's lists keep: the order, the limits, and every test of the entries or relations. By induction on the lists;
--- for a train taken from a relation, the trains that stay are in order and the four places hold them. Assumes nothing.
+-- What the functions on a table's lists keep: the order, the limits, and every test of the entries or relations. By
+-- induction on the lists; for a train taken from a relation, the trains that stay are in order and the four places hold
+-- them. Assumes nothing.
 use Prim.Native.Nat.{ℕ, suc, _+_, _≤_, _<_}
 use mathlib.Core.Path.{_≡_, refl, sym, _∙_, ap, ap₂}
 use mathlib.Core.Bool.{Bool, true, false, not, _&&_, _||_}
@@ -19,7 +20,7 @@ use Rattle.base.proofs.Counts.{keep-every}
 use Rattle.base.proofs.Sorted.{two-head, two-tail, two-cons, two-step, two-keep, smaller, smaller-across, rising-map, below-trans, below-total}
 use Rattle.railway.specs.Ranges.{same-train, train-ok, track-ok, minute-ok, interval-ok}
 use Rattle.railway.specs.Relations.{present, used, further-ok, trains-ok, relation-ok, key, precedes, same-relation}
-use Rattle.railway.specs.Networks.{track-known}
+use Rattle.network.specs.Networks.{track-known}
 use Rattle.timetable.specs.Types.{Station, Train, Line, Minute, InLink, OutLink, Visit, Trains, Relation, Connection, Disconnection, Dependency, Plan, Network}
 use Rattle.timetable.specs.Visits.{ins, outs, with-in, with-out, planned, amended, arrived-at, departed-at, from, onward}
 use Rattle.timetable.specs.Tables.{Entry, Table, visit-of, has-visit, enter, add-visit, change-entry, change-visit, insert, add-relation, drop-relation}

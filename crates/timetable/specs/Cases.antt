@@ -17,8 +17,8 @@ use Rattle.numbers.specs.declared.Reading.the-variants.{Value, Refused}
 use Rattle.railway.specs.Relations as Relations
 use Rattle.railway.specs.Relations.{key}
 use Rattle.railway.specs.Edits as Edits
-use Rattle.railway.specs.Networks as Networks
-use Rattle.railway.specs.Networks.{network-refusal, area-of}
+use Rattle.network.specs.Networks as Networks
+use Rattle.network.specs.Networks.{network-refusal, area-of}
 use Rattle.timetable.specs.Types.{Station, Train, Track, Line, Area, Minute, InLink, OutLink, Trains, Pair}
 use Rattle.timetable.specs.Types.{Relation, Connection, Disconnection, Dependency, Plan, Extension, Deletion, Report}
 use Rattle.timetable.specs.Types.{Edit, Place, Prepend, Append, DeleteFirst, DeleteLast, Amend}
@@ -43,7 +43,7 @@ use Rattle.timetable.specs.Good as Good
 use Rattle.timetable.specs.Good.{table-good}
 use Rattle.timetable.specs.Rules as Rules
 use Rattle.timetable.specs.Findings as Findings
-use Rattle.timetable.specs.Findings.{findings, finding, group-findings, pair-findings}
+use Rattle.timetable.specs.Findings.{findings, finding, numbers-of, own-list, pair-list}
 use Rattle.timetable.specs.Projection as Projection
 use Rattle.timetable.specs.Projection.{projection}
 use Rattle.timetable.specs.Count as Count
@@ -122,7 +122,8 @@ with-capacity c = network (station 1 1 2 ∷ station 2 2 1 ∷ []) 3 (line 1 1 2
 unfoldable pub net : Network
 net = with-capacity 1
 
--- stations 1, 2 and 3 in areas 1, 2 and 2; line 1 runs from 1 to 2, line 2 from 3 to 2, line 3 either way between 1 and 2, line 4 between 2 and 3
+-- stations 1, 2 and 3 in areas 1, 2 and 2; line 1 runs from 1 to 2, line 2 from 3 to 2, line 3 either way between 1 and
+-- 2, line 4 between 2 and 3
 unfoldable pub branch : Network
 branch =
     network (station 1 1 2 ∷ station 2 2 2 ∷ station 3 2 2 ∷ []) 3
@@ -228,7 +229,7 @@ pub data Case : Type 0 where
   naming : Network → Edit → List ℕ → Case
   -- the table is good at station 1, or not
   table-is : Table → Bool → Case
-  -- the findings of an area, of a pair of areas, as numbers
+  -- the findings of an area, of a pair of areas, formed from their parts of the divided timetable, as numbers
   area-has : Network → Timetable → ℕ → List ℕ → Case
   pair-has : Network → Timetable → ℕ → ℕ → List ℕ → Case
   -- the rows of a projection: station, arrival, departure, 1 if early, minutes
@@ -251,9 +252,6 @@ lists f fs = any (λ g. same (finding-line f) (finding-line g)) fs
 
 unfoldable pub answer-numbers : List Answer → List ℕ
 answer-numbers as′ = flatMap (λ a. a .refusal ∷ a .removed ∷ []) as′
-
-unfoldable pub finding-numbers : List Finding → List ℕ
-finding-numbers fs = flatMap (λ f. f .station .0 ∷ f .rule ∷ f .first ∷ f .second ∷ []) fs
 
 unfoldable pub signed : ℤ → List ℕ
 signed (pos k) = 0 ∷ k ∷ []
@@ -291,8 +289,8 @@ passes (ordered rs b) = Bool·beq b (each-before rs)
 passes (network-is n k) = eqb k (network-refusal n)
 passes (naming n e gs) = same gs (keep (names-group n (area-of n) e) (1 ∷ 2 ∷ 3 ∷ 4 ∷ 5 ∷ 6 ∷ []))
 passes (table-is tab b) = Bool·beq b (table-good net (st 1) tab)
-passes (area-has n m a ks) = same ks (finding-numbers (group-findings n (area-of n) m a))
-passes (pair-has n m a b ks) = same ks (finding-numbers (pair-findings n (area-of n) m a b))
+passes (area-has n m a ks) = same ks (numbers-of (own-list n (area-of n) (divide (area-of n) m) a))
+passes (pair-has n m a b ks) = same ks (numbers-of (pair-list n (area-of n) (divide (area-of n) m) (a, b)))
 passes (projected m t s a ks) = same ks (row-numbers (projection m (tr t) (st s) a))
 passes (tallied y e a ks) = same ks (raise-refusal y a ∷ tally-line (raise y e a))
 passes (printed es ls) = same (flatMap (λ l. l) (listing net es)) (flatMap (λ l. l) ls)
@@ -306,7 +304,7 @@ failing k (c ∷ cs) = if passes c then failing (suc k) cs else k ∷ failing (s
 unfoldable pub opened : Unit {0}
 unfolding st tr ln at plan place prepend append delete-first delete-last arrives departs relate unrelate delete-train four two pair station line
     with-capacity net branch leaving inbound crowd connections visiting by to tabled standing bare counted told run-of listed-edits
-    net-numbers crowd-visits connected outcome-numbers placed-edits shift-numbers reads-as reads-refused lists answer-numbers finding-numbers signed row-numbers each-before passes failing
+    net-numbers crowd-visits connected outcome-numbers placed-edits shift-numbers reads-as reads-refused lists answer-numbers signed row-numbers each-before passes failing
     Lists.opened Runs.opened Numbers.opened Relations.opened Edits.opened Networks.opened
     Formats.opened NetworkFile.opened EditsFile.opened TimetableFile.opened
     Visits.opened Tables.opened Machine.opened Groups.opened Good.opened Rules.opened Findings.opened Projection.opened Count.opened Listing.opened

@@ -1,4 +1,5 @@
--- The tally, and counts over a whole timetable. Document 01, "Projection and tally" and "A run of the program `shift`". Assumes nothing.
+-- The tally, and counts over a whole timetable. Document 01, "Projection and tally" and "A run of the program `shift`".
+-- Assumes nothing.
 use Prim.Native.Nat.{ℕ, _+_}
 use mathlib.Core.Bool.{Bool, true, false, not, _&&_, _||_}
 use mathlib.Core.List.{List, [], _∷_}
@@ -6,7 +7,7 @@ use lib.Dec.{ltb, eqb}
 use lib.ListN.{length}
 use Rattle.base.specs.Choice.{if_then_else_, _if_else_}
 use Rattle.base.specs.Lists.{sum}
-use Rattle.railway.specs.Networks.{stations-of}
+use Rattle.network.specs.Networks.{stations-of}
 use Rattle.timetable.specs.Types.{Station, Edit, Network, Answer, Tally}
 use Rattle.timetable.specs.Machine.{Timetable, meaning, added-by}
 
@@ -24,7 +25,8 @@ unlikely a = ltb 16 (a .removed) || (not (eqb (a .refusal) 0) && ltb 0 (a .remov
 unfoldable pub raise-refusal : Tally → Answer → ℕ
 raise-refusal y a = 5 if overfull y else 3 if unlikely a else 0
 
--- "each edit raises: accepted, refused, added, removed, the last two counting visits"; "an edit refused with 5 leaves it"
+-- "each edit raises: accepted, refused, added, removed, the last two counting visits"; "an edit refused with 5 leaves
+-- it"
 unfoldable pub raised : Tally → Edit → Answer → Tally
 raised y e a =
     if eqb (a .refusal) 0 then record { accepted = y .accepted + 1; refused = y .refused; added = y .added + added-by (meaning e); removed = y .removed + a .removed }

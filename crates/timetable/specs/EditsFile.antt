@@ -1,5 +1,6 @@
--- The edits file, and the input of `shift`. Document 01, "Files": "Edits: count (0..1000), then kind and fields; a relation is kind (1, 2, 3), interval, count of
--- trains, trains (rising, except arriver, departer, whose count is 2)." Assumes nothing.
+-- The edits file, and the input of `shift`. Document 01, "Files": "Edits: count (0..1000), then kind and fields; a
+-- relation is kind (1, 2, 3), interval, count of trains, trains (rising, except arriver, departer, whose count is 2)."
+-- Assumes nothing.
 use Prim.Native.Nat.{ℕ, zero, suc, _+_}
 use mathlib.Core.Bool.{Bool, true, false, not}
 use mathlib.Core.List.{List, [], _∷_, _++_, map, flatMap}
@@ -13,7 +14,7 @@ use Rattle.timetable.specs.Types.{Edit, Place, Prepend, Append, DeleteFi
 use Rattle.timetable.specs.Types.{ReportArrival, ReportDeparture, AddRelation, RemoveRelation, DeleteTrain}
 use Rattle.timetable.specs.Tables.{packed}
 use Rattle.timetable.specs.Formats.{Format, done, field, _and-then_, Outcome, accepted, behind, read-file, Range, _to_, compared, row, entries, Placed, placed}
-use Rattle.timetable.specs.NetworkFile.{Listed, network-format, network-of, unjoined, unless-unjoined}
+use Rattle.timetable.specs.NetworkFile.{Listed, network-format, network-of, network-fault, unless-fault}
 
 -- relations
 
@@ -196,7 +197,7 @@ shift-format = network-format and-then (λ x. edits-format and-then (λ es. done
 unfoldable pub read-shift : List ℕ → Outcome Shift
 read-shift file =
     behind (read-file shift-format file) (λ x next.
-    unless-unjoined (unjoined (x .listed)) (accepted (record { network = network-of (x .listed); edits = x .edits }) next))
+    unless-fault (network-fault (x .listed)) (accepted (record { network = network-of (x .listed); edits = x .edits }) next))
 
 -- The key ring of this module: `unfolding opened` opens every definition above.
 unfoldable pub opened : Unit {0}

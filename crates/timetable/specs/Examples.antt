@@ -1,5 +1,5 @@
--- The examples' table: (a) to (k) of document 01 and the listing of `shift`, then the edges that they leave open, as rows of one table with one
--- computed test. Where a row fails, the error shows its place. Assumes nothing.
+-- The examples' table: (a) to (k) of document 01 and the listing of `shift`, then the edges that they leave open, as
+-- rows of one table with one computed test. Where a row fails, the error shows its place. Assumes nothing.
 use mathlib.Core.Path.{_≡_, refl}
 use mathlib.Core.Bool.{true, false}
 use mathlib.Core.List.{List, [], _∷_, _++_}
@@ -154,7 +154,8 @@ edits =
     ∷ answered net (connections 7) (0 ∷ 0 ∷ 0 ∷ 0 ∷ 0 ∷ 0 ∷ 0 ∷ 0 ∷ 0 ∷ 0 ∷ 0 ∷ 0 ∷ 12 ∷ 0 ∷ [])
     -- edit 11 counts what it removes, and is never 9
     ∷ answered net (leaving 7 100 12 ++ (delete-train 7 ∷ delete-train 7 ∷ [])) (0 ∷ 0 ∷ 0 ∷ 0 ∷ 0 ∷ 2 ∷ 0 ∷ 0 ∷ [])
-    -- a relation of two trains vanishes, one of three stays; a dependency with the train vanishes; trains need not visit
+    -- a relation of two trains vanishes, one of three stays; a dependency with the train vanishes; trains need not
+    -- visit
     ∷ related (relate (Connection 5 (two 7 9)) ∷ relate (Disconnection 5 (four 7 8 9 0)) ∷ relate (Dependency 5 (pair 9 7)) ∷ relate (Dependency 6 (pair 7 9)) ∷ delete-train 9 ∷ [])
     (Disconnection 5 (two 7 8) ∷ [])
     -- losing a train moves a relation up in the order
@@ -216,11 +217,13 @@ rules =
     ∷ found net (place 1 7 1 100 102 ∷ append (plan 2 7 1 115 115) 1 1 12 ∷ arrives 2 7 115 ∷ []) (finding (st 1) 9 7 0) false
     ∷ found net (place 1 7 1 100 102 ∷ append (plan 2 7 1 115 115) 1 1 12 ∷ departs 1 7 102 ∷ []) (finding (st 1) 9 7 0) true
     ∷ stands net (standing (tabled (visiting 7 100 false 102 false InLink.Nothing (to 2 1 12) ∷ []) []) (tabled (visiting 7 115 false 115 false InLink.Nothing OutLink.Nothing ∷ []) [])) (finding (st 1) 9 7 0) false
-    -- 10: departs after t is through, or not; the answered arrival counts, else departure + run; at both ends; statuses; the same train; kind 3 only
+    -- 10: departs after t is through, or not; the answered arrival counts, else departure + run; at both ends;
+    -- statuses; the same train; kind 3 only
     ∷ found net (leaving 7 100 12 ++ inbound 8 125) (finding (st 1) 10 7 8) false
     ∷ found net (leaving 7 100 12 ++ inbound 8 124) (finding (st 1) 10 7 8) true
     ∷ found net (leaving 7 100 12 ++ inbound 8 124) (finding (st 2) 10 8 7) true
     ∷ found net (leaving 7 100 12 ++ (place 2 8 1 88 88 ∷ append (plan 1 8 2 99 99) 2 1 12 ∷ [])) (finding (st 1) 10 7 8) false
+    ∷ found net (leaving 7 100 12 ++ (place 2 8 1 88 88 ∷ append (plan 1 8 2 99 101) 2 1 12 ∷ [])) (finding (st 1) 10 7 8) false
     ∷ stands net (standing (tabled (visiting 7 100 false 100 false InLink.Nothing (to 2 1 12) ∷ visiting 8 99 false 99 false InLink.Nothing OutLink.Nothing ∷ []) []) (tabled (visiting 8 88 false 88 false InLink.Nothing (to 1 1 12) ∷ []) [])) (finding (st 1) 10 7 8) true
     ∷ stands net (standing (tabled (visiting 7 100 false 100 false InLink.Nothing (to 2 1 12) ∷ []) []) (tabled (visiting 8 88 false 88 false InLink.Nothing (to 1 1 11) ∷ []) [])) (finding (st 1) 10 7 8) false
     ∷ found net (leaving 7 100 12 ++ inbound 8 100 ++ (departs 2 8 88 ∷ [])) (finding (st 1) 10 7 8) true
@@ -248,6 +251,8 @@ relations =
     -- every two of three
     ∷ found net (place 1 7 1 100 110 ∷ place 1 8 2 105 112 ∷ place 1 9 2 106 120 ∷ relate (Connection 5 (four 7 8 9 0)) ∷ []) (finding (st 1) 4 1 0) true
     ∷ found net (place 1 7 1 100 110 ∷ place 1 8 2 105 112 ∷ place 1 9 2 105 120 ∷ relate (Connection 5 (four 7 8 9 0)) ∷ []) (finding (st 1) 4 1 0) false
+    -- the last two of four
+    ∷ found net (place 1 7 1 100 120 ∷ place 1 8 1 100 120 ∷ place 1 9 1 100 112 ∷ place 1 10 1 108 120 ∷ relate (Connection 5 (four 7 8 9 10)) ∷ []) (finding (st 1) 4 1 0) true
     -- disconnection: the gap either way; both arrived; one that does not stop; one that does not visit
     ∷ found net (place 1 7 1 100 110 ∷ place 1 8 2 114 120 ∷ relate (Disconnection 5 (two 7 8)) ∷ []) (finding (st 1) 4 1 0) true
     ∷ found net (place 1 7 1 100 110 ∷ place 1 8 2 115 120 ∷ relate (Disconnection 5 (two 7 8)) ∷ []) (finding (st 1) 4 1 0) false
@@ -261,6 +266,9 @@ relations =
     ∷ found net (place 1 7 1 100 103 ∷ relate (Dependency 4 (pair 7 7)) ∷ departs 1 7 103 ∷ []) (finding (st 1) 4 1 0) false
     ∷ found net (place 1 7 1 100 103 ∷ place 1 8 2 90 104 ∷ relate (Dependency 4 (pair 7 8)) ∷ []) (finding (st 1) 4 1 0) false
     ∷ found net (place 1 7 1 100 103 ∷ place 1 8 2 90 104 ∷ relate (Dependency 5 (pair 7 8)) ∷ []) (finding (st 1) 4 1 0) true
+    -- the departer has departed, and the arriver alone
+    ∷ found net (place 1 7 1 100 103 ∷ place 1 8 2 90 104 ∷ relate (Dependency 5 (pair 7 8)) ∷ departs 1 8 104 ∷ []) (finding (st 1) 4 1 0) false
+    ∷ found net (place 1 7 1 100 103 ∷ place 1 8 2 90 104 ∷ relate (Dependency 5 (pair 7 8)) ∷ departs 1 7 103 ∷ []) (finding (st 1) 4 1 0) true
     ∷ stands net (standing (tabled (visiting 7 105 true 105 true (by 2 1) (to 2 1 12) ∷ []) (Dependency 0 (pair 7 7) ∷ [])) bare) (finding (st 1) 4 1 0) true
     -- the rank counts the met ones too
     ∷ found net (place 1 7 1 100 110 ∷ relate (Dependency 4 (pair 7 7)) ∷ relate (Dependency 11 (pair 7 7)) ∷ []) (finding (st 1) 4 2 0) true
@@ -347,7 +355,8 @@ files =
     ∷ network-file (bytes-of (2 ∷ 1 ∷ 1 ∷ 2 ∷ 2 ∷ 2 ∷ 1 ∷ 3 ∷ 2 ∷ 2 ∷ 1 ∷ 2 ∷ 3 ∷ 10 ∷ 1 ∷ 1 ∷ 1 ∷ 2 ∷ 3 ∷ 10 ∷ 1 ∷ [])) (3 ∷ 15 ∷ [])
     ∷ network-file (bytes-of (2 ∷ 1 ∷ 1 ∷ 2 ∷ 2 ∷ 2 ∷ 1 ∷ 3 ∷ 2 ∷ 2 ∷ 1 ∷ 2 ∷ 3 ∷ 10 ∷ 1 ∷ 2 ∷ 1 ∷ 2 ∷ 3 ∷ 10 ∷ 1 ∷ [])) (3 ∷ 15 ∷ [])
     ∷ network-file (bytes-of (2 ∷ 1 ∷ 1 ∷ 2 ∷ 2 ∷ 2 ∷ 1 ∷ 3 ∷ 2 ∷ 2 ∷ 1 ∷ 2 ∷ 3 ∷ 10 ∷ 1 ∷ 3 ∷ 1 ∷ 2 ∷ 3 ∷ 10 ∷ 1 ∷ [])) (0 ∷ 21 ∷ 2 ∷ 1 ∷ 1 ∷ 2 ∷ 2 ∷ 2 ∷ 1 ∷ 3 ∷ 2 ∷ 2 ∷ 1 ∷ 2 ∷ 3 ∷ 10 ∷ 1 ∷ 3 ∷ 1 ∷ 2 ∷ 3 ∷ 10 ∷ 1 ∷ [])
-    -- equal ends, ends not listed: at the line's first byte, but a faulty number or a byte too many behind it comes first
+    -- equal ends, ends not listed: at the line's first byte, but a faulty number or a byte too many behind it comes
+    -- first
     ∷ network-file (bytes-of (2 ∷ 1 ∷ 1 ∷ 2 ∷ 2 ∷ 2 ∷ 1 ∷ 3 ∷ 1 ∷ 1 ∷ 1 ∷ 1 ∷ 3 ∷ 10 ∷ 1 ∷ [])) (4 ∷ 9 ∷ [])
     ∷ network-file (bytes-of (2 ∷ 1 ∷ 1 ∷ 2 ∷ 2 ∷ 2 ∷ 1 ∷ 3 ∷ 1 ∷ 1 ∷ 1 ∷ 3 ∷ 3 ∷ 10 ∷ 1 ∷ [])) (4 ∷ 9 ∷ [])
     ∷ network-file (bytes-of (2 ∷ 1 ∷ 1 ∷ 2 ∷ 2 ∷ 2 ∷ 1 ∷ 3 ∷ 1 ∷ 1 ∷ 3 ∷ 1 ∷ 3 ∷ 10 ∷ 1 ∷ [])) (4 ∷ 9 ∷ [])

@@ -1,5 +1,6 @@
--- Formats of files: which numbers stand in a file and which range each has, given those before it. Document 01, "Files" and "Who brings on which number".
--- Every order is a range: its least value depends on the entry before. So one reading finds "the first faulty number by place". Assumes nothing.
+-- Formats of files: which numbers stand in a file and which range each has, given those before it. Document 01, "Files"
+-- and "Who brings on which number". Every order is a range: its least value depends on the entry before. So one reading
+-- finds "the first faulty number by place". Assumes nothing.
 use Prim.Native.Nat.{ℕ, zero, suc, _+_, max}
 use mathlib.Core.Bool.{Bool, true, false}
 use mathlib.Core.List.{List, [], _∷_, flatMap}
@@ -11,7 +12,8 @@ use Rattle.numbers.specs.Numbers.{read-number, write-number}
 use Rattle.numbers.specs.declared.Reading.{Reading}
 use Rattle.numbers.specs.declared.Reading.the-variants.{Value, Refused}
 
--- what is read next: nothing more, and the value is there; a number of lo..hi, and then what it calls for; or what the place reached calls for
+-- what is read next: nothing more, and the value is there; a number of lo..hi, and then what it calls for; or what the
+-- place reached calls for
 pub data Format (A : Type 0) : Type 0 where
   done : A → Format A
   field : ℕ → ℕ → (ℕ → Format A) → Format A
@@ -21,6 +23,20 @@ pub data Format (A : Type 0) : Type 0 where
 pub data Outcome (A : Type 0) : Type 0 where
   accepted : A → ℕ → Outcome A
   refused : ℕ → ℕ → Outcome A
+
+-- document 01's number and place: "An answer is a refusal number or 0"; beside 0 the place behind the value
+unfoldable pub number : {A : Type 0} → Outcome A → ℕ
+number (accepted a next) = 0
+number (refused k p) = k
+
+unfoldable pub place-of : {A : Type 0} → Outcome A → ℕ
+place-of (accepted a next) = next
+place-of (refused k p) = p
+
+-- the value, or what stands for it beside a refusal
+unfoldable pub value-or : {A : Type 0} → A → Outcome A → A
+value-or d (accepted a next) = a
+value-or d (refused k p) = d
 
 infixl 20 _and-then_
 -- the one format, and then that which its value calls for
@@ -73,8 +89,9 @@ infix 80 _to_
 abbrev pub _to_ : ℕ → ℕ → Range
 lo to hi = record { lo = lo; hi = hi }
 
--- `bar` is what is left of the entry before's numbers to compare with, [] where an earlier number is above its namesake. "In an entry out of order the faulty number
--- is the first that falls below the entry before; in an equal one, the last number compared."
+-- `bar` is what is left of the entry before's numbers to compare with, [] where an earlier number is above its
+-- namesake. "In an entry out of order the faulty number is the first that falls below the entry before; in an equal
+-- one, the last number compared."
 unfoldable pub least : ℕ → List ℕ → ℕ
 least lo [] = lo
 least lo (b ∷ []) = max lo (b + 1)
@@ -110,5 +127,5 @@ placed f = here (λ p. f and-then (λ a. done (record { place = p; entry = a }))
 
 -- The key ring of this module: `unfolding opened` opens every definition above.
 unfoldable pub opened : Unit {0}
-unfolding _and-then_ placed-field field-at behind read ended read-file bytes-of least bar-after compared row entries placed
+unfolding number place-of value-or _and-then_ placed-field field-at behind read ended read-file bytes-of least bar-after compared row entries placed
 opened = tt

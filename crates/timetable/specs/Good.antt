@@ -1,4 +1,5 @@
--- Good tables and whole timetables: document 01, "Sheets and division", apart from the layout of bytes. Assumes nothing.
+-- Good tables and whole timetables: document 01, "Sheets and division", apart from the layout of bytes. Assumes
+-- nothing.
 use Prim.Native.Nat.{ℕ}
 use mathlib.Core.Bool.{Bool, true, false, not, _&&_}
 use mathlib.Core.List.{List, [], _∷_, map}
@@ -8,7 +9,7 @@ use lib.ListN.{length}
 use Rattle.base.specs.Lists.{every, each-two, rising}
 use Rattle.railway.specs.Ranges.{station-ok, train-ok, track-ok, line-ok, minute-ok, run-ok}
 use Rattle.railway.specs.Relations.{relation-ok, precedes}
-use Rattle.railway.specs.Networks.{listed, track-known, runs}
+use Rattle.network.specs.Networks.{listed, track-known, runs}
 use Rattle.timetable.specs.Types.{Station, Inward, Outward, Visit, Relation, Network}
 use Rattle.timetable.specs.Visits.{ins, outs}
 use Rattle.timetable.specs.Tables.{Entry, Table, empty}

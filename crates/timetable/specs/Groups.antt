@@ -1,5 +1,5 @@
--- Which stations and groups an edit names, and timetables divided by groups of stations: document 01, "Sheets and division", for any grouping.
--- Areas are one use of it: the grouping `area-of n`. Assumes nothing.
+-- Which stations and groups an edit names, and timetables divided by groups of stations: document 01, "Sheets and
+-- division", for any grouping. Areas are one use of it: the grouping `area-of n`. Assumes nothing.
 use Prim.Native.Nat.{ℕ}
 use mathlib.Core.Bool.{Bool, true, false, _&&_, _||_}
 use mathlib.Core.List.{List, [], _∷_}
@@ -7,11 +7,10 @@ use lib.Dec.{ltb, eqb}
 use Rattle.base.specs.Choice.{if_then_else_}
 use Rattle.base.specs.Lists.{any}
 use Rattle.railway.specs.Ranges.{same-station}
-use Rattle.railway.specs.Edits.{edit-ok}
-use Rattle.railway.specs.Networks.{stations-of, listed, area-of}
+use Rattle.network.specs.Networks.{stations-of, listed, area-of}
 use Rattle.timetable.specs.Types.{Station, Network, Edit, Answer}
 use Rattle.timetable.specs.Tables.{empty}
-use Rattle.timetable.specs.Machine.{Timetable, Action, Meaning, local, throughout, meaning, known, answer, after}
+use Rattle.timetable.specs.Machine.{Timetable, Action, Meaning, local, throughout, meaning, known, sound, answer, after}
 
 -- the group of each station, 0 where it is in none
 abbrev pub Grouping : Type 0
@@ -26,9 +25,10 @@ unfoldable pub reaches : Network → Meaning → Station → Bool
 reaches n (local a) k = known n a && (same-station k (a .home) || same-station k (a .away))
 reaches n (throughout t) k = listed n k
 
--- the stations of "An edit names the areas of its stations s and p; edit 11 names every area with a station; one refused with 3 or 7 names none."
+-- the stations of "An edit names the areas of its stations s and p; edit 11 names every area with a station; one
+-- refused with 3 or 7 names none."
 unfoldable pub names : Network → Edit → Station → Bool
-names n e k = edit-ok e && reaches n (meaning e) k
+names n e k = sound e && reaches n (meaning e) k
 
 -- the groups of those stations
 unfoldable pub names-group : Network → Grouping → Edit → ℕ → Bool
@@ -56,7 +56,8 @@ merge γ d = λ k. if ltb 0 (γ k) then d (γ k) k else empty
 unfoldable pub gather : Grouping → (ℕ → Bool) → Divided → Timetable
 gather γ p d = λ k. if p (γ k) then merge γ d k else empty
 
--- an edit on a division: the central machine on the named groups. "It reads and changes only the sheets of those areas."
+-- an edit on a division: the central machine on the named groups. "It reads and changes only the sheets of those
+-- areas."
 unfoldable pub divided-answer : Network → Grouping → Edit → Divided → Answer
 divided-answer n γ e d = answer n e (gather γ (names-group n γ e) d)
 

@@ -1,10 +1,11 @@
--- The input of `inspect`: a network file and then a timetable file, in one. Document 01, "Files" and "Who brings on which number". Assumes nothing.
+-- The input of `inspect`: a network file and then a timetable file, in one. Document 01, "Files" and "Who brings on
+-- which number". Assumes nothing.
 use Prim.Native.Nat.{ℕ}
 use mathlib.Core.List.{List}
 use Rattle.timetable.specs.Types.{Network}
 use Rattle.timetable.specs.Machine.{Timetable}
 use Rattle.timetable.specs.Formats.{Format, done, _and-then_, Outcome, accepted, behind, read-file, Placed, placed}
-use Rattle.timetable.specs.NetworkFile.{Listed, network-format, network-of, unjoined, unless-unjoined}
+use Rattle.timetable.specs.NetworkFile.{Listed, network-format, network-of, network-fault, unless-fault}
 use Rattle.timetable.specs.TimetableFile.{Entries, timetable-format, timetable-of}
 
 -- what the file holds, and the place of the timetable's first byte
@@ -28,7 +29,7 @@ inspection x next =
 
 -- "in files the first faulty number by place, then 4"; "A timetable file is then tested for 7 and 12, entry by entry."
 unfoldable pub read-inspect : List ℕ → Outcome Inspection
-read-inspect file = behind (read-file inspect-format file) (λ x next. unless-unjoined (unjoined (x .listed)) (inspection x next))
+read-inspect file = behind (read-file inspect-format file) (λ x next. unless-fault (network-fault (x .listed)) (inspection x next))
 
 -- The key ring of this module: `unfolding opened` opens every definition above.
 unfoldable pub opened : Unit {0}

@@ -1,5 +1,6 @@
 pub mod Types
 pub mod Outputs
+pub mod Refusals
 pub mod Formats
 pub mod Visits
 pub mod Tables

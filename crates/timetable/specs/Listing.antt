@@ -1,5 +1,5 @@
--- What the program `shift` prints of a list of edits, as numbers: a line is its letter's code and its numbers. Document 01, "A run of the program `shift`".
--- Assumes nothing.
+-- What the program `shift` prints of a list of edits, as numbers: a line is its letter's code and its numbers. Document
+-- 01, "A run of the program `shift`". Assumes nothing.
 use Prim.Native.Nat.{ℕ, _+_}
 use mathlib.Core.List.{List, [], _∷_, _++_, map}
 use lib.ListN.{length}

@@ -1,6 +1,6 @@
--- The central machine: what each edit is refused with, what it changes, and what it answers. Document 01, "The central machine" and "Who brings on which number".
--- An edit sees the tables of its two stations alone, `here` (of s) and `there` (of p); edit 11 sees all. So what is local is local by construction.
--- Assumes nothing.
+-- The central machine: what each edit is refused with, what it changes, and what it answers. Document 01, "The central
+-- machine" and "Who brings on which number". An edit sees the tables of its two stations alone, `here` (of s) and
+-- `there` (of p); edit 11 sees all. So what is local is local by construction. Assumes nothing.
 use Prim.Native.Nat.{ℕ}
 use mathlib.Core.Bool.{Bool, true, false, not, _&&_, _||_}
 use mathlib.Core.List.{List, [], _∷_}
@@ -9,7 +9,7 @@ use Rattle.base.specs.Choice.{if_then_else_, _if_else_}
 use Rattle.base.specs.Lists.{is, count}
 use Rattle.railway.specs.Ranges.{same-station}
 use Rattle.railway.specs.Edits.{edit-ok}
-use Rattle.railway.specs.Networks.{stations-of, listed, track-known, runs}
+use Rattle.network.specs.Networks.{stations-of, listed, track-known, runs}
 use Rattle.timetable.specs.Types.{Station, Train, InLink, OutLink, Network, Answer}
 use Rattle.timetable.specs.Types.{Edit, Place, Prepend, Append, DeleteFirst, DeleteLast, Amend}
 use Rattle.timetable.specs.Types.{ReportArrival, ReportDeparture, AddRelation, RemoveRelation, DeleteTrain}
@@ -37,7 +37,7 @@ pub record Action : Type 0 where
   -- the track and the line are known, and the line runs that way; else 7
   pub fits : Network → Bool
   -- 8 to 12, in document 01's order, by the tables of s and p; or 0
-  pub refuses : Table → Table → ℕ
+  pub refuses : Network → Table → Table → ℕ
   -- the tables of s and of p afterwards
   pub here : Table → Table
   pub there : Table → Table
@@ -50,6 +50,10 @@ pub data Meaning : Type 0 where
   -- edit 11: the train is taken out of every table
   throughout : Train → Meaning
 
+-- "12 a station limit is reached": of one visit more at s
+unfoldable pub room : Network → Station → Table → ℕ
+room n s tab = 12 if full-visits tab else 0
+
 unfoldable pub as-it-was : Table → Table
 as-it-was tab = tab
 
@@ -59,39 +63,39 @@ meaning (Place p) = local (record {
   home = p .station;
   away = p .station;
   fits = λ n. track-known n (p .station) (p .track);
-  refuses = λ here there. 8 if has-visit (p .train) here else 12 if full-visits here else 0;
+  refuses = λ n here there. 8 if has-visit (p .train) here else room n (p .station) here;
   here = add-visit (p .train) (planned p);
   there = as-it-was;
   adds = 1;
   removes = 0;
 })
--- 2. "Prepend (as 1, then p, line, running time): adds (s, t) with out-link to p; the in-link of (p, t), none before, becomes s and that line."
+-- 2. "Prepend (as 1, then p, line, running time): adds (s, t) with out-link to p; the in-link of (p, t), none before,
+-- becomes s and that line."
 meaning (Prepend x) = local (record {
   home = x .plan .station;
   away = x .other;
   fits = λ n. track-known n (x .plan .station) (x .plan .track) && runs n (x .line) (x .plan .station) (x .other);
-  refuses = λ here there.
+  refuses = λ n here there.
       8 if has-visit (x .plan .train) here
       else 9 if not (has-visit (x .plan .train) there)
       else 10 if not (is lacks-in (visit-of (x .plan .train) there))
-      else 12 if full-visits here
-      else 0;
+      else room n (x .plan .station) here;
   here = add-visit (x .plan .train) (with-out (onward (x .other) (x .line) (x .run)) (planned (x .plan)));
   there = change-visit (x .plan .train) (with-in (from (x .plan .station) (x .line)));
   adds = 1;
   removes = 0;
 })
--- 3. "Append (same fields): adds (s, t) with in-link p; the out-link of (p, t), none before, becomes s, line and running time."
+-- 3. "Append (same fields): adds (s, t) with in-link p; the out-link of (p, t), none before, becomes s, line and
+-- running time."
 meaning (Append x) = local (record {
   home = x .plan .station;
   away = x .other;
   fits = λ n. track-known n (x .plan .station) (x .plan .track) && runs n (x .line) (x .other) (x .plan .station);
-  refuses = λ here there.
+  refuses = λ n here there.
       8 if has-visit (x .plan .train) here
       else 9 if not (has-visit (x .plan .train) there)
       else 10 if not (is lacks-out (visit-of (x .plan .train) there))
-      else 12 if full-visits here
-      else 0;
+      else room n (x .plan .station) here;
   here = add-visit (x .plan .train) (with-in (from (x .other) (x .line)) (planned (x .plan)));
   there = change-visit (x .plan .train) (with-out (onward (x .plan .station) (x .line) (x .run)));
   adds = 1;
@@ -102,7 +106,7 @@ meaning (DeleteFirst d) = local (record {
   home = d .station;
   away = d .other;
   fits = λ n. true;
-  refuses = λ here there.
+  refuses = λ n here there.
       9 if not (has-visit (d .train) here && has-visit (d .train) there)
       else 10 if not (is (λ v. is (first-stands (d .station) (d .other) v) (visit-of (d .train) there)) (visit-of (d .train) here))
       else 0;
@@ -116,7 +120,7 @@ meaning (DeleteLast d) = local (record {
   home = d .station;
   away = d .other;
   fits = λ n. true;
-  refuses = λ here there.
+  refuses = λ n here there.
       9 if not (has-visit (d .train) here && has-visit (d .train) there)
       else 10 if not (is (λ v. is (last-stands (d .station) (d .other) v) (visit-of (d .train) there)) (visit-of (d .train) here))
       else 0;
@@ -130,7 +134,7 @@ meaning (Amend p) = local (record {
   home = p .station;
   away = p .station;
   fits = λ n. track-known n (p .station) (p .track);
-  refuses = λ here there.
+  refuses = λ n here there.
       9 if not (has-visit (p .train) here)
       else 11 if is (alters p) (visit-of (p .train) here)
       else 0;
@@ -144,7 +148,7 @@ meaning (ReportArrival r) = local (record {
   home = r .station;
   away = r .station;
   fits = λ n. true;
-  refuses = λ here there. 9 if not (has-visit (r .train) here) else 0;
+  refuses = λ n here there. 9 if not (has-visit (r .train) here) else 0;
   here = change-visit (r .train) (arrived-at (r .time));
   there = as-it-was;
   adds = 0;
@@ -155,7 +159,7 @@ meaning (ReportDeparture r) = local (record {
   home = r .station;
   away = r .station;
   fits = λ n. true;
-  refuses = λ here there. 9 if not (has-visit (r .train) here) else 0;
+  refuses = λ n here there. 9 if not (has-visit (r .train) here) else 0;
   here = change-visit (r .train) (departed-at (r .time));
   there = as-it-was;
   adds = 0;
@@ -166,7 +170,7 @@ meaning (AddRelation r) = local (record {
   home = r .station;
   away = r .station;
   fits = λ n. true;
-  refuses = λ here there. 8 if has-relation (r .relation) here else 12 if full-relations here else 0;
+  refuses = λ n here there. 8 if has-relation (r .relation) here else 12 if full-relations here else 0;
   here = add-relation (r .relation);
   there = as-it-was;
   adds = 0;
@@ -177,7 +181,7 @@ meaning (RemoveRelation r) = local (record {
   home = r .station;
   away = r .station;
   fits = λ n. true;
-  refuses = λ here there. 9 if not (has-relation (r .relation) here) else 0;
+  refuses = λ n here there. 9 if not (has-relation (r .relation) here) else 0;
   here = drop-relation (r .relation);
   there = as-it-was;
   adds = 0;
@@ -193,12 +197,19 @@ unfoldable pub known : Network → Action → Bool
 known n a = (listed n (a .home) && listed n (a .away)) && a .fits n
 
 unfoldable pub refused-as : Network → Meaning → Timetable → ℕ
-refused-as n (local a) m = 7 if not (known n a) else a .refuses (m (a .home)) (m (a .away))
+refused-as n (local a) m = 7 if not (known n a) else a .refuses n (m (a .home)) (m (a .away))
 refused-as n (throughout t) m = 0
 
--- 3, 7, 8 to 12 in this order, or 0
+-- what an edit is refused with by its own values, whatever the network: 3, or 0
+unfoldable pub edit-refusal : Edit → ℕ
+edit-refusal e = 3 if not (edit-ok e) else 0
+
+abbrev pub sound : Edit → Bool
+sound e = eqb (edit-refusal e) 0
+
+-- those, 7, 8 to 12 in this order, or 0
 unfoldable pub refusal : Network → Edit → Timetable → ℕ
-refusal n e m = 3 if not (edit-ok e) else refused-as n (meaning e) m
+refusal n e m = if sound e then refused-as n (meaning e) m else edit-refusal e
 
 -- the state after an edit that is not refused; s last, so that an edit with no p changes s
 unfoldable pub changed : Network → Meaning → Timetable → Timetable
@@ -224,5 +235,5 @@ after n e m = if eqb (refusal n e m) 0 then changed n (meaning e) m else m
 
 -- The key ring of this module: `unfolding opened` opens every definition above.
 unfoldable pub opened : Unit {0}
-unfolding nothing-placed put as-it-was meaning known refused-as refusal changed removed-by added-by answer after
+unfolding nothing-placed put room as-it-was meaning known refused-as edit-refusal refusal changed removed-by added-by answer after
 opened = tt

@@ -1,13 +1,15 @@
--- The network file. Document 01, "Files": "Network: station count, stations rising, headway, line count, lines rising, fields as listed; rising is strict, for
--- stations and lines by their number alone." Assumes nothing.
+-- The network file. Document 01, "Files": "Network: station count, stations rising, headway, line count, lines rising,
+-- fields as listed; rising is strict, for stations and lines by their number alone." Assumes nothing.
 use Prim.Native.Nat.{ℕ, _-_}
 use mathlib.Core.Bool.{Bool, true, false, not}
 use mathlib.Core.List.{List, [], _∷_, _++_, map, flatMap}
 use mathlib.Core.Option.{Option, none, some}
+use lib.Dec.{eqb}
 use lib.ListN.{length, getD, replicate}
+use Rattle.base.specs.Choice.{if_then_else_}
 use Rattle.base.specs.Lists.{first}
-use Rattle.railway.specs.Networks.{station-rows, line-rows, ends-listed}
-use Rattle.timetable.specs.Types.{StationRow, LineRow, Network}
+use Rattle.network.specs.Networks.{station-rows, line-rows, ends-listed}
+use Rattle.timetable.specs.Types.{StationRow, LineRow, Network, Fault}
 use Rattle.timetable.specs.Formats.{Format, done, field, _and-then_, Outcome, accepted, refused, behind, read-file, Range, _to_, row, entries, Placed, placed}
 
 -- rows
@@ -50,7 +52,7 @@ line-entry bar = placed (line-fields bar)
 
 -- the network
 
--- what a network file lists
+-- what a network file lists; a part that is not read yet is empty
 pub record Listed : Type 0 where
   pub stations : List StationRow
   pub headway : ℕ
@@ -69,18 +71,29 @@ stations-format k = entries station-entry station-bar k (0 ∷ [])
 unfoldable pub lines-format : ℕ → Format (List (Placed LineRow))
 lines-format k = entries line-entry line-bar k (0 ∷ [])
 
--- station count, stations, headway, line count, lines: each with what is behind it
-unfoldable pub lines-part : List StationRow → ℕ → ℕ → Format Listed
-lines-part ss h m = lines-format m and-then (λ ls. done (record { stations = ss; headway = h; lines = ls }))
+-- what is listed, with one part more
+unfoldable pub only-stations : List StationRow → Listed
+only-stations ss = record { stations = ss; headway = 0; lines = [] }
 
-unfoldable pub count-part : List StationRow → ℕ → Format Listed
-count-part ss h = field 0 32 (λ m. lines-part ss h m)
+unfoldable pub with-headway : Listed → ℕ → Listed
+with-headway x h = record { stations = x .stations; headway = h; lines = x .lines }
 
-unfoldable pub headway-part : List StationRow → Format Listed
-headway-part ss = field 1 30 (λ h. count-part ss h)
+unfoldable pub with-lines : Listed → List (Placed LineRow) → Listed
+with-lines x ls = record { stations = x .stations; headway = x .headway; lines = ls }
+
+-- station count, stations, headway, line count, lines: each with what is behind it, given what is listed before it. A
+-- part behind the lines takes the place of `done`.
+unfoldable pub lines-part : Listed → ℕ → Format Listed
+lines-part x m = lines-format m and-then (λ ls. done (with-lines x ls))
+
+unfoldable pub count-part : Listed → Format Listed
+count-part x = field 0 32 (λ m. lines-part x m)
+
+unfoldable pub headway-part : Listed → Format Listed
+headway-part x = field 1 30 (λ h. count-part (with-headway x h))
 
 unfoldable pub stations-part : ℕ → Format Listed
-stations-part k = stations-format k and-then (λ ss. headway-part ss)
+stations-part k = stations-format k and-then (λ ss. headway-part (only-stations ss))
 
 unfoldable pub network-format : Format Listed
 network-format = field 1 16 (λ k. stations-part k)
@@ -105,17 +118,30 @@ network-with ss h ls = record {
 unfoldable pub network-of : Listed → Network
 network-of x = network-with (x .stations) (x .headway) (map (λ l. l .entry) (x .lines))
 
+-- the network that stands in an answer beside a refusal
+unfoldable pub blank-network : Network
+blank-network = network-with [] 0 []
+
 -- "4 a line's ends aren't two different listed stations": the first such line
 unfoldable pub unjoined : Listed → Option (Placed LineRow)
 unjoined x = first (λ l. not (ends-listed (network-of x) (l .entry))) (x .lines)
 
--- "in files the first faulty number by place, then 4"; "4, 7, 12: the entry's first"
-unfoldable pub unless-unjoined : {A : Type 0} → Option (Placed LineRow) → Outcome A → Outcome A
-unless-unjoined none o = o
-unless-unjoined (some l) o = refused 4 (l .place)
+-- "4, 7, 12: the entry's first"
+unfoldable pub unjoined-fault : Option (Placed LineRow) → Fault
+unjoined-fault none = record { number = 0; place = 0 }
+unjoined-fault (some l) = record { number = 4; place = l .place }
+
+-- what only the whole network shows: the first such fault by its number and place
+unfoldable pub network-fault : Listed → Fault
+network-fault x = unjoined-fault (unjoined x)
+
+-- "in files the first faulty number by place, then 4": the fault of a file whose numbers are read; number 0 where there
+-- is none
+unfoldable pub unless-fault : {A : Type 0} → Fault → Outcome A → Outcome A
+unless-fault f o = if eqb (f .number) 0 then o else refused (f .number) (f .place)
 
 unfoldable pub read-network : List ℕ → Outcome Network
-read-network file = behind (read-file network-format file) (λ x next. unless-unjoined (unjoined x) (accepted (network-of x) next))
+read-network file = behind (read-file network-format file) (λ x next. unless-fault (network-fault x) (accepted (network-of x) next))
 
 -- writing
 unfoldable pub network-numbers : Network → List ℕ
@@ -126,5 +152,6 @@ network-numbers n =
 -- The key ring of this module: `unfolding opened` opens every definition above.
 unfoldable pub opened : Unit {0}
 unfolding station-ranges station-of station-numbers station-entry line-ranges line-of line-numbers line-fields line-entry station-bar line-bar stations-format lines-format
-    lines-part count-part headway-part stations-part network-format blank-station blank-line network-with network-of unjoined unless-unjoined read-network network-numbers
+    only-stations with-headway with-lines lines-part count-part headway-part stations-part network-format blank-station blank-line network-with network-of
+    blank-network unjoined unjoined-fault network-fault unless-fault read-network network-numbers
 opened = tt

@@ -1,5 +1,6 @@
--- Calls that fill a lent buffer: what they answer and what the buffer then holds. Document 01, "Who brings on which number": "13 the output is too short (its
--- needed length comes along; a longer one keeps its rest)"; "Each leaves all lent bytes untouched". Assumes nothing.
+-- Calls that fill a lent buffer: what they answer and what the buffer then holds. Document 01, "Who brings on which
+-- number": "13 the output is too short (its needed length comes along; a longer one keeps its rest)"; "Each leaves all
+-- lent bytes untouched". Assumes nothing.
 use Prim.Native.Nat.{ℕ, _+_}
 use mathlib.Core.Bool.{Bool, _&&_}
 use mathlib.Core.List.{List, [], _∷_, _++_}
@@ -22,7 +23,8 @@ module _ {X : Type 0} (k : ℕ) (xs : List X) (buffer : List X) where
   unfoldable pub output-after : List X
   output-after = if eqb k 0 && leb (length xs) (length buffer) then xs ++ drop (length xs) buffer else buffer
 
--- numbers written from a place on, those past the end dropped: what a pass over a list does to any buffer, so that a pass over a short one counts
+-- numbers written from a place on, those past the end dropped: what a pass over a list does to any buffer, so that a
+-- pass over a short one counts
 unfoldable pub put : {X : Type 0} → ℕ → List X → List X → List X
 put at [] buffer = buffer
 put at (x ∷ xs) buffer = put (at + 1) xs (set buffer at x)

@@ -19,11 +19,13 @@ expected-arrival v a = if v .arrived then arr v else a
 unfoldable pub expected-departure : Visit → ℕ → ℕ
 expected-departure v a = if v .departed then dep v else if stops v then max (dep v) (a + 1) else a
 
--- "Each visit's row is station, expected arrival, expected departure and lateness: expected less standing arrival, negative if early."
+-- "Each visit's row is station, expected arrival, expected departure and lateness: expected less standing arrival,
+-- negative if early."
 unfoldable pub row : Station → Visit → ℕ → Row
 row s v a = record { station = s; arrival = a; departure = expected-departure v a; lateness = subℕ a (arr v) }
 
--- from a departure on: "the next arrival from that departure, along answered links"; "the next arrival adds the run"; `go-on` gives the rows from an arrival on
+-- from a departure on: "the next arrival from that departure, along answered links"; "the next arrival adds the run";
+-- `go-on` gives the rows from an arrival on
 unfoldable pub from-departure : (Station → ℕ → List Row) → Timetable → Station → Train → Visit → ℕ → List Row
 from-departure go-on m s t v d =
     elim (v .outward) [

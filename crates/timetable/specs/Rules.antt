@@ -1,5 +1,5 @@
--- The rules of document 01, "Findings", one by one, as tests of visits and tables. t and u are the trains, v and w their visits; `here` is the table of
--- s, `there` that of the far station. Assumes nothing.
+-- The rules of document 01, "Findings", one by one, as tests of visits and tables. t and u are the trains, v and w
+-- their visits; `here` is the table of s, `there` that of the far station. Assumes nothing.
 use Prim.Native.Nat.{ℕ, _+_, min, max}
 use mathlib.Core.Bool.{Bool, true, false, not, _&&_, _||_}
 use mathlib.Core.List.{List, [], _∷_, map}
@@ -10,7 +10,7 @@ use Rattle.base.specs.Choice.{if_then_else_}
 use Rattle.base.specs.Lists.{any, every, keep, is, each-two}
 use Rattle.railway.specs.Ranges.{same-station, same-train, same-track, same-line}
 use Rattle.railway.specs.Relations.{used}
-use Rattle.railway.specs.Networks.{line-row}
+use Rattle.network.specs.Networks.{line-row}
 use Rattle.timetable.specs.Types.{Station, Train, Inward, Outward, Visit, Relation, Connection, Disconnection, Dependency, LineRow, Network}
 use Rattle.timetable.specs.Visits.{arr, dep, stops, leaves, comes-from, leaves-to}
 use Rattle.timetable.specs.Tables.{Entry, Table, visit-of}
@@ -54,7 +54,8 @@ depends i v w = (stops v && stops w) && (w .departed || leb (arr v + i) (dep w))
 unfoldable pub both-visit : (Visit → Visit → Bool) → Table → Train → Train → Bool
 both-visit f tab t u = is (λ v. is (f v) (visit-of u tab)) (visit-of t tab)
 
--- "Unmet" is its contrary. "Connection: all visit and stop, and for each two .."; "Disconnection: all visit; of each two .."
+-- "Unmet" is its contrary. "Connection: all visit and stop, and for each two .."; "Disconnection: all visit; of each
+-- two .."
 unfoldable pub met : Table → Relation → Bool
 met tab (Connection i ts) = every (λ t. is stops (visit-of t tab)) (used ts) && each-two (both-visit (connected i) tab) (used ts)
 met tab (Disconnection i ts) = every (λ t. is (λ v. true) (visit-of t tab)) (used ts) && each-two (both-visit (disconnected i) tab) (used ts)
@@ -68,7 +69,8 @@ breaks-5 n = leaves (λ o. is (λ r. ltb (o .run) (r .least)) (line-row n (o .li
 unfoldable pub due : Visit → Outward → ℕ
 due v o = dep v + o .run
 
--- 6. t leaves by o: "trains u have out-links on its line, an earlier departure and departure + run later than t's departure"
+-- 6. t leaves by o: "trains u have out-links on its line, an earlier departure and departure + run later than t's
+-- departure"
 unfoldable pub ahead : Visit → Outward → Visit → Bool
 ahead v o w = leaves (λ q. same-line (q .line) (o .line) && (ltb (dep w) (dep v) && ltb (dep v) (due w q))) w
 
@@ -113,7 +115,8 @@ arrival-of here p u q =
       | some w ↦ if comes-from p (q .line) w then arr w else due (u .visit) q
     ]
 
--- "u leaves the far station on it towards s, and neither arrives before t departs nor departs after t's departure + run": t leaves s by o
+-- "u leaves the far station on it towards s, and neither arrives before t departs nor departs after t's departure +
+-- run": t leaves s by o
 unfoldable pub opposes : Table → Station → Entry → Outward → Entry → Bool
 opposes here s t o u =
     not (same-train (t .train) (u .train))

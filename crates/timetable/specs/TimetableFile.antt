@@ -1,12 +1,13 @@
--- The timetable file. Document 01, "Files": "Timetable: count of visits (0..384), each s, t, track, arrival, status, departure, status, in-link, out-link (fields as
--- listed, or a single 0 for none), rising by s and t alone; count of relations (0..96), each with its station before it, rising." Assumes nothing.
+-- The timetable file. Document 01, "Files": "Timetable: count of visits (0..384), each s, t, track, arrival, status,
+-- departure, status, in-link, out-link (fields as listed, or a single 0 for none), rising by s and t alone; count of
+-- relations (0..96), each with its station before it, rising." Assumes nothing.
 use Prim.Native.Nat.{ℕ}
 use mathlib.Core.Bool.{Bool, true, false, not, _&&_}
 use mathlib.Core.List.{List, [], _∷_, _++_, map, flatMap}
 use lib.Dec.{eqb}
 use lib.ListN.{length, getD}
 use Rattle.base.specs.Choice.{if_then_else_, _if_else_}
-use Rattle.railway.specs.Networks.{stations-of, listed, track-known, network-refusal}
+use Rattle.network.specs.Networks.{stations-of, listed, track-known, network-refusal}
 use Rattle.timetable.specs.Types.{Station, Train, Inward, Outward, InLink, OutLink, Visit, StationRelation, Network}
 use Rattle.timetable.specs.Tables.{Entry, Table, add-visit, add-relation, full-visits, full-relations}
 use Rattle.timetable.specs.Machine.{Timetable, put, nothing-placed}

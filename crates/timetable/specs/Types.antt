@@ -1,4 +1,5 @@
--- The types of the railway and of this crate, under one module for this crate's own files. `Nothing` stands in two enums: write InLink.Nothing and OutLink.Nothing.
+-- The types of the railway and of this crate, under one module for this crate's own files. `Nothing` stands in two
+-- enums: write InLink.Nothing and OutLink.Nothing.
 pub use Rattle.railway.specs.declared.sorts.Station.{Station}
 pub use Rattle.railway.specs.declared.sorts.Train.{Train}
 pub use Rattle.railway.specs.declared.sorts.Track.{Track}
@@ -23,11 +24,12 @@ pub use Rattle.railway.specs.declared.edit.Cancellation.{Cancellation}
 pub use Rattle.railway.specs.declared.edit.Edit.{Edit}
 pub use Rattle.railway.specs.declared.edit.Edit.the-variants.{Place, Prepend, Append, DeleteFirst, DeleteLast, Amend}
 pub use Rattle.railway.specs.declared.edit.Edit.the-variants.{ReportArrival, ReportDeparture, AddRelation, RemoveRelation, DeleteTrain}
-pub use Rattle.railway.specs.declared.network.StationRow.{StationRow}
-pub use Rattle.railway.specs.declared.network.LineRow.{LineRow}
-pub use Rattle.railway.specs.declared.network.Network.{Network}
+pub use Rattle.network.specs.declared.StationRow.{StationRow}
+pub use Rattle.network.specs.declared.LineRow.{LineRow}
+pub use Rattle.network.specs.declared.Network.{Network}
 pub use Rattle.timetable.specs.declared.Answer.{Answer}
 pub use Rattle.timetable.specs.declared.Finding.{Finding}
 pub use Rattle.timetable.specs.declared.Row.{Row}
 pub use Rattle.timetable.specs.declared.Tally.{Tally}
 pub use Rattle.timetable.specs.declared.Output.{Output}
+pub use Rattle.timetable.specs.declared.Fault.{Fault}

@@ -1,5 +1,5 @@
--- A visit's links and times, and a visit with another link or time. Document 01, "The railway and its numbers" and "The central machine".
--- Assumes nothing.
+-- A visit's links and times, and a visit with another link or time. Document 01, "The railway and its numbers" and "The
+-- central machine". Assumes nothing.
 use Prim.Native.Nat.{ℕ, _+_}
 use mathlib.Core.Bool.{Bool, true, false, not, _&&_, _||_}
 use mathlib.Core.List.{List, [], _∷_}
@@ -128,7 +128,8 @@ onward s l r = OutLink.To (record { station = s; line = l; run = r })
 unfoldable pub first-stands : Station → Station → Visit → Visit → Bool
 first-stands s p v w = lacks-in v && leaves (λ o. same-station (o .station) p && comes-from s (o .line) w) v
 
--- edit 5, "the mirror of 4": (s, t) has no out-link and its in-link comes from p; (p, t) has s and that line as out-link
+-- edit 5, "the mirror of 4": (s, t) has no out-link and its in-link comes from p; (p, t) has s and that line as
+-- out-link
 unfoldable pub last-stands : Station → Station → Visit → Visit → Bool
 last-stands s p v w = lacks-out v && comes (λ i. same-station (i .station) p && leaves-to s (i .line) w) v
 

@@ -40,3 +40,10 @@ pub enum Output {
     // 13, with the needed length.
     TooShort(usize),
 }
+
+// What only the whole of a file shows, by document 01's number and the place of its entry's first byte; number 0 where
+// there is none.
+pub struct Fault {
+    pub number: u8,
+    pub place: usize,
+}

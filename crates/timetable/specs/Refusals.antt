@@ -1,0 +1,24 @@
+-- What refuses a call, in document 01's order: "5, 3, 4, 7, 6, 8, 9, 10, 11, 12, 13". Numbers that a request places
+-- straight after 3 come from the call's own values (15, 17, 18, 20) or from the network (14), and before 4; those after
+-- 4 from the network (21). Assumes nothing.
+use Prim.Native.Nat.{ℕ}
+use mathlib.Core.Bool.{Bool, true, false, not, _||_}
+use lib.Dec.{eqb}
+use Rattle.base.specs.Choice.{if_then_else_, _if_else_}
+
+-- the one, or what comes behind it
+unfoldable pub or-else : ℕ → ℕ → ℕ
+or-else k later = if eqb k 0 then later else k
+
+-- before any sheet is looked at: by the call's own values, by the network, then by both (7)
+unfoldable pub early : ℕ → ℕ → ℕ → ℕ
+early own network both = 3 if eqb own 3 || eqb network 3 else or-else own (or-else network both)
+
+-- 5 for buffers that do not fit, what refuses early, 6 for sheets that are not good, then what the sheets say
+unfoldable pub call-refusal : Bool → ℕ → Bool → ℕ → ℕ
+call-refusal fits early good late = 5 if not fits else or-else early (6 if not good else late)
+
+-- The key ring of this module: `unfolding opened` opens every definition above.
+unfoldable pub opened : Unit {0}
+unfolding or-else early call-refusal
+opened = tt
