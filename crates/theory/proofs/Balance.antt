@@ -1,6 +1,6 @@
--- Over every list of edits that the tally counts in full, visits at the start plus added less removed are the visits at the end: each edit balances at each
--- station, since a train has one visit there at most, so it balances in sum over the stations, each listed once; then by induction on the list, from any tally.
--- Assumes nothing.
+-- Over every list of edits that the tally counts in full, visits at the start plus added less removed are the visits at
+-- the end: each edit balances at each station, since a train has one visit there at most, so it balances in sum over
+-- the stations, each listed once; then by induction on the list, from any tally. Assumes nothing.
 use Prim.Native.Nat.{ℕ, suc, _+_}
 use mathlib.Core.Path.{_≡_, refl, sym, _∙_, ap}
 use mathlib.Core.Bool.{Bool, true, false, not, _&&_, _||_}
@@ -19,9 +19,8 @@ use Rattle.railway.specs.declared.sorts.Train.{Train}
 use Rattle.railway.specs.declared.edit.Edit.the-variants.{Place, Prepend, Append, DeleteFirst, DeleteLast, Amend}
 use Rattle.railway.specs.declared.edit.Edit.the-variants.{ReportArrival, ReportDeparture, AddRelation, RemoveRelation, DeleteTrain}
 use Rattle.railway.specs.Ranges.{same-station}
-use Rattle.railway.specs.Edits.{edit-ok}
-use Rattle.railway.specs.Networks.{stations-of, listed}
-use Rattle.railway.proofs.NetworkLaws.{station-number, network-facts, stations-listed}
+use Rattle.network.specs.Networks.{stations-of, listed}
+use Rattle.network.proofs.NetworkLaws.{station-number, network-facts, stations-listed}
 use Rattle.timetable.specs.Tables.{Table, has-visit, add-relation, drop-relation, without}
 use Rattle.timetable.specs.Machine.{Timetable, put, Action, Meaning, local, throughout, as-it-was, meaning, known, refused-as, refusal, changed, removed-by, added-by, answer, after}
 use Rattle.timetable.specs.Good.{Whole}
@@ -30,7 +29,7 @@ use Rattle.timetable.proofs.Locality.{same-station-equal}
 use Rattle.timetable.proofs.TableLaws.{number, table-facts, add-visit-length, change-visit-length, without-length}
 use Rattle.theory.specs.Types.{Station, Edit, Network, Answer, Tally}
 use Rattle.theory.specs.Statements.{TallyBalances}
-use Rattle.theory.proofs.Kept.{after-whole}
+use Rattle.theory.proofs.Kept.{accepted-sound, after-whole}
 
 abbrev size : Table → ℕ
 size tab = length (tab .visits)
@@ -48,7 +47,7 @@ takes-one t here there r o e =
 -- each edit at its two tables
 
 record BalancesTables (a : Action) : Type 0 where
-  here : (here there : Table) → Ordered here → a .refuses here there ≡ 0 → size (a .here here) + a .removes ≡ size here + a .adds
+  here : (n : Network) (here there : Table) → Ordered here → a .refuses n here there ≡ 0 → size (a .here here) + a .removes ≡ size here + a .adds
   there : (tab : Table) → size (a .there tab) ≡ size tab
 
 abbrev Balancing : Meaning → Type 0
@@ -66,28 +65,28 @@ shrinks s k e = omega arith
 
 balances-each : (e : Edit) → Balancing (meaning e)
 unfolding meaning as-it-was add-relation drop-relation
-balances-each (Place p) = record { here = λ here there o r. grows (size here) _ (add-visit-length (p .train) _ here); there = λ tab. refl }
+balances-each (Place p) = record { here = λ n here there o r. grows (size here) _ (add-visit-length (p .train) _ here); there = λ tab. refl }
 balances-each (Prepend x) = record {
-  here = λ here there o r. grows (size here) _ (add-visit-length (x .plan .train) _ here);
+  here = λ n here there o r. grows (size here) _ (add-visit-length (x .plan .train) _ here);
   there = λ tab. change-visit-length (x .plan .train) _ tab;
 }
 balances-each (Append x) = record {
-  here = λ here there o r. grows (size here) _ (add-visit-length (x .plan .train) _ here);
+  here = λ n here there o r. grows (size here) _ (add-visit-length (x .plan .train) _ here);
   there = λ tab. change-visit-length (x .plan .train) _ tab;
 }
 balances-each (DeleteFirst d) = record {
-  here = λ here there o r. shrinks (size here) _ (takes-one (d .train) here there _ o r);
+  here = λ n here there o r. shrinks (size here) _ (takes-one (d .train) here there _ o r);
   there = λ tab. change-visit-length (d .train) _ tab;
 }
 balances-each (DeleteLast d) = record {
-  here = λ here there o r. shrinks (size here) _ (takes-one (d .train) here there _ o r);
+  here = λ n here there o r. shrinks (size here) _ (takes-one (d .train) here there _ o r);
   there = λ tab. change-visit-length (d .train) _ tab;
 }
-balances-each (Amend p) = record { here = λ here there o r. stays (size here) _ (change-visit-length (p .train) _ here); there = λ tab. refl }
-balances-each (ReportArrival q) = record { here = λ here there o r. stays (size here) _ (change-visit-length (q .train) _ here); there = λ tab. refl }
-balances-each (ReportDeparture q) = record { here = λ here there o r. stays (size here) _ (change-visit-length (q .train) _ here); there = λ tab. refl }
-balances-each (AddRelation q) = record { here = λ here there o r. refl; there = λ tab. refl }
-balances-each (RemoveRelation q) = record { here = λ here there o r. refl; there = λ tab. refl }
+balances-each (Amend p) = record { here = λ n here there o r. stays (size here) _ (change-visit-length (p .train) _ here); there = λ tab. refl }
+balances-each (ReportArrival q) = record { here = λ n here there o r. stays (size here) _ (change-visit-length (q .train) _ here); there = λ tab. refl }
+balances-each (ReportDeparture q) = record { here = λ n here there o r. stays (size here) _ (change-visit-length (q .train) _ here); there = λ tab. refl }
+balances-each (AddRelation q) = record { here = λ n here there o r. refl; there = λ tab. refl }
+balances-each (RemoveRelation q) = record { here = λ n here there o r. refl; there = λ tab. refl }
 balances-each (DeleteTrain c) = tt
 
 -- the stations
@@ -102,7 +101,7 @@ module _ (n : Network) (rise : T (each-two (smaller station-number) (stations-of
   ordered : (s : Station) → T (listed n s) → Ordered (m s)
   ordered s l = table-facts n s (m s) (w .good s l) .visits .order
 
-  local-size : (a : Action) → BalancesTables a → T (listed n (a .home)) → a .refuses (m (a .home)) (m (a .away)) ≡ 0 → (s : Station)
+  local-size : (a : Action) → BalancesTables a → T (listed n (a .home)) → a .refuses n (m (a .home)) (m (a .away)) ≡ 0 → (s : Station)
       → size (changed n (local a) m s) + at-only (a .home) (a .removes) s ≡ size (m s) + at-only (a .home) (a .adds) s
   unfolding changed put
   local-size a bal h r s = go (same-station s (a .home)) refl (same-station s (a .away)) refl
@@ -110,7 +109,7 @@ module _ (n : Network) (rise : T (each-two (smaller station-number) (stations-of
       go : (x : Bool) → same-station s (a .home) ≡ x → (y : Bool) → same-station s (a .away) ≡ y
           → size (if x then a .here (m (a .home)) else if y then a .there (m (a .away)) else m s) + (a .removes if x else 0) ≡ size (m s) + (a .adds if x else 0)
       go true p y q =
-          bal .here (m (a .home)) (m (a .away)) (ordered (a .home) h) r
+          bal .here n (m (a .home)) (m (a .away)) (ordered (a .home) h) r
           ∙ ap (λ (k : Station). size (m k) + a .adds) (sym (same-station-equal s (a .home) (true-T (same-station s (a .home)) p)))
       go false p true q =
           ap (λ (k : ℕ). k + 0) (bal .there (m (a .away)) ∙ ap (λ (k : Station). size (m k)) (sym (same-station-equal s (a .away) (true-T (same-station s (a .away)) q))))
@@ -120,9 +119,9 @@ module _ (n : Network) (rise : T (each-two (smaller station-number) (stations-of
       → sum (λ s. size (changed n μ m s)) (stations-of n) + removed-by n μ m ≡ sum (λ s. size (m s)) (stations-of n) + added-by μ
   unfolding changed removed-by added-by refused-as known listed
   sizes (local a) bal r =
-      let known-here : T (known n a) = held 6 (known n a) (a .refuses (m (a .home)) (m (a .away))) r in
+      let known-here : T (known n a) = held 6 (known n a) (a .refuses n (m (a .home)) (m (a .away))) r in
       let home : T (listed n (a .home)) = search parts in
-      let fine : a .refuses (m (a .home)) (m (a .away)) ≡ 0 = rest-passed 6 (not (known n a)) (a .refuses (m (a .home)) (m (a .away))) r in
+      let fine : a .refuses n (m (a .home)) (m (a .away)) ≡ 0 = rest-passed 6 (not (known n a)) (a .refuses n (m (a .home)) (m (a .away))) r in
       omega (
         arith,
         sum-once station-number (a .home .0) (a .removes) (stations-of n) rise home,
@@ -144,13 +143,13 @@ module _ (n : Network) (rise : T (each-two (smaller station-number) (stations-of
 
   -- "visits at the start plus added less removed are the visits at the end", for one edit, accepted or refused
   pub one-balances : (e : Edit) → visit-count n (after n e m) + answer n e m .removed ≡ visit-count n m + (added-by (meaning e) if eqb (answer n e m .refusal) 0 else 0)
-  unfolding visit-count after answer refusal
+  unfolding visit-count after answer
   one-balances e = go (eqb (refusal n e m) 0) refl
     where
       go : (b : Bool) → eqb (refusal n e m) 0 ≡ b
           → sum (λ s. size ((if b then changed n (meaning e) m else m) s)) (stations-of n) + (if b then removed-by n (meaning e) m else 0)
           ≡ sum (λ s. size (m s)) (stations-of n) + (added-by (meaning e) if b else 0)
-      go true p = sizes (meaning e) (balances-each e) (rest-passed 2 (not (edit-ok e)) (refused-as n (meaning e) m) (eqb-true (refusal n e m) 0 p))
+      go true p = sizes (meaning e) (balances-each e) (accepted-sound n e m (eqb-true (refusal n e m) 0 p) .1)
       go false p = refl
 
 -- the tally

@@ -1,6 +1,7 @@
--- Demand 3, put together: the reordered edits on the division are the reordered edits on the whole (same-order), which are those of the first order (any-order);
--- the central machine leaves a whole timetable (run-whole), so that merging its division gives it back (round-trip) and its findings are shared out
--- (findings-shared). The areas of a good network are a grouping (areas-group). Assumes nothing.
+-- Demand 3, put together: the reordered edits on the division are the reordered edits on the whole (same-order), which
+-- are those of the first order (any-order); the central machine leaves a whole timetable (run-whole), so that merging
+-- its division gives it back (round-trip) and its findings are shared out (findings-shared). The areas of a good
+-- network are a grouping (areas-group). Assumes nothing.
 use mathlib.Core.Path.{_≡_, _∙_, ap}
 use Rattle.base.specs.Runs.{run}
 use Rattle.timetable.specs.Machine.{Timetable, after}

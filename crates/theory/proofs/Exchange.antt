@@ -1,27 +1,25 @@
--- Edits that read and change only the places that they touch may be reordered, as long as every two that name a common group keep their order, where two edits that
--- name no common group touch no common place: each edit answers the same (`same-answers`), and the last state is the same (`same-state`).
--- The proof goes by the first edit. Whatever the new order has before it does not meet it, so that it may as well be done first (`run-first`, `answers-first`);
--- without it, and with every position less by one, the new order is one of the edits that are left (`rest-reordering`). Assumes nothing.
-use mathlib.Core.Path.{_≡_, refl, sym, ap, _∙_, fun-ext}
+-- Edits that read and change only the places that they touch may be reordered, as long as every two that name a common
+-- group keep their order, where two edits that name no common group touch no common place: each edit answers the same
+-- (`same-answers`), and the last state is the same (`same-state`). The proof goes by the first edit. Whatever the new
+-- order has before it does not meet it, so that it may as well be done first (`run-first`, `answers-first`); without
+-- it, and with every position less by one, the new order is one of the edits that are left (`rest-reordering`). Assumes
+-- nothing.
+use mathlib.Core.Path.{_≡_, refl, sym, ap, _∙_}
 use mathlib.Core.Bool.{Bool}
 use mathlib.Core.List.{List, [], _∷_, flatMap}
 use Prim.Native.Nat.{ℕ, zero, suc, _<_}
 use native.Mathlib.Omega.{arith}
-use lib.Dec.{T}
 use lib.ListN.{length}
 use Rattle.base.specs.Lists.{count}
 use Rattle.base.specs.Runs.{run, answers}
-use Rattle.base.proofs.Tests.{by-test}
 use Rattle.theory.specs.Reordering.{times, place, at, along, Meet, Reordering}
+use Rattle.theory.proofs.Local.{LocalStep, Apart, turned, unseen, commute}
 use Rattle.theory.proofs.Positions.{rest, times-rest, times-zero-suc, place-rest, place-head, place-zero-suc, place-cons}
 use Rattle.theory.proofs.Positions.{at-both, along-nil, along-rest, along-cons, along-zero, along-suc}
 
 -- the first edit of a reordering
 
-module _ {Edit : Type 0} (names : Edit → ℕ → Bool) where
-  swap : (e f : Edit) → ¬ Meet names e f → ¬ Meet names f e
-  swap e f h m = h (m .0, m .2, m .1)
-
+module _ {Edit Group : Type 0} (names : Edit → Group → Bool) where
   -- the edits that ps has before e, which is the first, do not meet it
   unfoldable Free : Edit → List Edit → List ℕ → Type 0
   Free e es ps = (j : ℕ) (f : Edit) → at es j ≡ f ∷ [] → place (suc j) ps < place 0 ps → ¬ Meet names e f
@@ -49,31 +47,9 @@ module _ {Edit : Type 0} (names : Edit → ℕ → Bool) where
           in-order = λ i j x y p q h m. place-rest i j ps (R .in-order (suc i) (suc j) x y p q (omega arith) m);
         }
 
--- what an edit may read and change
-
--- an edit reads and changes only the places that it touches
-pub record LocalStep {Edit Place Part Answer : Type 0} (touches : Edit → Place → Bool)
-    (step : Edit → (Place → Part) → Place → Part) (answer : Edit → (Place → Part) → Answer) : Type 0 where
-  pub same-answer : (e : Edit) (st st′ : Place → Part) → ((k : Place) → T (touches e k) → st k ≡ st′ k) → answer e st ≡ answer e st′
-  pub same-change : (e : Edit) (st st′ : Place → Part) → ((k : Place) → T (touches e k) → st k ≡ st′ k)
-      → (k : Place) → T (touches e k) → step e st k ≡ step e st′ k
-  pub others-kept : (e : Edit) (st : Place → Part) (k : Place) → ¬ T (touches e k) → step e st k ≡ st k
-
-module _ {Edit Place Part Answer : Type 0} (touches : Edit → Place → Bool)
+module _ {Edit Place Part Answer Group : Type 0} (touches : Edit → Place → Bool)
     (step : Edit → (Place → Part) → Place → Part) (answer : Edit → (Place → Part) → Answer) (L : LocalStep touches step answer)
-    (names : Edit → ℕ → Bool) (apart : (e f : Edit) → ¬ Meet names e f → (k : Place) → T (touches e k) → ¬ T (touches f k)) where
-  -- of two edits that name no common group, neither sees the other, and either may go first
-  unseen : (e f : Edit) (st : Place → Part) → ¬ Meet names e f → (k : Place) → T (touches e k) → step f st k ≡ st k
-  unseen e f st h k t = L .others-kept f st k (apart e f h k t)
-
-  commute : (e f : Edit) (st : Place → Part) → ¬ Meet names e f → step e (step f st) ≡ step f (step e st)
-  commute e f st h =
-      fun-ext λ k. by-test (touches e k)
-      (λ t. L .same-change e (step f st) st (unseen e f st h) k t ∙ sym (unseen e f (step e st) h k t))
-      (λ n. L .others-kept e (step f st) k n ∙ by-test (touches f k)
-      (λ u. sym (L .same-change f (step e st) st (unseen f e st (swap names e f h)) k u))
-      (λ m. L .others-kept f st k m ∙ sym (L .others-kept e st k n) ∙ sym (L .others-kept f (step e st) k m)))
-
+    (names : Edit → Group → Bool) (apart : (e f : Edit) → ¬ Meet names e f → Apart touches e f) where
   module _ (e : Edit) (es : List Edit) where
     run-first : (ps : List ℕ) (st : Place → Part) → times 0 ps ≡ 1 → Free names e es ps
         → run step (along (e ∷ es) ps) st ≡ run step (along es (rest ps)) (step e st)
@@ -86,7 +62,7 @@ module _ {Edit Place Part Answer : Type 0} (touches : Edit → Place → Bool)
         at-both es es refl p
         (λ q q′. rw (along-suc e es p ps, along-cons es p (rest ps), q) (later st))
         (λ f f′ q q′. rw (along-suc e es p ps, along-cons es p (rest ps), q)
-        (later (step f st) ∙ ap (run step (along es (rest ps))) (commute e f st (free-head names e es p ps f q free))))
+        (later (step f st) ∙ ap (run step (along es (rest ps))) (commute touches step answer L e f st (apart e f (free-head names e es p ps f q free)))))
 
     -- B is what the other edits answer once the first is done
     answers-first : (B : List Answer) → length es ≡ length B → (ps : List ℕ) (st : Place → Part) → times 0 ps ≡ 1 → Free names e es ps
@@ -105,10 +81,10 @@ module _ {Edit Place Part Answer : Type 0} (touches : Edit → Place → Bool)
         (λ f b r r′.
         let told : answer f (step e st) ∷ answers step answer (along es (rest ps)) (step f (step e st)) ≡ b ∷ along B (rest ps) =
         rw (along-cons es p (rest ps), along-cons B p (rest ps), r, r′) at q in
-        let free-of = free-head names e es p ps f r free in
-        let swapped = commute e f st free-of in
-        let e-same = L .same-answer e (step f st) st (unseen e f st free-of) in
-        let f-same = L .same-answer f (step e st) st (unseen f e st (swap names e f free-of)) in
+        let off = apart e f (free-head names e es p ps f r free) in
+        let swapped = commute touches step answer L e f st off in
+        let e-same = L .same-answer e (step f st) st (unseen touches step answer L e f st off) in
+        let f-same = L .same-answer f (step e st) st (unseen touches step answer L f e st (turned touches e f off)) in
         let after-f = later (step f st) (cc) in
         rw (along-suc e es p ps, along-suc (answer e st) B p ps, r, r′) (cc))
 

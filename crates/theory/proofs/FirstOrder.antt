@@ -1,5 +1,6 @@
--- The first order is a reordering of every list, whatever its edits name: a list's positions in order, by recursion on the list. Then examples, with edits on a
--- small network: two edits may change places if they name no common area, and may not if they do; no position may stand twice or be left out. Assumes nothing.
+-- The first order is a reordering of every list, whatever its edits name: a list's positions in order, by recursion on
+-- the list. Then examples, with edits on a small network: two edits may change places if they name no common area, and
+-- may not if they do; no position may stand twice or be left out. Assumes nothing.
 use mathlib.Core.Path.{_≡_, refl, ap, _∙_}
 use mathlib.Core.Bool.{Bool, true, false, _&&_, _||_}
 use mathlib.Core.List.{List, [], _∷_, map, flatMap}
@@ -19,16 +20,17 @@ use Rattle.timetable.proofs.Locality.{names-none}
 use Rattle.theory.specs.Types.{Edit, Answer}
 use Rattle.theory.specs.Reordering as Reordering
 use Rattle.theory.specs.Reordering.{times, place, at, along, Meet, Reordering}
+use Rattle.theory.specs.Statements.{FirstOrderIsOne}
 use Rattle.theory.proofs.Positions.{place-head, times-suc-zero, place-suc-zero, times-shift, times-shift-zero, place-shift, at-within, along-zero, along-shift}
 use Rattle.theory.proofs.Divided.{named-group}
 
 -- 0, 1, .. in order
-unfoldable pub positions : ℕ → List ℕ
+unfoldable positions : ℕ → List ℕ
 positions zero = []
 positions (suc n) = 0 ∷ map suc (positions n)
 
 -- read along them, a list is as it stands
-pub along-positions : {A : Type 0} (l : List A) → along l (positions (length l)) ≡ l
+along-positions : {A : Type 0} (l : List A) → along l (positions (length l)) ≡ l
 unfolding positions along flatMap
 along-positions [] = refl
 along-positions (x ∷ l) = along-zero x l (map suc (positions (length l))) ∙ ap (λ (k : List _). x ∷ k) (along-shift x l (positions (length l)) ∙ along-positions l)
@@ -36,7 +38,7 @@ along-positions (x ∷ l) = along-zero x l (map suc (positions (length l))) ∙ 
 head-same : {A : Type 0} {x y : A} → x ∷ [] ≡ y ∷ [] → x ≡ y
 head-same q = cc
 
-module _ {Edit : Type 0} (names : Edit → ℕ → Bool) where
+module _ {Edit Group : Type 0} (names : Edit → Group → Bool) where
   -- one more edit in front, which stays there
   first-stays : (e : Edit) (es : List Edit) (ps : List ℕ) → Reordering names es ps → Reordering names (e ∷ es) (0 ∷ map suc ps)
   unfolding at count
@@ -57,8 +59,7 @@ module _ {Edit : Type 0} (names : Edit → ℕ → Bool) where
       order (suc i) (suc j) x y p q h m =
           omega (arith, place-suc-zero i (map suc ps), place-suc-zero j (map suc ps), place-shift i ps, place-shift j ps, R .in-order i j x y p q (omega arith) m)
 
-  -- "the first order is one too"
-  pub first-order : (es : List Edit) → Reordering names es (positions (length es))
+  first-order : (es : List Edit) → Reordering names es (positions (length es))
   unfolding positions count at
   first-order [] = record {
     once = λ i h. absurd (omega arith);
@@ -68,7 +69,7 @@ module _ {Edit : Type 0} (names : Edit → ℕ → Bool) where
   first-order (e ∷ es) = first-stays e es (positions (length es)) (first-order es)
 
   -- two edits that name no common group may change places
-  pub exchanged : (e f : Edit) → ¬ Meet names e f → Reordering names (e ∷ f ∷ []) (1 ∷ 0 ∷ [])
+  exchanged : (e f : Edit) → ¬ Meet names e f → Reordering names (e ∷ f ∷ []) (1 ∷ 0 ∷ [])
   unfolding at count place
   exchanged e f apart = record { once = once; nothing-else = none; in-order = order }
     where
@@ -89,9 +90,14 @@ module _ {Edit : Type 0} (names : Edit → ℕ → Bool) where
       order zero (suc (suc j)) x y p q h m = absurd (omega (arith, at-within (e ∷ f ∷ []) (suc (suc j)) y q))
       order (suc i) j x y p q h m = absurd (omega (arith, at-within (e ∷ f ∷ []) j y q))
 
+-- "the first order is one too"
+pub first-order-is-one : FirstOrderIsOne
+first-order-is-one n γ es = (positions (length es), first-order (names-group n γ) es, along-positions es)
+
 -- examples, on the network of document 01's listing: station 1 in area 1, station 2 in area 2
 
--- visits at station 1 and at station 2, one at station 2 that is linked to the first, and one at a station that is not listed
+-- visits at station 1 and at station 2, one at station 2 that is linked to the first, and one at a station that is not
+-- listed
 abbrev at-one : Edit
 at-one = placed 1 7 1 100 102
 

@@ -1,11 +1,12 @@
--- An edit keeps a whole timetable whole: each edit's two new tables are good where the edit is in range, known and not refused, the other tables stay, and only
--- listed stations get a new table. A refused edit changes nothing. Assumes nothing.
+-- An edit keeps a whole timetable whole: each edit's two new tables are good where the edit is in range, known and not
+-- refused, the other tables stay, and only listed stations get a new table. A refused edit changes nothing. Assumes
+-- nothing.
 use Prim.Native.Nat.{ℕ}
 use mathlib.Core.Path.{_≡_, refl}
 use mathlib.Core.Bool.{Bool, true, false, not}
 use mathlib.Core.List.{List, [], _∷_}
-use lib.Dec.{T, eqb, T-not}
-use borrow.Author.Tests.{eqb-true, ne-eqb}
+use lib.Dec.{T, eqb, T-not, eqb→eq}
+use borrow.Author.Tests.{eqb-true, eqb-false, ne-eqb}
 use Rattle.base.specs.Choice.{if_then_else_, _if_else_}
 use Rattle.base.specs.Lists.{every, is, each-two, rising}
 use Rattle.base.specs.Runs.{run}
@@ -20,10 +21,10 @@ use Rattle.railway.specs.declared.edit.Edit.the-variants.{ReportArrival, Report
 use Rattle.railway.specs.Ranges.{station-ok, train-ok, track-ok, line-ok, minute-ok, run-ok, same-station}
 use Rattle.railway.specs.Relations.{relation-ok}
 use Rattle.railway.specs.Edits.{plan-ok, extension-ok, report-ok, station-relation-ok, edit-ok}
-use Rattle.railway.specs.Networks.{listed, track-known, runs}
+use Rattle.network.specs.Networks.{listed, track-known, runs}
 use Rattle.timetable.specs.Visits.{lacks-in, lacks-out, with-in, with-out, planned, amended, arrived-at, departed-at, from, onward}
 use Rattle.timetable.specs.Tables.{Table, empty, visit-of, has-visit, has-relation, without, full-visits, full-relations}
-use Rattle.timetable.specs.Machine.{Timetable, nothing-placed, put, Action, Meaning, local, throughout, as-it-was, meaning, known, refused-as, refusal, changed, after}
+use Rattle.timetable.specs.Machine.{Timetable, nothing-placed, put, Action, Meaning, local, throughout, as-it-was, room, meaning, known, refused-as, edit-refusal, sound, refusal, changed, after}
 use Rattle.timetable.specs.Good.{in-good, out-good, visits-good, relations-good, table-good, Whole}
 use Rattle.timetable.proofs.Locality.{same-station-equal}
 use Rattle.timetable.proofs.TableLaws.{GoodTable, GoodVisit, table-facts, table-fits, add-visit-good, change-visit-good, add-relation-good, drop-relation-good, without-good}
@@ -67,9 +68,14 @@ added-relation q h = search parts
 plan-good : (n : Network) (p : Plan) → GoodPlan p → T (track-known n (p .station) (p .track)) → GoodVisit n (p .station) (planned p)
 plan-good n p g k = planned-good n (p .station) p (both (track-ok (p .track)) (track-known n (p .station) (p .track)) (g .track) k) (g .arrival) (g .departure)
 
--- edits 2 and 3 that are not refused: there is room
-room : (b c d f : Bool) → (8 if b else 9 if c else 10 if d else 12 if f else 0) ≡ 0 → f ≡ false
-room b c d f e = passed 11 f 0 (rest-passed 9 d _ (rest-passed 8 c _ (rest-passed 7 b _ e)))
+-- edits 1, 2 and 3 that are not refused: there is room
+pub has-room : (n : Network) (s : Station) (tab : Table) → room n s tab ≡ 0 → full-visits tab ≡ false
+unfolding room
+has-room n s tab e = passed 11 (full-visits tab) 0 e
+
+-- past three tests
+pub third : (b c d : Bool) (r : ℕ) → (8 if b else 9 if c else 10 if d else r) ≡ 0 → r ≡ 0
+third b c d r e = rest-passed 9 d _ (rest-passed 8 c _ (rest-passed 7 b _ e))
 
 -- the links of an edit in range on a line that runs are good
 
@@ -86,7 +92,7 @@ out-fits n s o l m h k j i r = search both
 
 -- the new tables are good where the old ones are
 pub record KeepsTables (n : Network) (a : Action) : Type 0 where
-  pub here : (here there : Table) → a .refuses here there ≡ 0 → GoodTable n (a .home) here → GoodTable n (a .home) (a .here here)
+  pub here : (here there : Table) → a .refuses n here there ≡ 0 → GoodTable n (a .home) here → GoodTable n (a .home) (a .here here)
   pub there : (tab : Table) → GoodTable n (a .away) tab → GoodTable n (a .away) (a .there tab)
 
 abbrev pub Keeps : Network → Meaning → Type 0
@@ -101,7 +107,7 @@ keeps n (Place p) h = λ home away fits.
       here = λ here there r.
           add-visit-good n (p .station) (p .train) (planned p) here (g .train)
           (plan-good n p g fits)
-          (passed 7 (has-visit (p .train) here) _ r) (passed 11 (full-visits here) 0 (rest-passed 7 (has-visit (p .train) here) _ r));
+          (passed 7 (has-visit (p .train) here) _ r) (has-room n (p .station) here (rest-passed 7 (has-visit (p .train) here) _ r));
       there = λ tab k. k;
     }
 keeps n (Prepend x) h = λ home away fits.
@@ -115,7 +121,7 @@ keeps n (Prepend x) h = λ home away fits.
           (out-fits n (x .plan .station) (x .other) (x .line) (x .run) (g .other) (g .line) (g .run) away way)
           (plan-good n (x .plan) (g .plan) track))
           (passed 7 (has-visit (x .plan .train) here) _ r)
-          (room (has-visit (x .plan .train) here) (not (has-visit (x .plan .train) there)) (not (is lacks-in (visit-of (x .plan .train) there))) (full-visits here) r);
+          (has-room n (x .plan .station) here (third (has-visit (x .plan .train) here) (not (has-visit (x .plan .train) there)) (not (is lacks-in (visit-of (x .plan .train) there))) _ r));
       there = change-visit-good n (x .other) (x .plan .train) (with-in (from (x .plan .station) (x .line)))
           (λ v. from-good n (x .other) (x .plan .station) (x .line) v (in-fits n (x .other) (x .plan .station) (x .line) (g .plan .station) (g .line) home way));
     }
@@ -130,7 +136,7 @@ keeps n (Append x) h = λ home away fits.
           (in-fits n (x .plan .station) (x .other) (x .line) (g .other) (g .line) away way)
           (plan-good n (x .plan) (g .plan) track))
           (passed 7 (has-visit (x .plan .train) here) _ r)
-          (room (has-visit (x .plan .train) here) (not (has-visit (x .plan .train) there)) (not (is lacks-out (visit-of (x .plan .train) there))) (full-visits here) r);
+          (has-room n (x .plan .station) here (third (has-visit (x .plan .train) here) (not (has-visit (x .plan .train) there)) (not (is lacks-out (visit-of (x .plan .train) there))) _ r));
       there = change-visit-good n (x .other) (x .plan .train) (with-out (onward (x .plan .station) (x .line) (x .run)))
           (λ v. onward-good n (x .other) (x .plan .station) (x .line) (x .run) v
           (out-fits n (x .other) (x .plan .station) (x .line) (x .run) (g .plan .station) (g .line) (g .run) home way));
@@ -175,7 +181,7 @@ keeps n (DeleteTrain c) h = tt
 
 module _ (n : Network) (m : Timetable) (w : Whole n m) where
   -- an accepted edit at one or two stations
-  local-whole : (a : Action) → KeepsTables n a → T (listed n (a .home)) → T (listed n (a .away)) → a .refuses (m (a .home)) (m (a .away)) ≡ 0
+  local-whole : (a : Action) → KeepsTables n a → T (listed n (a .home)) → T (listed n (a .away)) → a .refuses n (m (a .home)) (m (a .away)) ≡ 0
       → Whole n (changed n (local a) m)
   unfolding changed put
   local-whole a k h o r = record {
@@ -208,11 +214,11 @@ module _ (n : Network) (m : Timetable) (w : Whole n m) where
   changed-whole : (μ : Meaning) → Keeps n μ → refused-as n μ m ≡ 0 → Whole n (changed n μ m)
   unfolding changed refused-as known
   changed-whole (local a) k r =
-      let fine : T (known n a) = held 6 (known n a) (a .refuses (m (a .home)) (m (a .away))) r in
+      let fine : T (known n a) = held 6 (known n a) (a .refuses n (m (a .home)) (m (a .away))) r in
       let home : T (listed n (a .home)) = search parts in
       let away : T (listed n (a .away)) = search parts in
       local-whole a (k home away (search parts)) home away
-      (rest-passed 6 (not (known n a)) (a .refuses (m (a .home)) (m (a .away))) r)
+      (rest-passed 6 (not (known n a)) (a .refuses n (m (a .home)) (m (a .away))) r)
   changed-whole (throughout t) k r = record { good = λ s l. good s l (listed n s) refl; bare = λ s l. bare s l (listed n s) refl }
     where
       good : (s : Station) → T (listed n s) → (b : Bool) → listed n s ≡ b → T (table-good n s (if b then without t (m s) else m s))
@@ -223,15 +229,28 @@ module _ (n : Network) (m : Timetable) (w : Whole n m) where
       bare s u true e = absurd (T-not (listed n s) u (true-T (listed n s) e))
       bare s u false e = w .bare s u
 
+-- an accepted edit is sound, so its values are in range
+pub sound-ok : (e : Edit) → T (sound e) → T (edit-ok e)
+unfolding edit-refusal
+sound-ok e t = held 2 (edit-ok e) _ (eqb→eq _ 0 t)
+
+pub accepted-sound : (n : Network) (e : Edit) (m : Timetable) → refusal n e m ≡ 0 → T (sound e) × (refused-as n (meaning e) m ≡ 0)
+unfolding refusal
+accepted-sound n e m r = go (sound e) refl r
+  where
+    go : (b : Bool) → sound e ≡ b → (if b then refused-as n (meaning e) m else edit-refusal e) ≡ 0 → T b × (refused-as n (meaning e) m ≡ 0)
+    go true q z = (tt, z)
+    go false q z = absurd (eqb-false (edit-refusal e) 0 q z)
+
 pub after-whole : (n : Network) (m : Timetable) (e : Edit) → Whole n m → Whole n (after n e m)
-unfolding after refusal
+unfolding after
 after-whole n m e w = go (eqb (refusal n e m) 0) refl
   where
     go : (b : Bool) → eqb (refusal n e m) 0 ≡ b → Whole n (if b then changed n (meaning e) m else m)
     go true p =
         let none : refusal n e m ≡ 0 = eqb-true (refusal n e m) 0 p in
-        let in-range : T (edit-ok e) = held 2 (edit-ok e) (refused-as n (meaning e) m) none in
-        changed-whole n m w (meaning e) (keeps n e in-range) (rest-passed 2 (not (edit-ok e)) (refused-as n (meaning e) m) none)
+        let fine = accepted-sound n e m none in
+        changed-whole n m w (meaning e) (keeps n e (sound-ok e (fine .0))) (fine .1)
     go false p = w
 
 pub whole-kept : WholeIsKept

@@ -1,5 +1,9 @@
 pub mod Positions
+pub mod Local
 pub mod Exchange
+pub mod Histories
+pub mod Serialized
+pub mod Split
 pub mod Divided
 pub mod Ordered
 pub mod FirstOrder

@@ -1,6 +1,7 @@
--- The promises about the order and the division of edits: every edit is local (the laws of Locality), any order is the first (Exchange, as edits that name no
--- common group name no common station), edits on a division are the edits on the whole, divisions round-trip (Divided), and a good network's areas are a grouping,
--- since each of its rows has an area of 1..6. Assumes nothing.
+-- The promises about the order and the division of edits: every edit is local (the laws of Locality), any order is the
+-- first (Exchange, as edits that name no common group name no common station), edits on a division are the edits on the
+-- whole, divisions round-trip (Divided), and a good network's areas are a grouping, since each of its rows has an area
+-- of 1..6. Assumes nothing.
 use mathlib.Core.Path.{_≡_, refl, sym}
 use mathlib.Core.Bool.{Bool, true, false, _&&_, _||_}
 use mathlib.Core.List.{List, [], _∷_, map}
@@ -13,16 +14,18 @@ use Rattle.base.specs.Choice.{if_then_else_, _if_else_}
 use Rattle.base.specs.Lists.{any, every, count, first, within}
 use Rattle.base.proofs.Tests.{and-l, and-r, eqb-turned}
 use Rattle.railway.specs.Ranges.{same-station, area-ok, station-ok}
-use Rattle.railway.specs.Networks.{station-rows, stations-of, station-row-ok, listed, station-row, row-area, area-of}
-use Rattle.railway.proofs.NetworkLaws.{network-facts}
-use Rattle.railway.specs.declared.network.StationRow.{StationRow}
+use Rattle.network.specs.Networks.{station-rows, stations-of, station-row-ok, listed, station-row, row-area, area-of}
+use Rattle.network.proofs.NetworkLaws.{network-facts}
+use Rattle.network.specs.declared.StationRow.{StationRow}
 use Rattle.timetable.specs.Machine.{answer, after}
-use Rattle.timetable.specs.Groups.{names, names-group}
+use Rattle.timetable.specs.Tables.{empty}
+use Rattle.timetable.specs.Groups.{names, names-group, merge, gather}
 use Rattle.timetable.proofs.Locality.{same-answer, same-change, others-kept, names-none}
-use Rattle.theory.specs.Types.{Station, Network}
-use Rattle.theory.specs.Statements.{six, EveryEditIsLocal, AnyOrderIsTheFirst, DividedIsWhole, DivisionsRoundTrip, AreasGroup}
-use Rattle.theory.proofs.Exchange.{LocalStep, same-answers, same-state}
-use Rattle.theory.proofs.Divided.{groups-apart, run-divided, answers-divided, merged-back, divided-back, divided-good, merged-whole}
+use Rattle.theory.specs.Types.{Station}
+use Rattle.theory.specs.Statements.{six, EveryEditIsLocal, AnyOrderIsTheFirst, DividedIsWhole, DivisionsRoundTrip, CentresMerge, AreasGroup}
+use Rattle.theory.proofs.Exchange.{same-answers, same-state}
+use Rattle.theory.proofs.Split.{merged-by-centres}
+use Rattle.theory.proofs.Divided.{local-step, groups-apart, run-divided, answers-divided, merged-back, divided-back, divided-good, merged-whole}
 
 pub local : EveryEditIsLocal
 local n e = record {
@@ -31,9 +34,6 @@ local n e = record {
   others-kept = others-kept n e;
   names-none = names-none n e;
 }
-
-local-step : (n : Network) → LocalStep (names n) (after n) (answer n)
-local-step n = record { same-answer = same-answer n; same-change = same-change n; others-kept = others-kept n }
 
 pub any-order : AnyOrderIsTheFirst
 any-order n γ m es ps R = record {
@@ -54,6 +54,10 @@ round-trip n γ gs G = record {
   divided-good = divided-good n γ (G .in-none);
   merged-whole = merged-whole n γ (G .in-none);
 }
+
+pub centres-merge : CentresMerge
+unfolding merge gather
+centres-merge γ c whole d = merged-by-centres empty γ c whole d
 
 -- the areas
 

@@ -1,7 +1,8 @@
--- A test that every finding of a rule at a station would pass, whatever its trains, is passed by every finding listed there. So in a whole timetable both
--- stations of every finding are listed: the station is one of the network's, and a good link leads to a listed one. Assumes nothing.
-use Prim.Native.Nat.{ℕ, _+_, _≤_}
-use mathlib.Core.Bool.{Bool, true, false, not, _&&_}
+-- A test that every finding of a rule at a station would pass, whatever its trains, is passed by every finding listed
+-- there. So in a whole timetable both stations of every finding are listed: the station is one of the network's, and a
+-- good link leads to a listed one. Assumes nothing.
+use Prim.Native.Nat.{ℕ, suc, _+_, _≤_}
+use mathlib.Core.Bool.{Bool, true, false, _&&_}
 use mathlib.Core.List.{List, [], _∷_, flatMap}
 use native.Mathlib.Omega.{arith}
 use lib.Dec.{T}
@@ -12,14 +13,14 @@ use Rattle.railway.specs.declared.visit.Inward.{Inward}
 use Rattle.railway.specs.declared.visit.Outward.{Outward}
 use Rattle.railway.specs.declared.visit.Visit.{Visit}
 use Rattle.railway.specs.declared.relation.Relation.{Relation}
-use Rattle.railway.specs.Networks.{stations-of, listed}
-use Rattle.railway.proofs.NetworkLaws.{stations-listed}
+use Rattle.network.specs.Networks.{stations-of, listed}
+use Rattle.network.proofs.NetworkLaws.{stations-listed}
 use Rattle.timetable.specs.Visits.{ins, outs}
 use Rattle.timetable.specs.Tables.{Entry, Table}
 use Rattle.timetable.specs.Machine.{Timetable}
 use Rattle.timetable.specs.Good.{in-good, out-good, entry-good, table-good, Whole}
-use Rattle.timetable.specs.Rules.{met}
-use Rattle.timetable.specs.Findings.{Spanning, finding, one, by-one, by-two, unmet, own, by-out, by-in, rule-7, rule-8, rule-9, rule-10, across, spanning}
+use Rattle.timetable.specs.Findings.{Spanning, finding, one, by-one, by-two, by-rank, by-out, by-in, Rule, of-one, of-two, of-relation, of-out, of-in, of-facing}
+use Rattle.timetable.specs.Findings.{rules, found-by, found-by-all, at-station, spanning}
 use Rattle.timetable.proofs.Partition.{spans}
 use Rattle.timetable.proofs.TableLaws.{GoodVisit, visit-facts, table-facts}
 use Rattle.theory.specs.Types.{Station, Network}
@@ -54,10 +55,10 @@ module _ (q : Spanning → Bool) where
   every-ones f s p rule a c h bs =
       every-each q _ (λ b. every-one (f b) s p rule (a b) (c b) (h b)) bs
 
-  pub every-by-one : (rule : ℕ) (f : Entry → Bool) (s : Station) → ((a c : ℕ) → T (q (spot s s rule a c)))
-      → (es : List Entry) → T (every q (by-one rule f s es))
+  pub every-by-one : (rule : ℕ) (f : Entry → Bool) (second : Entry → ℕ) (s : Station) → ((a c : ℕ) → T (q (spot s s rule a c)))
+      → (es : List Entry) → T (every q (by-one rule f second s es))
   unfolding by-one
-  every-by-one rule f s h es = every-ones f s s rule (λ t. t .train .0) (λ t. 0) (λ t. h (t .train .0) 0) es
+  every-by-one rule f second s h es = every-ones f s s rule (λ t. t .train .0) second (λ t. h (t .train .0) (second t)) es
 
   -- p holds of the visits
   pub every-by-two : (p : Entry → Bool) (rule : ℕ) (f : Visit → Visit → Bool) (s : Station)
@@ -70,43 +71,14 @@ module _ (q : Spanning → Bool) where
       (every-ones (λ u. f (t .visit) (u .visit)) s s rule (λ u. t .train .0) (λ u. u .train .0) (λ u. h t (every-head p t us v) (u .train .0)) us)
       (every-by-two p rule f s h us (every-tail p t us v))
 
-  -- k is the rank of the first
-  pub every-unmet : (tab : Table) (s : Station) (k : ℕ) → ((a : ℕ) → k ≤ a → T (q (spot s s 4 a 0))) → (rs : List Relation) → T (every q (unmet tab s k rs))
-  unfolding unmet
-  every-unmet tab s k h [] = every-none
-  every-unmet tab s k h (r ∷ rs) =
-      every-append q _ (unmet tab s (k + 1) rs) (every-one (not (met tab r)) s s 4 k 0 (h k (omega arith)))
-      (every-unmet tab s (k + 1) (λ a g. h a (omega arith)) rs)
-
-  pub every-own : (n : Network) (s : Station) → ((rule a c : ℕ) → T (q (spot s s rule a c))) → (tab : Table) → T (every q (own n s tab))
-  unfolding own
-  every-own n s h tab =
-      every-append q _ _ (every-by-one 1 _ s (h 1) (tab .visits))
-      (every-append q _ _ (every-by-two (λ t. true) 2 _ s (λ t u. h 2 (t .train .0)) (tab .visits) (every-true (tab .visits)))
-      (every-append q _ _ (every-by-two (λ t. true) 3 _ s (λ t u. h 3 (t .train .0)) (tab .visits) (every-true (tab .visits)))
-      (every-append q _ _ (every-unmet tab s 1 (λ a g. h 4 a 0) (tab .relations))
-      (every-append q _ _ (every-by-one 5 _ s (h 5) (tab .visits))
-      (every-by-one 6 _ s (h 6) (tab .visits))))))
-
-  pub every-rule-7 : (s : Station) (there : Table) (t : Entry) (o : Outward) → ((c : ℕ) → T (q (spot s (o .station) 7 (t .train .0) c)))
-      → T (every q (rule-7 s there t o))
-  unfolding rule-7
-  every-rule-7 s there t o h = every-one _ s (o .station) 7 (t .train .0) 0 (h 0)
-
-  pub every-rule-8 : (s : Station) (there : Table) (t : Entry) (i : Inward) → ((c : ℕ) → T (q (spot s (i .station) 8 (t .train .0) c)))
-      → T (every q (rule-8 s there t i))
-  unfolding rule-8
-  every-rule-8 s there t i h = every-one _ s (i .station) 8 (t .train .0) 0 (h 0)
-
-  pub every-rule-9 : (s : Station) (there : Table) (t : Entry) (o : Outward) → ((c : ℕ) → T (q (spot s (o .station) 9 (t .train .0) c)))
-      → T (every q (rule-9 s there t o))
-  unfolding rule-9
-  every-rule-9 s there t o h = every-one _ s (o .station) 9 (t .train .0) 0 (h 0)
-
-  pub every-rule-10 : (n : Network) (s : Station) (here there : Table) (t : Entry) (o : Outward) → ((c : ℕ) → T (q (spot s (o .station) 10 (t .train .0) c)))
-      → T (every q (rule-10 n s here there t o))
-  unfolding rule-10
-  every-rule-10 n s here there t o h = every-ones _ s (o .station) 10 (λ u. t .train .0) (λ u. u .train .0) (λ u. h (u .train .0)) (there .visits)
+  -- i is the rank of the first
+  pub every-by-rank : (rule : ℕ) (f : Relation → Bool) (s : Station) (i : ℕ) → ((a : ℕ) → i ≤ a → T (q (spot s s rule a 0)))
+      → (rs : List Relation) → T (every q (by-rank rule f s i rs))
+  unfolding by-rank
+  every-by-rank rule f s i h [] = every-none
+  every-by-rank rule f s i h (r ∷ rs) =
+      every-append q _ (by-rank rule f s (i + 1) rs) (every-one (f r) s s rule i 0 (h i (omega arith)))
+      (every-by-rank rule f s (i + 1) (λ a g. h a (omega arith)) rs)
 
   -- h holds of the stations where the links lead
   module _ (h : Station → Bool) where
@@ -124,14 +96,25 @@ module _ (q : Spanning → Bool) where
         every-flatMap q _ (leads h)
         (λ t u. every-flatMap q _ (λ i. h (i .station)) (λ i. g (m (i .station)) t i) (ins (t .visit)) (and-l (leads-in h t) (leads-out h t) u)) es
 
-    pub every-across : (n : Network) (m : Timetable) (s : Station) → ((p : Station) → T (h p) → (rule a c : ℕ) → T (q (spot s p rule a c)))
-        → (here : Table) → T (every (leads h) (here .visits)) → T (every q (across n m s here))
-    unfolding across
-    every-across n m s g here u =
-        every-append q _ _ (every-by-out (rule-7 s) (λ tab t o v. every-rule-7 s tab t o (g (o .station) v 7 (t .train .0))) m (here .visits) u)
-        (every-append q _ _ (every-by-in (rule-8 s) (λ tab t i v. every-rule-8 s tab t i (g (i .station) v 8 (t .train .0))) m (here .visits) u)
-        (every-append q _ _ (every-by-out (rule-9 s) (λ tab t o v. every-rule-9 s tab t o (g (o .station) v 9 (t .train .0))) m (here .visits) u)
-        (every-by-out (rule-10 n s here) (λ tab t o v. every-rule-10 n s here tab t o (g (o .station) v 10 (t .train .0))) m (here .visits) u)))
+    -- the findings of a rule at s: of s itself, or of a far station where a link leads
+    module _ (m : Timetable) (s : Station) (here : Table) (u : T (every (leads h) (here .visits))) where
+      pub every-found : (k : ℕ) → ((a c : ℕ) → T (q (spot s s k a c))) → ((p : Station) → T (h p) → (a c : ℕ) → T (q (spot s p k a c)))
+          → (r : Rule) → T (every q (found-by m s here k r))
+      unfolding found-by
+      every-found k own far (of-one f second) = every-by-one k f second s own (here .visits)
+      every-found k own far (of-two f) = every-by-two (λ t. true) k f s (λ t v. own (t .train .0)) (here .visits) (every-true (here .visits))
+      every-found k own far (of-relation f) = every-by-rank k f s 1 (λ a g. own a 0) (here .relations)
+      every-found k own far (of-out f) = every-by-out _ (λ tab t o v. every-one _ s (o .station) k (t .train .0) 0 (far (o .station) v (t .train .0) 0)) m (here .visits) u
+      every-found k own far (of-in f) = every-by-in _ (λ tab t i v. every-one _ s (i .station) k (t .train .0) 0 (far (i .station) v (t .train .0) 0)) m (here .visits) u
+      every-found k own far (of-facing f) =
+          every-by-out _ (λ tab t o v. every-ones _ s (o .station) k (λ w. t .train .0) (λ w. w .train .0) (λ w. far (o .station) v (t .train .0) (w .train .0)) (tab .visits)) m (here .visits) u
+
+      pub every-rule : ((k a c : ℕ) → T (q (spot s s k a c))) → ((p : Station) → T (h p) → (k a c : ℕ) → T (q (spot s p k a c)))
+          → (k : ℕ) (rs : List Rule) → T (every q (found-by-all m s here k rs))
+      unfolding found-by-all
+      every-rule own far k [] = every-none
+      every-rule own far k (r ∷ rs) =
+          every-append q _ (found-by-all m s here (suc k) rs) (every-found k (own k) (λ p v. far p v k) r) (every-rule own far (suc k) rs)
 
 -- links may lead anywhere
 pub anywhere : (es : List Entry) → T (every (leads (λ k. true)) es)
@@ -162,11 +145,10 @@ table-leads : (n : Network) (s : Station) (tab : Table) → T (table-good n s ta
 table-leads n s tab t = every-weaker (entry-good n s) (leads (listed n)) (entry-leads n s) (tab .visits) (table-facts n s tab t .visits .each)
 
 pub placed : (n : Network) (m : Timetable) → Whole n m → T (every (spans (listed n)) (spanning n m))
-unfolding spanning
+unfolding spanning at-station
 placed n m w =
     every-flatMap (spans (listed n)) _ (listed n)
     (λ s t.
-    every-append (spans (listed n)) (own n s (m s)) (across n m s (m s))
-    (every-own (spans (listed n)) n s (λ rule a c. both (listed n s) (listed n s) t t) (m s))
-    (every-across (spans (listed n)) (listed n) n m s (λ p u rule a c. both (listed n s) (listed n p) t u) (m s) (table-leads n s (m s) (w .good s t))))
+    every-rule (spans (listed n)) (listed n) m s (m s) (table-leads n s (m s) (w .good s t))
+    (λ k a c. both (listed n s) (listed n s) t t) (λ p u k a c. both (listed n s) (listed n p) t u) 1 (rules n s (m s)))
     (stations-of n) (stations-listed n)

@@ -1,10 +1,10 @@
--- Laws of positions: how often a number stands in a list (`times`), where it stands first (`place`), and a list read along positions (`along`).
--- Most compare a list of positions with `rest`, its numbers less by one and without its zeros: the positions that are left when the first element is taken off.
--- Assumes nothing.
+-- Laws of positions: how often a number stands in a list (`times`), where it stands first (`place`), and a list read
+-- along positions (`along`). Most compare a list of positions with `rest`, its numbers less by one and without its
+-- zeros: the positions that are left when the first element is taken off. Assumes nothing.
 use mathlib.Core.Path.{_≡_, refl, sym, ap, _∙_}
 use mathlib.Core.Bool.{Bool, true, false}
 use mathlib.Core.List.{List, [], _∷_, _++_, map, flatMap}
-use Prim.Native.Nat.{ℕ, zero, suc, _+_, _≤_, _<_}
+use Prim.Native.Nat.{ℕ, zero, suc, _≤_, _<_}
 use native.Mathlib.Omega.{arith}
 use lib.Dec.{eqb, eqb·suc-suc, eqb·zero-suc, eqb·suc-zero}
 use lib.ListN.{length, take, drop}

@@ -1,28 +1,29 @@
--- A group's findings, and those of two groups, are read off the tables of those groups alone: what is kept at a station with a far station reads only these
--- two tables, and both stations are in the groups. So the lists formed from the parts of a division are those of the whole timetable. Assumes nothing.
-use Prim.Native.Nat.{ℕ}
+-- A group's findings, and those of two groups, are read off the tables of those groups alone: what is kept at a station
+-- with a far station reads only these two tables, and both stations are in the groups. So the lists formed from the
+-- parts of a division are those of the whole timetable. Assumes nothing.
+use Prim.Native.Nat.{ℕ, suc}
 use mathlib.Core.Path.{_≡_, refl, sym, _∙_, ap}
 use mathlib.Core.Bool.{Bool, true, false, not, _&&_, _||_}
-use mathlib.Core.List.{List, [], _++_, map}
+use mathlib.Core.List.{List, [], _∷_, map}
 use lib.Dec.{T, eqb, ltb, eqb-refl, eqb→eq, not-T}
 use Rattle.base.specs.Choice.{if_then_else_}
 use Rattle.base.specs.Lists.{every, keep}
-use Rattle.base.proofs.Tests.{and-l, and-r, or-l, or-r, or-cases, by-test, by-value, if-yes, every-append}
+use Rattle.base.proofs.Tests.{and-l, and-r, or-l, or-r, or-cases, by-test, by-value, if-yes}
 use Rattle.base.proofs.Counts.{keep-two, keep-flatMap, keep-none}
 use Rattle.railway.specs.declared.visit.Inward.{Inward}
 use Rattle.railway.specs.declared.visit.Outward.{Outward}
-use Rattle.railway.specs.Networks.{stations-of}
+use Rattle.network.specs.Networks.{stations-of}
 use Rattle.timetable.specs.Visits.{ins, outs}
 use Rattle.timetable.specs.Tables.{Entry, Table, empty}
 use Rattle.timetable.specs.Machine.{Timetable}
 use Rattle.timetable.specs.Groups.{Grouping, in-group, divide, merge, gather}
-use Rattle.timetable.specs.Findings.{Spanning, own, by-out, by-in, rule-7, rule-8, rule-9, rule-10, across, spanning, picked}
-use Rattle.timetable.specs.Findings.{inside, group-findings, between, pair-findings}
+use Rattle.timetable.specs.Findings.{Spanning, by-out, by-in, Rule, of-one, of-two, of-relation, of-out, of-in, of-facing, rules, found-by, found-by-all, at-station, spanning, picked}
+use Rattle.timetable.specs.Findings.{inside, group-findings, between, pair-findings, own-list, pair-list}
 use Rattle.theory.specs.Types.{Station, Network}
-use Rattle.theory.specs.Statements.{own-list, pair-list}
-use Rattle.theory.proofs.Placed.{anywhere, every-own, every-rule-7, every-rule-8, every-rule-9, every-rule-10, every-across}
+use Rattle.theory.proofs.Placed.{anywhere, every-one, every-ones, every-rule}
 
--- g s p says whether findings at s with the far station p are kept; h says which stations are read: both ends of what is kept. There the timetables agree
+-- g s p says whether findings at s with the far station p are kept; h says which stations are read: both ends of what
+-- is kept. There the timetables agree
 module _ (g : Station → Station → Bool) (h : Station → Bool) (near : (s p : Station) → T (g s p) → T (h s)) (away : (s p : Station) → T (g s p) → T (h p))
     (m m′ : Timetable) (agree : (k : Station) → T (h k) → m k ≡ m′ k) where
   abbrev kept : Spanning → Bool
@@ -53,31 +54,36 @@ module _ (g : Station → Station → Bool) (h : Station → Bool) (near : (s p 
   same-by-in s f none es =
       keep-flatMap kept _ _ (λ t. keep-flatMap kept _ _ (λ i. same-far s (i .station) (λ tab. f tab t i) (λ u tab. none tab t i u)) (ins (t .visit))) es
 
-  same-across : (n : Network) (s : Station) (here : Table) → keep kept (across n m s here) ≡ keep kept (across n m′ s here)
-  unfolding across
-  same-across n s here =
-      keep-two kept _ _ _ _ (same-by-out s (rule-7 s) (λ tab t o u. every-rule-7 left-out s tab t o (λ c. u)) (here .visits))
-      (keep-two kept _ _ _ _ (same-by-in s (rule-8 s) (λ tab t i u. every-rule-8 left-out s tab t i (λ c. u)) (here .visits))
-      (keep-two kept _ _ _ _ (same-by-out s (rule-9 s) (λ tab t o u. every-rule-9 left-out s tab t o (λ c. u)) (here .visits))
-      (same-by-out s (rule-10 n s here) (λ tab t o u. every-rule-10 left-out n s here tab t o (λ c. u)) (here .visits))))
+  same-found : (s : Station) (here : Table) (k : ℕ) (r : Rule) → keep kept (found-by m s here k r) ≡ keep kept (found-by m′ s here k r)
+  unfolding found-by
+  same-found s here k (of-one f second) = refl
+  same-found s here k (of-two f) = refl
+  same-found s here k (of-relation f) = refl
+  same-found s here k (of-out f) = same-by-out s _ (λ tab t o u. every-one left-out _ s (o .station) k (t .train .0) 0 u) (here .visits)
+  same-found s here k (of-in f) = same-by-in s _ (λ tab t i u. every-one left-out _ s (i .station) k (t .train .0) 0 u) (here .visits)
+  same-found s here k (of-facing f) =
+      same-by-out s _ (λ tab t o u. every-ones left-out _ s (o .station) k (λ w. t .train .0) (λ w. w .train .0) (λ w. u) (tab .visits)) (here .visits)
+
+  same-rules : (s : Station) (here : Table) (k : ℕ) (rs : List Rule) → keep kept (found-by-all m s here k rs) ≡ keep kept (found-by-all m′ s here k rs)
+  unfolding found-by-all
+  same-rules s here k [] = refl
+  same-rules s here k (r ∷ rs) = keep-two kept _ _ _ _ (same-found s here k r) (same-rules s here (suc k) rs)
 
   -- nothing is kept at a station that is not read
-  none-at : (n : Network) (m″ : Timetable) (s : Station) (here : Table) → ¬ T (h s) → keep kept (own n s here ++ across n m″ s here) ≡ []
+  none-at : (n : Network) (m″ : Timetable) (s : Station) (here : Table) → ¬ T (h s) → keep kept (at-station n m″ s here) ≡ []
+  unfolding at-station
   none-at n m″ s here u =
-      keep-none kept (own n s here ++ across n m″ s here)
-      (every-append left-out (own n s here) (across n m″ s here)
-      (every-own left-out n s (λ rule a c. out s) here)
-      (every-across left-out (λ p. true) n m″ s (λ p v rule a c. out p) here (anywhere (here .visits))))
+      keep-none kept (found-by-all m″ s here 1 (rules n s here))
+      (every-rule left-out (λ p. true) m″ s here (anywhere (here .visits)) (λ k a c. out s) (λ p v k a c. out p) 1 (rules n s here))
     where
       out : (p : Station) → T (not (g s p))
       out p = not-T (g s p) (λ v. u (near s p v))
 
-  same-at : (n : Network) (s : Station) → keep kept (own n s (m s) ++ across n m s (m s)) ≡ keep kept (own n s (m′ s) ++ across n m′ s (m′ s))
+  same-at : (n : Network) (s : Station) → keep kept (at-station n m s (m s)) ≡ keep kept (at-station n m′ s (m′ s))
+  unfolding at-station
   same-at n s =
       by-test (h s)
-      (λ u.
-      keep-two kept (own n s (m s)) (across n m s (m s)) (own n s (m s)) (across n m′ s (m s)) refl (same-across n s (m s))
-      ∙ ap (λ (tab : Table). keep kept (own n s tab ++ across n m′ s tab)) (agree s u))
+      (λ u. same-rules s (m s) 1 (rules n s (m s)) ∙ ap (λ (tab : Table). keep kept (found-by-all m′ s tab 1 (rules n s tab))) (agree s u))
       (λ u. none-at n m s (m s) u ∙ sym (none-at n m′ s (m′ s) u))
 
   same-kept : (n : Network) → keep kept (spanning n m) ≡ keep kept (spanning n m′)

@@ -1,15 +1,15 @@
--- The findings of a whole timetable rise strictly by their four numbers. A list put together of pieces rises if the pieces are in the order of a number that
--- all elements of a piece have, and each piece rises by the numbers behind it: so for station, rule, first and second in turn, since stations, trains and
--- ranks rise. Assumes nothing.
+-- The findings of a whole timetable rise strictly by their four numbers. A list put together of pieces rises if the
+-- pieces are in the order of a number that all elements of a piece have, and each piece rises by the numbers behind it:
+-- so for station, rule, first and second in turn, since stations, trains and ranks rise. Assumes nothing.
 use Prim.Native.Nat.{ℕ, suc, _+_, _≤_}
-use mathlib.Core.Bool.{Bool, true, false, not, _&&_, _||_}
+use mathlib.Core.Bool.{Bool, true, false, _&&_, _||_}
 use mathlib.Core.List.{List, [], _∷_, _++_, flatMap, append-nil}
 use native.Mathlib.Omega.{arith}
 use lib.Dec.{T, ltb, leb, eqb, eqb-refl, eqb→eq, ltb→lt, leb→le, lt→ltb, le→leb, lit≤}
 use lib.ListN.{length}
 use Rattle.base.specs.Lists.{every, each-two, below}
 use Rattle.base.proofs.Tests.{and-l, and-r, both, or-l, or-r, by-value}
-use Rattle.base.proofs.Tests.{every-append, every-true, every-each, every-flatMap, every-weaker, every-both}
+use Rattle.base.proofs.Tests.{every-append, every-each, every-flatMap, every-weaker, every-both}
 use Rattle.base.proofs.Sorted.{two-head, two-tail, two-map, two-append, two-weaker}
 use Rattle.railway.specs.declared.visit.Inward.{Inward}
 use Rattle.railway.specs.declared.visit.Outward.{Outward}
@@ -17,20 +17,18 @@ use Rattle.railway.specs.declared.visit.InLink.{InLink}
 use Rattle.railway.specs.declared.visit.OutLink.{OutLink}
 use Rattle.railway.specs.declared.visit.Visit.{Visit}
 use Rattle.railway.specs.declared.relation.Relation.{Relation}
-use Rattle.railway.specs.Networks.{stations-of, listed}
-use Rattle.railway.proofs.NetworkLaws.{network-facts}
+use Rattle.network.specs.Networks.{stations-of, listed}
+use Rattle.network.proofs.NetworkLaws.{network-facts}
 use Rattle.timetable.specs.Visits.{ins, outs}
 use Rattle.timetable.specs.Tables.{Entry, Table, empty}
 use Rattle.timetable.specs.Machine.{Timetable}
 use Rattle.timetable.specs.Good.{Whole}
-use Rattle.timetable.specs.Rules.{met}
-use Rattle.timetable.specs.Findings.{Spanning, finding, one, by-one, by-two, unmet, own, by-out, by-in, rule-7, rule-8, rule-9, rule-10}
-use Rattle.timetable.specs.Findings.{across, spanning, findings}
+use Rattle.timetable.specs.Findings.{Spanning, finding, one, by-one, by-two, by-rank, by-out, by-in, Rule, of-one, of-two, of-relation, of-out, of-in, of-facing}
+use Rattle.timetable.specs.Findings.{rules, found-by, found-by-all, at-station, spanning, findings, numbers}
 use Rattle.timetable.proofs.TableLaws.{table-facts}
 use Rattle.theory.specs.Types.{Station, Network, Finding}
-use Rattle.theory.specs.Statements.{GoodNetwork, numbers}
-use Rattle.theory.proofs.Placed.{spot, anywhere, every-one, every-ones, every-by-one, every-by-two, every-unmet, every-own}
-use Rattle.theory.proofs.Placed.{every-rule-7, every-rule-8, every-rule-9, every-rule-10, every-across}
+use Rattle.theory.specs.Statements.{GoodNetwork}
+use Rattle.theory.proofs.Placed.{spot, anywhere, every-one, every-ones, every-by-two, every-by-rank, every-found, every-rule}
 
 -- the number of x is j
 abbrev has : {A : Type 0} → (A → ℕ) → ℕ → A → Bool
@@ -153,12 +151,12 @@ seconds-rise f s p k a =
     (λ u. every-one (has second (u .train .0)) (f u) s p k a (u .train .0) (eqb-refl (u .train .0)))
     (λ u. one-rises (λ x y. false) (f u) p (finding s k a (u .train .0)))
 
-by-one-rises : (k : ℕ) (f : Entry → Bool) (s : Station) (es : List Entry) → Trains-rise es → T (each-two by-first (by-one k f s es))
+by-one-rises : (k : ℕ) (f : Entry → Bool) (second′ : Entry → ℕ) (s : Station) (es : List Entry) → Trains-rise es → T (each-two by-first (by-one k f second′ s es))
 unfolding by-one
-by-one-rises k f s =
-    flat first by-second (λ t. t .train .0) (λ t. one (f t) s (finding s k (t .train .0) 0))
-    (λ t. every-one (has first (t .train .0)) (f t) s s k (t .train .0) 0 (eqb-refl (t .train .0)))
-    (λ t. one-rises by-second (f t) s (finding s k (t .train .0) 0))
+by-one-rises k f second′ s =
+    flat first by-second (λ t. t .train .0) (λ t. one (f t) s (finding s k (t .train .0) (second′ t)))
+    (λ t. every-one (has first (t .train .0)) (f t) s s k (t .train .0) (second′ t) (eqb-refl (t .train .0)))
+    (λ t. one-rises by-second (f t) s (finding s k (t .train .0) (second′ t)))
 
 by-two-rises : (k : ℕ) (f : Visit → Visit → Bool) (s : Station) (es : List Entry) → Trains-rise es → T (each-two by-first (by-two k f s es))
 unfolding by-two
@@ -174,15 +172,15 @@ by-two-rises k f s (t ∷ us) h =
     (level first by-second (t .train .0) _ same (seconds-rise (λ u. f (t .visit) (u .visit)) s s k (t .train .0) us rest))
     (by-two-rises k f s us rest)
 
-unmet-rises : (tab : Table) (s : Station) (k : ℕ) (rs : List Relation) → T (each-two by-first (unmet tab s k rs))
-unfolding unmet
-unmet-rises tab s k [] = none first by-second
-unmet-rises tab s k (r ∷ rs) =
-    join first by-second (suc k) (one (not (met tab r)) s (finding s 4 k 0)) (unmet tab s (k + 1) rs)
-    (every-one (λ x. ltb (first x) (suc k)) (not (met tab r)) s s 4 k 0 (lt→ltb k (suc k) (omega arith)))
-    (every-unmet (λ x. leb (suc k) (first x)) tab s (k + 1) (λ a h. le→leb (suc k) a (omega arith)) rs)
-    (one-rises by-first (not (met tab r)) s (finding s 4 k 0))
-    (unmet-rises tab s (k + 1) rs)
+by-rank-rises : (k : ℕ) (f : Relation → Bool) (s : Station) (i : ℕ) (rs : List Relation) → T (each-two by-first (by-rank k f s i rs))
+unfolding by-rank
+by-rank-rises k f s i [] = none first by-second
+by-rank-rises k f s i (r ∷ rs) =
+    join first by-second (suc i) (one (f r) s (finding s k i 0)) (by-rank k f s (i + 1) rs)
+    (every-one (λ x. ltb (first x) (suc i)) (f r) s s k i 0 (lt→ltb i (suc i) (omega arith)))
+    (every-by-rank (λ x. leb (suc i) (first x)) k f s (i + 1) (λ a h. le→leb (suc i) a (omega arith)) rs)
+    (one-rises by-first (f r) s (finding s k i 0))
+    (by-rank-rises k f s (i + 1) rs)
 
 -- a visit has one link or none of each kind
 
@@ -215,55 +213,40 @@ step : (k hi : ℕ) → suc k ≤ hi → {xs ys : List Spanning}
     → Ranged rule by-first k (suc k) xs → Ranged rule by-first (suc k) hi ys → Ranged rule by-first k hi (xs ++ ys)
 step k hi g p q = ranged-append rule by-first k (suc k) hi (omega arith) g _ _ p q
 
-module _ (n : Network) (s : Station) (here : Table) (h : Trains-rise (here .visits)) where
-  singles : (k : ℕ) (f : Entry → Bool) → Ranged rule by-first k (suc k) (by-one k f s (here .visits))
-  singles k f =
-      ranged-one rule by-first k (by-one k f s (here .visits))
-      (every-by-one (has rule k) k f s (λ a c. eqb-refl k) (here .visits)) (by-one-rises k f s (here .visits) h)
-
-  doubles : (k : ℕ) (f : Visit → Visit → Bool) → Ranged rule by-first k (suc k) (by-two k f s (here .visits))
-  doubles k f =
-      ranged-one rule by-first k (by-two k f s (here .visits))
-      (every-by-two (has rule k) (λ t. true) k f s (λ t u c. eqb-refl k) (here .visits) (every-true (here .visits)))
-      (by-two-rises k f s (here .visits) h)
-
-  ranks : Ranged rule by-first 4 5 (unmet here s 1 (here .relations))
-  ranks =
-      ranged-one rule by-first 4 (unmet here s 1 (here .relations))
-      (every-unmet (has rule 4) here s 1 (λ a g. tt) (here .relations)) (unmet-rises here s 1 (here .relations))
-
-  own-ranged : Ranged rule by-first 1 7 (own n s here)
-  unfolding own
-  own-ranged =
-      step 1 7 (lit≤ tt) (singles 1 _) (step 2 7 (lit≤ tt) (doubles 2 _) (step 3 7 (lit≤ tt) (doubles 3 _)
-      (step 4 7 (lit≤ tt) ranks (step 5 7 (lit≤ tt) (singles 5 _) (singles 6 _)))))
-
+module _ (m : Timetable) (rise : (k : Station) → Trains-rise (m k .visits)) (s : Station) (here : Table) (h : Trains-rise (here .visits)) where
   -- a rule over the links of the visits, of which each has one or none
   linked : {L : Type 0} (links : Visit → List L) → ((v : Visit) → length (links v) ≤ 1) → (far : L → Station) (k : ℕ) (f : Entry → L → List Spanning)
       → ((q : Spanning → Bool) (t : Entry) (l : L) → ((c : ℕ) → T (q (spot s (far l) k (t .train .0) c))) → T (every q (f t l)))
       → ((t : Entry) (l : L) → T (each-two by-second (f t l)))
-      → Ranged rule by-first k (suc k) (flatMap (λ t. flatMap (f t) (links (t .visit))) (here .visits))
+      → T (each-two by-first (flatMap (λ t. flatMap (f t) (links (t .visit))) (here .visits)))
   linked links few far k f all rises =
-      ranged-one rule by-first k (flatMap (λ t. flatMap (f t) (links (t .visit))) (here .visits))
-      (every-each (has rule k) _ (λ t. every-each (has rule k) (f t) (λ l. all (has rule k) t l (λ c. eqb-refl k)) (links (t .visit))) (here .visits))
-      (flat first by-second (λ t. t .train .0) (λ t. flatMap (f t) (links (t .visit)))
+      flat first by-second (λ t. t .train .0) (λ t. flatMap (f t) (links (t .visit)))
       (λ t. every-each (has first (t .train .0)) (f t) (λ l. all (has first (t .train .0)) t l (λ c. eqb-refl (t .train .0))) (links (t .visit)))
-      (λ t. few-rise by-second (f t) (rises t) (links (t .visit)) (few (t .visit))) (here .visits) h)
+      (λ t. few-rise by-second (f t) (rises t) (links (t .visit)) (few (t .visit))) (here .visits) h
 
-  across-ranged : (m : Timetable) → ((k : Station) → Trains-rise (m k .visits)) → Ranged rule by-first 7 11 (across n m s here)
-  unfolding across by-out by-in rule-7 rule-8 rule-9 rule-10
-  across-ranged m rise =
-      step 7 11 (lit≤ tt)
-      (linked outs outs-few (λ o. o .station) 7 (λ t o. rule-7 s (m (o .station)) t o) (λ q t o. every-rule-7 q s (m (o .station)) t o)
-      (λ t o. one-rises by-second _ (o .station) _))
-      (step 8 11 (lit≤ tt)
-      (linked ins ins-few (λ i. i .station) 8 (λ t i. rule-8 s (m (i .station)) t i) (λ q t i. every-rule-8 q s (m (i .station)) t i)
-      (λ t i. one-rises by-second _ (i .station) _))
-      (step 9 11 (lit≤ tt)
-      (linked outs outs-few (λ o. o .station) 9 (λ t o. rule-9 s (m (o .station)) t o) (λ q t o. every-rule-9 q s (m (o .station)) t o)
-      (λ t o. one-rises by-second _ (o .station) _))
-      (linked outs outs-few (λ o. o .station) 10 (λ t o. rule-10 n s here (m (o .station)) t o) (λ q t o. every-rule-10 q n s here (m (o .station)) t o)
-      (λ t o. seconds-rise _ s (o .station) 10 (t .train .0) (m (o .station) .visits) (rise (o .station))))))
+  found-rises : (k : ℕ) (r : Rule) → T (each-two by-first (found-by m s here k r))
+  unfolding found-by by-out by-in
+  found-rises k (of-one f second′) = by-one-rises k f second′ s (here .visits) h
+  found-rises k (of-two f) = by-two-rises k f s (here .visits) h
+  found-rises k (of-relation f) = by-rank-rises k f s 1 (here .relations)
+  found-rises k (of-out f) =
+      linked outs outs-few (λ o. o .station) k _ (λ q t o g. every-one q _ s (o .station) k (t .train .0) 0 (g 0)) (λ t o. one-rises by-second _ (o .station) _)
+  found-rises k (of-in f) =
+      linked ins ins-few (λ i. i .station) k _ (λ q t i g. every-one q _ s (i .station) k (t .train .0) 0 (g 0)) (λ t i. one-rises by-second _ (i .station) _)
+  found-rises k (of-facing f) =
+      linked outs outs-few (λ o. o .station) k _
+      (λ q t o g. every-ones q _ s (o .station) k (λ u. t .train .0) (λ u. u .train .0) (λ u. g (u .train .0)) (m (o .station) .visits))
+      (λ t o. seconds-rise _ s (o .station) k (t .train .0) (m (o .station) .visits) (rise (o .station)))
+
+  found-ranged : (k : ℕ) (r : Rule) → Ranged rule by-first k (suc k) (found-by m s here k r)
+  found-ranged k r =
+      ranged-one rule by-first k (found-by m s here k r)
+      (every-found (has rule k) (λ p. true) m s here (anywhere (here .visits)) k (λ a c. eqb-refl k) (λ p v a c. eqb-refl k) r) (found-rises k r)
+
+  rules-ranged : (k hi : ℕ) (rs : List Rule) → k + length rs ≤ hi → Ranged rule by-first k hi (found-by-all m s here k rs)
+  unfolding found-by-all every
+  rules-ranged k hi [] g = record { rises = none rule by-first; ranged = tt }
+  rules-ranged k hi (r ∷ rs) g = step k hi (omega arith) (found-ranged k r) (rules-ranged (suc k) hi rs (omega arith))
 
 -- in a whole timetable the trains of every station rise
 
@@ -276,16 +259,11 @@ trains-rise n m w k =
     by-value (listed n k) (λ e. table-facts n k (m k) (w .good k (rw e tt)) .visits .order) (λ e. rw (w .bare k (rw e tt)) empty-rise)
 
 spanning-rises : (n : Network) → GoodNetwork n → (m : Timetable) → Whole n m → T (each-two by-station (spanning n m))
-unfolding spanning
+unfolding spanning at-station
 spanning-rises n good m w =
-    flat station by-rule (λ s. s .0) (λ s. own n s (m s) ++ across n m s (m s))
-    (λ s.
-    every-append (has station (s .0)) (own n s (m s)) (across n m s (m s))
-    (every-own (has station (s .0)) n s (λ k a c. eqb-refl (s .0)) (m s))
-    (every-across (has station (s .0)) (λ p. true) n m s (λ p u k a c. eqb-refl (s .0)) (m s) (anywhere (m s .visits))))
-    (λ s.
-    ranged-append rule by-first 1 7 11 (lit≤ tt) (lit≤ tt) (own n s (m s)) (across n m s (m s))
-    (own-ranged n s (m s) (trains-rise n m w s)) (across-ranged n s (m s) (trains-rise n m w s) m (trains-rise n m w)) .rises)
+    flat station by-rule (λ s. s .0) (λ s. found-by-all m s (m s) 1 (rules n s (m s)))
+    (λ s. every-rule (has station (s .0)) (λ p. true) m s (m s) (anywhere (m s .visits)) (λ k a c. eqb-refl (s .0)) (λ p u k a c. eqb-refl (s .0)) 1 (rules n s (m s)))
+    (λ s. rules-ranged m (trains-rise n m w) s (m s) (trains-rise n m w s) 1 (1 + length (rules n s (m s))) (rules n s (m s)) (omega arith) .rises)
     (stations-of n) (network-facts n good .stations-rise)
 
 -- "listed rising", strictly

@@ -1,6 +1,6 @@
--- The findings of a whole timetable are shared out among the groups and their pairs, each list formed from the parts alone: the parts give the lists of the
--- whole timetable (Reach), these together have each finding as often as the whole list (Partition, Placed), and there it stands once, since the list rises
--- strictly (Rising). Assumes nothing.
+-- The findings of a whole timetable are shared out among the groups and their pairs, each list formed from the parts
+-- alone: the parts give the lists of the whole timetable (Reach), these together have each finding as often as the
+-- whole list (Partition, Placed), and there it stands once, since the list rises strictly (Rising). Assumes nothing.
 use Prim.Native.Nat.{ℕ, _<_}
 use mathlib.Core.Path.{_≡_, fun-ext}
 use mathlib.Core.Bool.{Bool}
@@ -10,14 +10,14 @@ use lib.Dec.{T, ltb→lt}
 use Rattle.base.specs.Lists.{count, below, same}
 use Rattle.base.proofs.Counts.{count-append, count-flatMap, any-count, count-any}
 use Rattle.base.proofs.Sorted.{two-once, same-equal, below-itself}
-use Rattle.railway.specs.Networks.{listed}
+use Rattle.network.specs.Networks.{listed}
 use Rattle.timetable.specs.Machine.{Timetable}
 use Rattle.timetable.specs.Groups.{Grouping, divide}
 use Rattle.timetable.specs.Good.{Whole}
-use Rattle.timetable.specs.Findings.{spanning, findings, group-findings, pair-findings}
+use Rattle.timetable.specs.Findings.{spanning, findings, numbers, group-findings, pair-findings}
 use Rattle.timetable.proofs.Partition.{partition}
 use Rattle.theory.specs.Types.{Station, Network, Finding}
-use Rattle.theory.specs.Statements.{Grouped, numbers, times-listed, all-lists, FindingsAreShared}
+use Rattle.theory.specs.Statements.{Grouped, times-listed, all-lists, FindingsAreShared}
 use Rattle.theory.proofs.Placed.{placed}
 use Rattle.theory.proofs.Reach.{own-part, pair-part}
 use Rattle.theory.proofs.Rising.{findings-rise}

@@ -1,3 +1,4 @@
 pub mod Types
 pub mod Reordering
+pub mod Serial
 pub mod Statements

@@ -1,5 +1,6 @@
--- Reorderings of a list of edits. Document 01, "Sheets and division": "A reordering holds just the edits of the list, equal ones counted apart; the first order
--- is one too." A reordering is a list of positions, so that equal edits are told apart by where they stand. Assumes nothing.
+-- Reorderings of a list of edits. Document 01, "Sheets and division": "A reordering holds just the edits of the list,
+-- equal ones counted apart; the first order is one too." A reordering is a list of positions, so that equal edits are
+-- told apart by where they stand. Assumes nothing.
 use mathlib.Core.Bool.{Bool}
 use mathlib.Core.List.{List, [], _∷_, flatMap}
 use mathlib.Core.Path.{_≡_}
@@ -7,7 +8,7 @@ use Prim.Native.Nat.{ℕ, suc, _<_, _≤_}
 use lib.Dec.{T, eqb}
 use lib.ListN.{length, take, drop}
 use Rattle.base.specs.Choice.{if_then_else_}
-use Rattle.base.specs.Lists.{count}
+use Rattle.base.specs.Lists.{count, keep}
 
 -- how often the position i stands in ps
 abbrev pub times : ℕ → List ℕ → ℕ
@@ -26,12 +27,16 @@ at l i = take 1 (drop i l)
 unfoldable pub along : {A : Type 0} → List A → List ℕ → List A
 along l ps = flatMap (at l) ps
 
+-- the history of an area (or group): the edits of the list that name it, in their order
+abbrev pub history : {Edit Group : Type 0} → (Edit → Group → Bool) → Group → List Edit → List Edit
+history names g es = keep (λ e. names e g) es
+
 -- the two edits name a common area (or group)
-abbrev pub Meet : {Edit : Type 0} → (Edit → ℕ → Bool) → Edit → Edit → Type 0
-Meet names e f = (a : ℕ) × T (names e a) × T (names f a)
+abbrev pub Meet : {Edit Group : Type 0} → (Edit → Group → Bool) → Edit → Edit → Type 0
+Meet {Group = Group} names e f = (a : Group) × T (names e a) × T (names f a)
 
 -- ps is an order for the edits es
-pub record Reordering {Edit : Type 0} (names : Edit → ℕ → Bool) (es : List Edit) (ps : List ℕ) : Type 0 where
+pub record Reordering {Edit Group : Type 0} (names : Edit → Group → Bool) (es : List Edit) (ps : List ℕ) : Type 0 where
   -- every position of the list stands in it exactly once
   pub once : (i : ℕ) → i < length es → times i ps ≡ 1
   -- and nothing else does
