@@ -1,7 +1,7 @@
--- Laws of lists of bytes that are moved, copied or cleared one by one: what a loop has left at each turn, and what it leaves at the end. A part that is
--- lent is stated as the whole by `part-back`. Assumes nothing.
+-- Laws of lists of bytes that are moved, copied or cleared one by one: what a loop has left at each turn, and what it
+-- leaves at the end. A part that is lent is stated as the whole by `part-back`. Assumes nothing.
 use mathlib.Core.Path.{_≡_, refl, sym, ap, _∙_}
-use mathlib.Core.Bool.{true, false}
+use mathlib.Core.Bool.{Bool, true, false, _&&_}
 use mathlib.Core.List.{List, [], _∷_, _++_, append-nil}
 use Prim.Native.Nat.{ℕ, zero, suc, _+_, _-_, _≤_, _<_}
 use native.Mathlib.Nat.{zero-add, le-of-suc-le-suc, not-suc-le-zero, add-sub-cancel-left}
@@ -26,15 +26,26 @@ word-past b at h = omega (arith, byte-past b at h, byte-past b (at + 1) (omega a
 -- a search for a byte that is not zero
 
 module _ (l : List ℕ) (i : ℕ) (h : i < length l) where
-  pub blank-stop : ¬ (getD l i 0 ≡ 0) → every (eqb 0) (drop i l) ≡ false
-  blank-stop e = every-next (eqb 0) l i 0 h ∙ rw (ne-eqb 0 (getD l i 0) (λ q. e (sym q)))
+  -- one byte more
+  pub blank-on : (before after : Bool) → after ≡ (before && eqb 0 (getD l i 0)) → (before && every (eqb 0) (drop i l)) ≡ (after && every (eqb 0) (drop (i + 1) l))
+  blank-on true after e = every-next (eqb 0) l i 0 h ∙ sym (rw e)
+  blank-on false after e = sym (rw e)
 
-  pub blank-on : getD l i 0 ≡ 0 → every (eqb 0) (drop i l) ≡ every (eqb 0) (drop (i + 1) l)
-  blank-on e = every-next (eqb 0) l i 0 h ∙ rw (eq-eqb 0 (getD l i 0) (sym e))
+pub still-on : (before : Bool) (x : ℕ) → x ≡ 0 → before ≡ (before && eqb 0 x)
+still-on true x e = sym (eq-eqb 0 x (sym e))
+still-on false x e = refl
+
+pub still-off : (before : Bool) (x : ℕ) → ¬ (x ≡ 0) → false ≡ (before && eqb 0 x)
+still-off true x e = sym (ne-eqb 0 x (λ q. e (sym q)))
+still-off false x e = refl
 
 pub blank-end : (l : List ℕ) (i : ℕ) → length l ≤ i → every (eqb 0) (drop i l) ≡ true
 unfolding every
 blank-end l i h = rw (drop-of-length-le l {i = i} h)
+
+pub blank-over : (before : Bool) (l : List ℕ) (i : ℕ) → length l ≤ i → (before && every (eqb 0) (drop i l)) ≡ before
+blank-over true l i h = blank-end l i h
+blank-over false l i h = refl
 
 -- a copy, first to last
 

@@ -1,5 +1,6 @@
--- Records read back: both kinds have 16 bytes, and reading what was written gives it again, for a visit where its links name stations. A number of two bytes
--- is its low byte and 256 times its high byte, and a case of each enum computes. Assumes nothing.
+-- Records read back: both kinds have 16 bytes, and reading what was written gives it again, for a visit where its links
+-- name stations. A number of two bytes is its low byte and 256 times its high byte, and a case of each enum computes.
+-- Assumes nothing.
 use Prim.Native.Nat.{ℕ, _+_, _*_}
 use mathlib.Core.Path.{_≡_, refl}
 use mathlib.Core.Bool.{Bool, true, false}

@@ -1,5 +1,5 @@
--- Bytes as lists of numbers: numbers of two bytes, parts, and what making and closing room for one record of 16 bytes does to a part. docs/LAYOUT.md has the layout.
--- Assumes nothing.
+-- Bytes as lists of numbers: numbers of two bytes, parts, and what making and closing room for one record of 16 bytes
+-- does to a part. docs/LAYOUT.md has the layout. Assumes nothing.
 use Prim.Native.Nat.{ℕ, _+_, _*_, _-_, _/_, _%_}
 use mathlib.Core.Bool.{Bool, true, false}
 use mathlib.Core.List.{List, _++_}
@@ -41,8 +41,8 @@ splice at new b = take at b ++ (new ++ drop (at + length new) b)
 unfoldable pub overwritten : List ℕ → List ℕ → List ℕ
 overwritten b new = if eqb (length b) (length new) then new else b
 
--- room for one record at the front of a part: all else one record on, the part's last 16 bytes lost; the front is left as it was.
--- A part that is shorter than one record is left as it was
+-- room for one record at the front of a part: all else one record on, the part's last 16 bytes lost; the front is left
+-- as it was. A part that is shorter than one record is left as it was
 unfoldable pub roomed : List ℕ → List ℕ
 roomed b = if leb 16 (length b) then take 16 b ++ take (length b - 16) b else b
 
@@ -54,7 +54,8 @@ fronted r b = if leb 16 (length b) then r ++ take (length b - 16) b else b
 abbrev pub records-behind : List ℕ → ℕ
 records-behind b = (length b - 16) / 16
 
--- the front record taken out of a part: all else one record up, zeros behind; a part that is shorter than one record is left as it was
+-- the front record taken out of a part: all else one record up, zeros behind; a part that is shorter than one record is
+-- left as it was
 unfoldable pub closed : List ℕ → List ℕ
 closed b = if leb 16 (length b) then drop 16 b ++ zeros 16 else b
 

@@ -1,4 +1,5 @@
--- Records of 16 bytes: a visit with its train, and a relation. docs/LAYOUT.md has the layout to the byte. Assumes nothing.
+-- Records of 16 bytes: a visit with its train, and a relation. docs/LAYOUT.md has the layout to the byte. Assumes
+-- nothing.
 use Prim.Native.Nat.{ℕ}
 use mathlib.Core.Bool.{Bool, true, _&&_}
 use mathlib.Core.List.{List, [], _∷_}
@@ -49,7 +50,8 @@ named-out (OutLink.To o) = ltb 0 (o .station .0)
 unfoldable pub named : Visit → Bool
 named v = named-in (v .inward) && named-out (v .outward)
 
--- a visit: train(2) track(1) arrival(2) arrived(1) departure(2) departed(1) in: station(1) line(1) out: station(1) line(1) run(1), two zeros
+-- a visit: train(2) track(1) arrival(2) arrived(1) departure(2) departed(1) in: station(1) line(1) out: station(1)
+-- line(1) run(1), two zeros
 unfoldable pub visit-bytes : Train → Visit → List ℕ
 visit-bytes t v =
     low (t .0) ∷ high (t .0) ∷ v .track .0

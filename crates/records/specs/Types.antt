@@ -1,4 +1,5 @@
--- The types of the crates below, under one module for this crate's own files. `Nothing` stands in two enums: write InLink.Nothing and OutLink.Nothing.
+-- The types of the crates below, under one module for this crate's own files. `Nothing` stands in two enums: write
+-- InLink.Nothing and OutLink.Nothing.
 pub use Rattle.railway.specs.declared.sorts.Station.{Station}
 pub use Rattle.railway.specs.declared.sorts.Train.{Train}
 pub use Rattle.railway.specs.declared.visit.InLink.{InLink}

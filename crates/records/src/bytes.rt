@@ -1,6 +1,8 @@
 // Bytes, numbers of two bytes, and what is done to a part of a page whatever its bytes mean.
 ghost use mathlib.Core.Path.{_≡_};
+ghost use mathlib.Core.Bool.{_&&_};
 ghost use Prim.Native.Nat.{_<_};
+ghost use lib.Dec.{eqb};
 ghost use lib.ListN.{length, getD, take, drop};
 ghost use Rattle.records.specs.Bytes.{zeros, low, high, word, flag, occurred, overwritten, roomed, fronted, records-behind, closed, blank};
 
@@ -75,18 +77,27 @@ pub fn status_in(x: u8) -> bool
     x == 1
 }
 
+// No early end: so a compiler takes many bytes at a time.
+fn still_blank(before: bool, x: u8) -> bool
+    ensures { λ r. ⌜ r ≡ (before && eqb 0 x) ⌝ }
+{
+    if x == 0 {
+        return before;
+    }
+    false
+}
+
 // Whether all bytes are zero.
 pub fn is_blank(b: &[u8]) -> bool
     ensures { λ r. ⌜ r ≡ blank (now (b .entry)) ⌝ }
 {
+    let mut clean = true;
     let mut i = 0;
     while i < b.len() {
-        if b[i] != 0 {
-            return false;
-        }
+        clean = still_blank(clean, b[i]);
         i += 1;
     }
-    true
+    clean
 }
 
 // Writes all of one part over another that is as long.

@@ -1,5 +1,7 @@
 // Visits and relations as records of 16 bytes: docs/LAYOUT.md has the layout.
 ghost use mathlib.Core.Path.{_≡_};
+ghost use Prim.Native.Nat.{_+_, _*_};
+ghost use lib.ListN.{length};
 ghost use Rattle.records.specs.Records.{in-station, in-line, out-station, out-line, out-run, in-link, out-link};
 ghost use Rattle.records.specs.Records.{visit-bytes, decode-train, decode-visit, relation-bytes, encode-relation, decode-trains, decode-relation};
 use crate::bytes;
@@ -120,8 +122,8 @@ pub fn train_in(r: &[u8]) -> Train
     Train(bytes::word_at(r, 0))
 }
 
-// The visit of a visit record.
-pub fn visit_in(r: &[u8]) -> Visit
+// The visit of any bytes: those past the end read as zeros.
+fn visit_in_any(r: &[u8]) -> Visit
     ensures { λ v. ⌜ v ≡ decode-visit (now (r .entry)) ⌝ }
 {
     Visit {
@@ -137,6 +139,39 @@ pub fn visit_in(r: &[u8]) -> Visit
             bytes::byte_at(r, 13),
         ),
     }
+}
+
+// The number of a low and a high byte.
+fn word_of(low: u8, high: u8) -> u16
+    ensures { λ r. ⌜ r ≡ low + 256 * high ⌝ }
+{
+    low as u16 + 256 * (high as u16)
+}
+
+// The visit of a record that is whole: no byte is past its end.
+fn visit_in_whole(r: &[u8]) -> Visit
+    requires { ⌜ length (now r) ≡ 16 ⌝ }
+    ensures { λ v. ⌜ v ≡ decode-visit (now (r .entry)) ⌝ }
+{
+    Visit {
+        track: Track(r[2]),
+        arrival: Minute(word_of(r[3], r[4])),
+        arrived: bytes::status_in(r[5]),
+        departure: Minute(word_of(r[6], r[7])),
+        departed: bytes::status_in(r[8]),
+        inward: in_link(r[9], r[10]),
+        outward: out_link(r[11], r[12], r[13]),
+    }
+}
+
+// The visit of a visit record.
+pub fn visit_in(r: &[u8]) -> Visit
+    ensures { λ v. ⌜ v ≡ decode-visit (now (r .entry)) ⌝ }
+{
+    if r.len() == 16 {
+        return visit_in_whole(r);
+    }
+    visit_in_any(r)
 }
 
 fn group_record(kind: u8, interval: u8, a: Train, b: Train, c: Train, d: Train) -> [u8; 16]

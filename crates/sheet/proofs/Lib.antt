@@ -1,13 +1,5 @@
-pub mod ShelfLaws
-pub mod FindLaws
-pub mod PutLaws
-pub mod FlatLaws
-pub mod ChangeLaws
-pub mod LossLaws
-pub mod AreaLaws
-pub mod PageLaws
 pub mod SheetLaws
-pub mod CopyLaws
+pub mod FillLaws
+pub mod StationLaws
 pub mod PassLaws
-pub mod AnewLaws
-pub mod CallLaws
+pub mod FrameLaws

@@ -1,5 +1,6 @@
--- The tests that the code makes decide what is good. A shelf passes just where it is that of the list that is read from it, each element of which passes and comes after
--- the one before: indexes are turned into a list of records, neighbours into each two. A page passes just where it is good. Assumes nothing.
+-- The tests that the code makes decide what is good. A row of slots passes just where it is that of the list that is
+-- read from it, each element of which passes and comes after the one before: indexes are turned into a list of records,
+-- neighbours into each two. A page passes just where it is good. Assumes nothing.
 use Prim.Native.Nat.{ℕ, zero, suc, _+_, _*_, _-_, _≤_, _<_, min}
 use mathlib.Core.Path.{_≡_, refl, sym, _∙_, ap, ap₂, fun-ext}
 use mathlib.Core.Bool.{Bool, true, false, _&&_, _||_}
@@ -15,7 +16,7 @@ use Rattle.base.proofs.Lengths.{every-next}
 use Rattle.base.proofs.Sorted.{smaller-across, two-head, two-tail, two-cons, two-step, two-map, same-equal, same-refl, two-weaker}
 use Rattle.base.proofs.Tests.{true-T, and-l, and-r, both, or-l, or-r, or-cases, parts, every-head, every-tail, every-cons, every-weaker, every-map, every-true, every-both, T-false}
 use Rattle.railway.specs.Ranges.{train-ok}
-use Rattle.railway.specs.Networks.{listed, area-of}
+use Rattle.network.specs.Networks.{listed, area-of}
 use Rattle.railway.specs.Relations.{relation-ok, precedes}
 use Rattle.timetable.specs.Tables.{Entry, Table}
 use Rattle.timetable.specs.Good.{in-good, out-good, links-good, values-good, visit-good, entry-good, table-good}
@@ -25,15 +26,16 @@ use Rattle.timetable.proofs.TableLaws.{number, precedes-across, table-facts, ta
 use Rattle.records.specs.Bytes.{zeros, chunk, blank}
 use Rattle.records.specs.Records.{decode-train, decode-visit, visit-bytes, encode-entry, decode-entry, encode-relation, decode-relation}
 use Rattle.records.proofs.RecordLaws.{entry-length, relation-length, entry-back, relation-back}
-use Rattle.sheet.specs.Types.{Station, Train, Visit, InLink, OutLink, Relation, Network}
-use Rattle.sheet.specs.Pages.{shelf, encode-page, records-of, visit-records, relation-records, visits-of, relations-of, decode-page, good-page}
+use Rattle.sheet.specs.Types.{Station, Area, Train, Visit, InLink, OutLink, Relation, Network}
+use Rattle.page.specs.Pages.{slots, encode-page, records-of, visit-records, relation-records, visits-of, relations-of, decode-page, good-page}
 use Rattle.sheet.specs.Sheets.{sixteen, six, page-at, good-sheet, sheet-at, good-division}
-use Rattle.sheet.specs.Passes.{over-area, place-passes, sheet-passes, division-passes}
-use Rattle.sheet.specs.Passes.{visit-run, relation-run, in-passes, out-passes, visit-passes, relation-passes, train-after, relation-after, earlier, record-passes, comes-after, each-index, records-pass, shelf-passes, visits-pass, relations-pass, content-passes, page-passes}
-use Rattle.sheet.proofs.ShelfLaws.{length-records, record-there}
-use Rattle.sheet.proofs.FlatLaws.{flat-length, shelf-length, records-flat}
-use Rattle.sheet.proofs.PageLaws.{linked, always, Coded, page-length, relations-behind, good-coded, good-bytes, good-table}
-use Rattle.sheet.proofs.CopyLaws.{drop-take, part-size}
+use Rattle.sheet.specs.declared.test.Extent.{Extent}
+use Rattle.sheet.specs.between.Passes.{covers, place-passes, sheet-passes, division-passes}
+use Rattle.sheet.specs.between.Passes.{visit-run, relation-run, in-passes, out-passes, visit-passes, relation-passes, train-after, relation-after, earlier, record-passes, comes-after, each-index, records-pass, slots-passes, visits-pass, relations-pass, content-passes, page-passes}
+use Rattle.page.proofs.SlotLaws.{length-records, record-there}
+use Rattle.page.proofs.FlatLaws.{flat-length, slots-length, records-flat}
+use Rattle.page.proofs.PageLaws.{linked, always, Coded, page-length, relations-behind, good-coded, good-bytes, good-table}
+use Rattle.sheet.proofs.FillLaws.{drop-take, part-size}
 use Rattle.sheet.proofs.SheetLaws.{mk, station-at, sixteen-long, area-at, blank-zeros, zeros-blank}
 
 -- two tests that follow from each other are one
@@ -117,9 +119,9 @@ records-back encode decode (suc k) b t =
 
 module _ {A : Type 0} (encode : A → List ℕ) (decode : List ℕ → A) (ok : A → Bool) (before : A → A → Bool)
     (wide : (x : A) → length (encode x) ≡ 16) (across : (x y z : A) → T (before x y) → T (before y z) → T (before x z)) where
-  -- what a shelf that passes is
-  pub record Shelved (k m : ℕ) (b : List ℕ) : Type 0 where
-    pub bytes : b ≡ shelf encode m (map decode (records-of k b))
+  -- what a row of slots that passes is
+  pub record Slotted (k m : ℕ) (b : List ℕ) : Type 0 where
+    pub bytes : b ≡ slots encode m (map decode (records-of k b))
     pub each : T (every ok (map decode (records-of k b)))
     pub order : T (each-two before (map decode (records-of k b)))
 
@@ -154,9 +156,9 @@ module _ {A : Type 0} (encode : A → List ℕ) (decode : List ℕ → A) (ok : 
             (or-cases (eqb (suc j) 0) (before (decode (chunk (suc j - 1) b)) (decode (chunk (suc j) b))) u
             (λ z. absurd (omega (arith, eqb→eq (suc j) 0 z))) (λ v. rw e at v))
 
-  pub shelf-in : (k m : ℕ) (b : List ℕ) → length b ≡ 16 * m → k ≤ m → T (shelf-passes encode decode ok before k b) → Shelved k m b
-  unfolding shelf-passes shelf record-passes
-  shelf-in k m b size h t =
+  pub slots-in : (k m : ℕ) (b : List ℕ) → length b ≡ 16 * m → k ≤ m → T (slots-passes encode decode ok before k b) → Slotted k m b
+  unfolding slots-passes slots record-passes
+  slots-in k m b size h t =
       let u = and-l (records-pass encode decode ok before k b) (blank (drop (16 * k) b)) t in
       let z = and-r (records-pass encode decode ok before k b) (blank (drop (16 * k) b)) t in
       let rs = records-of k b in
@@ -172,7 +174,7 @@ module _ {A : Type 0} (encode : A → List ℕ) (decode : List ℕ → A) (ok : 
         order = rw (two-map before decode rs) (in-order k b u);
       }
 
-  -- the shelf of a list passes
+  -- the slots of a list passes
   module _ (coded : A → Bool) (back : (x : A) → T (coded x) → decode (encode x) ≡ x) (m : ℕ) (xs : List A) (few : length xs ≤ m)
       (c : T (every coded xs)) (each : T (every ok xs)) (order : T (each-two before xs)) where
     all-pass : T (every passes (map encode xs))
@@ -190,33 +192,33 @@ module _ {A : Type 0} (encode : A → List ℕ) (decode : List ℕ → A) (ok : 
         rw (two-map (λ r q. before (decode r) (decode q)) encode xs)
         (two-weaker before (λ x y. before (decode (encode x)) (decode (encode y))) coded (λ x y u v w. rw (back x u, back y v) w) xs c order)
 
-    chunk-is : (j : ℕ) → j < length xs → chunk j (shelf encode m xs) ≡ getD (map encode xs) j []
-    unfolding shelf
+    chunk-is : (j : ℕ) → j < length xs → chunk j (slots encode m xs) ≡ getD (map encode xs) j []
+    unfolding slots
     chunk-is j h =
-        sym (record-there (length xs) (shelf encode m xs) j h)
+        sym (record-there (length xs) (slots encode m xs) j h)
         ∙ ap (λ (rs : List (List ℕ)). getD rs j []) (records-flat encode wide xs (zeros (16 * (m - length xs))))
 
-    after-is : (j : ℕ) → j < length xs → T (comes-after decode before (shelf encode m xs) j)
+    after-is : (j : ℕ) → j < length xs → T (comes-after decode before (slots encode m xs) j)
     unfolding comes-after
     after-is zero h = tt
     after-is (suc j) h =
-        let b = shelf encode m xs in
+        let b = slots encode m xs in
         let e : suc j - 1 ≡ j = omega arith in
         or-r (eqb (suc j) 0) (before (decode (chunk (suc j - 1) b)) (decode (chunk (suc j) b)))
         (rw (e, chunk-is j (omega arith), chunk-is (suc j) h)
         (two-next [] (λ r q. before (decode r) (decode q)) (map encode xs) j all-order (omega (arith, length-map xs encode))))
 
-    pub shelf-out : T (shelf-passes encode decode ok before (length xs) (shelf encode m xs))
-    unfolding shelf-passes records-pass shelf
-    shelf-out =
-        both (records-pass encode decode ok before (length xs) (shelf encode m xs)) (blank (drop (16 * length xs) (shelf encode m xs)))
-        (test-index (λ i. passes (chunk i (shelf encode m xs)) && comes-after decode before (shelf encode m xs) i) (length xs) 0 one)
+    pub slots-out : T (slots-passes encode decode ok before (length xs) (slots encode m xs))
+    unfolding slots-passes records-pass slots
+    slots-out =
+        both (records-pass encode decode ok before (length xs) (slots encode m xs)) (blank (drop (16 * length xs) (slots encode m xs)))
+        (test-index (λ i. passes (chunk i (slots encode m xs)) && comes-after decode before (slots encode m xs) i) (length xs) 0 one)
         (rw (drop-at (flatMap encode xs) (zeros (16 * (m - length xs))) (16 * length xs) (flat-length encode wide xs)) (zeros-blank (16 * (m - length xs))))
       where
-        one : (j : ℕ) → j < length xs → T (passes (chunk (0 + j) (shelf encode m xs)) && comes-after decode before (shelf encode m xs) (0 + j))
+        one : (j : ℕ) → j < length xs → T (passes (chunk (0 + j) (slots encode m xs)) && comes-after decode before (slots encode m xs) (0 + j))
         one j h =
             rw (zero-add j)
-            (both (passes (chunk j (shelf encode m xs))) (comes-after decode before (shelf encode m xs) j)
+            (both (passes (chunk j (slots encode m xs))) (comes-after decode before (slots encode m xs) j)
             (rw (chunk-is j h) (every-all [] passes (map encode xs) j all-pass (omega (arith, length-map xs encode)))) (after-is j h))
 
 -- a page that passes is good
@@ -241,16 +243,16 @@ module _ (n : Network) (s : Station) (page : List ℕ) (size : length page ≡ 5
       blank-zeros (take 30 (drop 2 page)) (search parts)
       ∙ ap zeros (length-take-le 30 (drop 2 page) (omega (arith, length-drop 2 page)))
 
-  visits-shelved : Shelved encode-entry decode-entry (entry-good n s) earlier entry-length (smaller-across number) (getD page 0 0) 24 visit-part
+  visits-slotted : Slotted encode-entry decode-entry (entry-good n s) earlier entry-length (smaller-across number) (getD page 0 0) 24 visit-part
   unfolding content-passes visits-pass
-  visits-shelved =
-      shelf-in encode-entry decode-entry (entry-good n s) earlier entry-length (smaller-across number) (getD page 0 0) 24 visit-part
+  visits-slotted =
+      slots-in encode-entry decode-entry (entry-good n s) earlier entry-length (smaller-across number) (getD page 0 0) 24 visit-part
       (length-take-le 384 (drop 32 page) (omega (arith, length-drop 32 page))) few (search parts)
 
-  relations-shelved : Shelved encode-relation decode-relation relation-ok precedes relation-length precedes-across (getD page 1 0) 6 relation-part
+  relations-slotted : Slotted encode-relation decode-relation relation-ok precedes relation-length precedes-across (getD page 1 0) 6 relation-part
   unfolding content-passes relations-pass
-  relations-shelved =
-      shelf-in encode-relation decode-relation relation-ok precedes relation-length precedes-across (getD page 1 0) 6 relation-part
+  relations-slotted =
+      slots-in encode-relation decode-relation relation-ok precedes relation-length precedes-across (getD page 1 0) 6 relation-part
       (length-take-le 96 (drop 416 page) (omega (arith, length-drop 416 page))) pairs (search parts)
 
   entries-count : length entries ≡ getD page 0 0
@@ -281,14 +283,14 @@ module _ (n : Network) (s : Station) (page : List ℕ) (size : length page ≡ 5
       let front : page ≡ getD page 0 0 ∷ getD page 1 0 ∷ drop 2 page =
       drop-cons page 0 0 (omega arith) ∙ ap (λ (q : List ℕ). getD page 0 0 ∷ q) (drop-cons page 1 0 (omega arith)) in
       front ∙ (λ i. sym entries-count i ∷ sym relations-count i ∷ head i)
-      ∙ ap₂ (λ (v r : List ℕ). length entries ∷ length kept-relations ∷ (zeros 30 ++ (v ++ r))) (visits-shelved .bytes) (relations-shelved .bytes)
+      ∙ ap₂ (λ (v r : List ℕ). length entries ∷ length kept-relations ∷ (zeros 30 ++ (v ++ r))) (visits-slotted .bytes) (relations-slotted .bytes)
 
   table-passes : T (table-good n s (record { visits = entries; relations = kept-relations }))
   unfolding entries kept-relations
   table-passes =
       table-fits n s (record { visits = entries; relations = kept-relations }) (record {
-        visits = record { few = omega (arith, entries-count); order = visits-shelved .order; each = visits-shelved .each };
-        relations = record { few = omega (arith, relations-count); order = relations-shelved .order; each = relations-shelved .each };
+        visits = record { few = omega (arith, entries-count); order = visits-slotted .order; each = visits-slotted .each };
+        relations = record { few = omega (arith, relations-count); order = relations-slotted .order; each = relations-slotted .each };
       })
 
   content-good : T (good-page n s page)
@@ -304,34 +306,34 @@ module _ (n : Network) (s : Station) (tab : Table) (t : T (table-good n s tab)) 
   coded : Coded tab
   coded = good-coded n s tab t
 
-  visit-shelf-passes : T (visits-pass n s (length (tab .visits)) (shelf encode-entry 24 (tab .visits)))
+  visit-slots-passes : T (visits-pass n s (length (tab .visits)) (slots encode-entry 24 (tab .visits)))
   unfolding visits-pass
-  visit-shelf-passes =
+  visit-slots-passes =
       let g = table-facts n s tab t in
-      shelf-out encode-entry decode-entry (entry-good n s) earlier entry-length (smaller-across number) linked entry-back 24 (tab .visits)
+      slots-out encode-entry decode-entry (entry-good n s) earlier entry-length (smaller-across number) linked entry-back 24 (tab .visits)
       (coded .visits) (coded .links) (g .visits .each) (g .visits .order)
 
-  relation-shelf-passes : T (relations-pass (length (tab .relations)) (shelf encode-relation 6 (tab .relations)))
+  relation-slots-passes : T (relations-pass (length (tab .relations)) (slots encode-relation 6 (tab .relations)))
   unfolding relations-pass always
-  relation-shelf-passes =
+  relation-slots-passes =
       let g = table-facts n s tab t in
-      shelf-out encode-relation decode-relation relation-ok precedes relation-length precedes-across always (λ r u. relation-back r) 6 (tab .relations)
+      slots-out encode-relation decode-relation relation-ok precedes relation-length precedes-across always (λ r u. relation-back r) 6 (tab .relations)
       (coded .relations) (every-true (tab .relations)) (g .relations .each) (g .relations .order)
 
   encoded-passes : T (page-passes n s (encode-page tab))
   unfolding page-passes content-passes encode-page blank every
   encoded-passes =
       let page = encode-page tab in
-      let visits : take 384 (drop 32 page) ≡ shelf encode-entry 24 (tab .visits) =
-      take-at (shelf encode-entry 24 (tab .visits)) (shelf encode-relation 6 (tab .relations)) 384 (shelf-length encode-entry entry-length 24 (tab .visits) (coded .visits)) in
-      let relations : take 96 (drop 416 page) ≡ shelf encode-relation 6 (tab .relations) =
+      let visits : take 384 (drop 32 page) ≡ slots encode-entry 24 (tab .visits) =
+      take-at (slots encode-entry 24 (tab .visits)) (slots encode-relation 6 (tab .relations)) 384 (slots-length encode-entry entry-length 24 (tab .visits) (coded .visits)) in
+      let relations : take 96 (drop 416 page) ≡ slots encode-relation 6 (tab .relations) =
       ap (take 96) (relations-behind tab coded)
-      ∙ take-all 96 (shelf encode-relation 6 (tab .relations)) (omega (arith, shelf-length encode-relation relation-length 6 (tab .relations) (coded .relations))) in
+      ∙ take-all 96 (slots encode-relation 6 (tab .relations)) (omega (arith, slots-length encode-relation relation-length 6 (tab .relations) (coded .relations))) in
       let size : T (eqb (length page) 512) = true-T (eqb (length page) 512) (eq-eqb (length page) 512 (page-length tab coded)) in
       let few : T (leb (length (tab .visits)) 24) = le→leb (length (tab .visits)) 24 (coded .visits) in
       let pairs : T (leb (length (tab .relations)) 6) = le→leb (length (tab .relations)) 6 (coded .relations) in
-      let v : T (visits-pass n s (length (tab .visits)) (take 384 (drop 32 page))) = rw visits visit-shelf-passes in
-      let r : T (relations-pass (length (tab .relations)) (take 96 (drop 416 page))) = rw relations relation-shelf-passes in
+      let v : T (visits-pass n s (length (tab .visits)) (take 384 (drop 32 page))) = rw visits visit-slots-passes in
+      let r : T (relations-pass (length (tab .relations)) (take 96 (drop 416 page))) = rw relations relation-slots-passes in
       search both
 
 -- the test of a page decides whether it is good, whatever its bytes
@@ -441,19 +443,19 @@ pub relation-run-start : (k : ℕ) (b : List ℕ) → relation-run k b ≡ all-f
 unfolding relation-run records-pass all-from relation-passes relation-after
 relation-run-start k b = rw (sub-zero k)
 
--- shelves
+-- slots
 
 rest-is : (b : List ℕ) (k : ℕ) → take (length b - 16 * k) (drop (16 * k) b) ≡ drop (16 * k) b
 rest-is b k = take-all (length b - 16 * k) (drop (16 * k) b) (omega (arith, length-drop (16 * k) b))
 
 pub visits-tests : (n : Network) (s : Station) (k : ℕ) (b : List ℕ) (x y : Bool) → x ≡ visit-run n s k b → y ≡ blank (take (length b - 16 * k) (drop (16 * k) b))
     → (x && y) ≡ visits-pass n s k b
-unfolding visits-pass shelf-passes visit-run
+unfolding visits-pass slots-passes visit-run
 visits-tests n s k b x y p q = rw (p, q, rest-is b k)
 
 pub relations-tests : (k : ℕ) (b : List ℕ) (x y : Bool) → x ≡ relation-run k b → y ≡ blank (take (length b - 16 * k) (drop (16 * k) b))
     → (x && y) ≡ relations-pass k b
-unfolding relations-pass shelf-passes relation-run
+unfolding relations-pass slots-passes relation-run
 relations-tests k b x y p q = rw (p, q, rest-is b k)
 
 -- a page
@@ -480,41 +482,37 @@ module _ (n : Network) (s : Station) (page : List ℕ) where
 
 -- sheets
 
-pub over-all : (n : Network) → over-area n 0 ≡ listed n
-unfolding over-area
-over-all n = fun-ext λ k. go (listed n k)
-  where
-    go : (b : Bool) → (b && true) ≡ b
-    go true = refl
-    go false = refl
+pub over-all : (n : Network) → covers n Extent.Whole ≡ listed n
+unfolding covers
+over-all n = fun-ext λ k. refl
 
-pub over-own : (n : Network) (a : ℕ) → 0 < a → over-area n a ≡ (λ k. listed n k && in-group (area-of n) a k)
-unfolding over-area in-group
-over-own n a h = fun-ext λ k. rw (ne-eqb a 0 (λ e. omega arith), lt-ltb 0 a h)
+pub over-own : (n : Network) (a : Area) → 0 < a .0 → covers n (Extent.Of a) ≡ (λ k. listed n k && in-group (area-of n) (a .0) k)
+unfolding covers in-group
+over-own n a h = fun-ext λ k. rw (lt-ltb 0 (a .0) h)
 
 -- the test of a sheet of 8,192 bytes: of all listed stations, or of one area's
-pub whole-test : (n : Network) (sheet : List ℕ) → length sheet ≡ 8192 → sheet-passes n 0 sheet ≡ good-sheet n (listed n) sheet
+pub whole-test : (n : Network) (sheet : List ℕ) → length sheet ≡ 8192 → sheet-passes n Extent.Whole sheet ≡ good-sheet n (listed n) sheet
 unfolding sheet-passes
 whole-test n sheet size = rw (eq-eqb (length sheet) 8192 size, over-all n)
 
-pub area-test : (n : Network) (a : ℕ) (sheet : List ℕ) → 0 < a → length sheet ≡ 8192
-    → sheet-passes n a sheet ≡ good-sheet n (λ k. listed n k && in-group (area-of n) a k) sheet
+pub area-test : (n : Network) (a : Area) (sheet : List ℕ) → 0 < a .0 → length sheet ≡ 8192
+    → sheet-passes n (Extent.Of a) sheet ≡ good-sheet n (λ k. listed n k && in-group (area-of n) (a .0) k) sheet
 unfolding sheet-passes
 area-test n a sheet h size = rw (eq-eqb (length sheet) 8192 size, over-own n a h)
 
-pub place-over : (n : Network) (a : ℕ) (k : Station) (page : List ℕ) (o : Bool) → o ≡ over-area n a k → o ≡ true → good-page n k page ≡ place-passes n a k page
+pub place-over : (n : Network) (a : Extent) (k : Station) (page : List ℕ) (o : Bool) → o ≡ covers n a k → o ≡ true → good-page n k page ≡ place-passes n a k page
 unfolding place-passes
 place-over n a k page o p e = rw (← p, e)
 
-pub place-bare : (n : Network) (a : ℕ) (k : Station) (page : List ℕ) (o : Bool) → o ≡ over-area n a k → o ≡ false → blank page ≡ place-passes n a k page
+pub place-bare : (n : Network) (a : Extent) (k : Station) (page : List ℕ) (o : Bool) → o ≡ covers n a k → o ≡ false → blank page ≡ place-passes n a k page
 unfolding place-passes
 place-bare n a k page o p e = rw (← p, e)
 
 -- the pages of a sheet from an index on
-unfoldable pub places-from : Network → ℕ → List ℕ → ℕ → Bool
+unfoldable pub places-from : Network → Extent → List ℕ → ℕ → Bool
 places-from n a sheet i = every (λ k. place-passes n a k (page-at sheet k)) (drop i sixteen)
 
-module _ (n : Network) (a : ℕ) (sheet : List ℕ) where
+module _ (n : Network) (a : Extent) (sheet : List ℕ) where
   pub sheet-short : ¬ (length sheet ≡ 8192) → false ≡ sheet-passes n a sheet
   unfolding sheet-passes
   sheet-short d = rw (ne-eqb (length sheet) 8192 d)
@@ -561,7 +559,7 @@ module _ (n : Network) (division : List ℕ) where
 
     module _ (i a : ℕ) (e : a ≡ i + 1) where
       sheets-next : i < 6 → sheets-from n division i
-          ≡ (sheet-passes n a (take (8192 * i + 8192 - 8192 * i) (drop (8192 * i) division)) && sheets-from n division (i + 1))
+          ≡ (sheet-passes n (Extent.Of (record { 0 = a })) (take (8192 * i + 8192 - 8192 * i) (drop (8192 * i) division)) && sheets-from n division (i + 1))
       unfolding sheets-from sheet-at sheet-passes
       sheets-next h =
           let f : ℕ → Bool = λ b. good-sheet n (λ k. listed n k && in-group (area-of n) b k) (sheet-at division b) in
@@ -573,12 +571,12 @@ module _ (n : Network) (division : List ℕ) where
           ∙ ap (λ (b : ℕ). f b && every f (drop (i + 1) six)) (area-at i h ∙ sym e)
           ∙ ap (λ (j : ℕ). good-sheet n (λ k. listed n k && in-group (area-of n) a k) (take 8192 (drop (8192 * j) division)) && every f (drop (i + 1) six)) (ap (λ (b : ℕ). b - 1) e ∙ z)
           ∙ ap (λ (b : List ℕ). good-sheet n (λ k. listed n k && in-group (area-of n) a k) b && every f (drop (i + 1) six)) c
-          ∙ sym (rw (eq-eqb (length part) 8192 l, over-own n a (omega arith)))
+          ∙ sym (rw (eq-eqb (length part) 8192 l, over-own n (record { 0 = a }) (omega arith)))
 
-      pub sheets-not : i < 6 → sheet-passes n a (take (8192 * i + 8192 - 8192 * i) (drop (8192 * i) division)) ≡ false → sheets-from n division i ≡ false
+      pub sheets-not : i < 6 → sheet-passes n (Extent.Of (record { 0 = a })) (take (8192 * i + 8192 - 8192 * i) (drop (8192 * i) division)) ≡ false → sheets-from n division i ≡ false
       sheets-not h p = sheets-next h ∙ rw p
 
-      pub sheets-on : i < 6 → sheet-passes n a (take (8192 * i + 8192 - 8192 * i) (drop (8192 * i) division)) ≡ true
+      pub sheets-on : i < 6 → sheet-passes n (Extent.Of (record { 0 = a })) (take (8192 * i + 8192 - 8192 * i) (drop (8192 * i) division)) ≡ true
           → sheets-from n division i ≡ sheets-from n division (i + 1)
       sheets-on h p = sheets-next h ∙ rw p
 

@@ -1,6 +1,6 @@
--- Sheets and divisions as parts of equal length in a row: the part at each place is the one that was put there, and bytes of the right length are their own parts
--- in a row, so two sheets with equal pages are equal. From that: a sheet and its timetable, and that dividing and merging give back each other.
--- Assumes nothing.
+-- Sheets and divisions as parts of equal length in a row: the part at each place is the one that was put there, and
+-- bytes of the right length are their own parts in a row, so two sheets with equal pages are equal. From that: a sheet
+-- and its timetable, and that dividing and merging give back each other. Assumes nothing.
 use Prim.Native.Nat.{ℕ, zero, suc, _+_, _*_, _-_, _≤_, _<_}
 use mathlib.Core.Path.{_≡_, refl, sym, _∙_, ap, ap₂, fun-ext}
 use mathlib.Core.Bool.{Bool, true, false, not, _&&_}
@@ -14,17 +14,17 @@ use Rattle.base.specs.Choice.{if_then_else_}
 use Rattle.base.specs.Lists.{every, within}
 use Rattle.base.proofs.Tests.{by-value, T-true, true-T, not-T-false, and-l, and-r, both, every-head, every-tail, every-cons, every-weaker}
 use Rattle.railway.specs.Ranges.{station-ok}
-use Rattle.railway.specs.Networks.{network-refusal, listed, area-of}
+use Rattle.network.specs.Networks.{network-refusal, listed, area-of}
 use Rattle.timetable.specs.Tables.{empty}
 use Rattle.timetable.specs.Machine.{Timetable}
 use Rattle.timetable.specs.Groups.{in-group, divide, merge}
 use Rattle.timetable.specs.Good.{Good, table-good}
 use Rattle.records.specs.Bytes.{zeros, blank}
 use Rattle.sheet.specs.Types.{Station, Network}
-use Rattle.sheet.specs.Pages.{encode-page, decode-page, good-page}
+use Rattle.page.specs.Pages.{encode-page, decode-page, good-page}
 use Rattle.sheet.specs.Sheets.{sixteen, six, page-at, encode-sheet, decode-sheet, good-sheet, sheet-at, good-division, divided, merged}
-use Rattle.sheet.proofs.AreaLaws.{area-high, listed-placed}
-use Rattle.sheet.proofs.PageLaws.{Coded, page-length, page-back, blank-page, blank-back, empty-coded, good-coded, encoded-good, good-table, good-same}
+use Rattle.network.proofs.AreaLaws.{area-high, listed-placed}
+use Rattle.page.proofs.PageLaws.{Coded, page-length, page-back, blank-page, blank-back, empty-coded, good-coded, encoded-good, good-table, good-same}
 
 -- parts of equal length in a row
 

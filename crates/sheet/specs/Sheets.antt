@@ -1,5 +1,5 @@
--- Sheets of 16 pages and divisions of six sheets. Document 01, "Sheets and division": "A sheet is 8,192 bytes and holds one timetable"; "A division is 49,152 bytes, six sheets
--- by area." Assumes nothing.
+-- Sheets of 16 pages and divisions of six sheets. Document 01, "Sheets and division": "A sheet is 8,192 bytes and holds
+-- one timetable"; "A division is 49,152 bytes, six sheets by area." Assumes nothing.
 use Prim.Native.Nat.{ℕ, _+_, _*_, _-_}
 use mathlib.Core.Bool.{Bool, true, false, not, _&&_, _||_}
 use mathlib.Core.List.{List, [], _∷_, _++_, map, flatMap}
@@ -8,13 +8,14 @@ use lib.ListN.{length, take, drop}
 use Rattle.base.specs.Choice.{if_then_else_, _if_else_}
 use Rattle.base.specs.Lists.{every}
 use Rattle.railway.specs.Ranges.{station-ok, area-ok}
-use Rattle.railway.specs.Networks.{network-refusal, listed, area-of}
+use Rattle.network.specs.Networks.{network-refusal, listed, area-of}
+use Rattle.timetable.specs.Refusals.{call-refusal}
 use Rattle.timetable.specs.Tables.{Table, empty}
 use Rattle.timetable.specs.Machine.{Timetable}
 use Rattle.timetable.specs.Groups.{in-group}
 use Rattle.records.specs.Bytes.{zeros, blank}
 use Rattle.sheet.specs.Types.{Station, Area, Network}
-use Rattle.sheet.specs.Pages.{encode-page, decode-page, good-page}
+use Rattle.page.specs.Pages.{encode-page, decode-page, good-page}
 
 -- stations 1 to 16, areas 1 to 6
 unfoldable pub sixteen : List Station
@@ -58,12 +59,14 @@ merged n division = flatMap (λ k. if ltb 0 (area-of n k) then page-at (sheet-at
 unfoldable pub area-part : List ℕ → Area → List ℕ
 area-part division a = if eqb (length division) 49152 && area-ok a then sheet-at division (a .0) else []
 
+-- a station's page of a sheet, or an empty part where there is no sheet or no such station
+unfoldable pub station-part : List ℕ → Station → List ℕ
+station-part sheet s = if eqb (length sheet) 8192 && station-ok s then page-at sheet s else []
+
 -- 5, 3, 4, 6 in this order
 unfoldable pub divide-refusal : Network → List ℕ → List ℕ → ℕ
 divide-refusal n sheet division =
-    5 if not (eqb (length sheet) 8192 && eqb (length division) 49152)
-    else if eqb (network-refusal n) 0 then 6 if not (good-sheet n (listed n) sheet) else 0
-    else network-refusal n
+    call-refusal (eqb (length sheet) 8192 && eqb (length division) 49152) (network-refusal n) (good-sheet n (listed n) sheet) 0
 
 -- the division afterwards: as it was on a refusal
 unfoldable pub after-divide : Network → List ℕ → List ℕ → List ℕ
@@ -71,15 +74,13 @@ after-divide n sheet division = if eqb (divide-refusal n sheet division) 0 then 
 
 unfoldable pub merge-refusal : Network → List ℕ → List ℕ → ℕ
 merge-refusal n division sheet =
-    5 if not (eqb (length division) 49152 && eqb (length sheet) 8192)
-    else if eqb (network-refusal n) 0 then 6 if not (good-division n division) else 0
-    else network-refusal n
+    call-refusal (eqb (length division) 49152 && eqb (length sheet) 8192) (network-refusal n) (good-division n division) 0
 
 unfoldable pub after-merge : Network → List ℕ → List ℕ → List ℕ
 after-merge n division sheet = if eqb (merge-refusal n division sheet) 0 then merged n division else sheet
 
 -- The key ring of this module: `unfolding opened` opens every definition above.
 unfoldable pub opened : Unit {0}
-unfolding sixteen page-at encode-sheet decode-sheet good-sheet sheet-at good-division divided merged area-part divide-refusal after-divide
+unfolding sixteen page-at encode-sheet decode-sheet good-sheet sheet-at good-division divided merged area-part station-part divide-refusal after-divide
     merge-refusal after-merge
 opened = tt

@@ -1,5 +1,3 @@
-// Pages and sheets: a station's page of 512 bytes, changed by one record at a time; whether a page, a sheet and a division are good; dividing and merging.
-pub mod loss; // a train taken out of a relation
-pub mod page; // a page read and changed by one record at a time
-pub mod division; // an area's part of a division, dividing and merging
+// Sheets: the page of a station in a sheet; whether a page, a sheet and a division are good.
+pub mod station_page; // a station's page of a sheet
 pub mod test; // whether a page, a sheet and a division are good

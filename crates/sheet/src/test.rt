@@ -1,14 +1,16 @@
-// Whether a page, a sheet and a division are good: "byte for byte that of its timetable, within the limits, in the layout's order, with no visit or relation twice".
-// A record is read, written anew and compared: what is not byte for byte its own is found so.
+// Whether a page, a sheet and a division are good: "byte for byte that of its timetable, within the limits, in the
+// layout's order, with no visit or relation twice". A record is read, written anew and compared: what is not byte for
+// byte its own is found so.
 ghost use mathlib.Core.Path.{_≡_};
 ghost use Prim.Native.Nat.{_+_, _*_, _≤_};
 ghost use lib.ListN.{length};
 ghost use Rattle.base.specs.Lists.{same};
 ghost use Rattle.timetable.specs.Good.{values-good, visit-good};
-ghost use Rattle.sheet.specs.Pages.{good-page};
-ghost use Rattle.sheet.specs.Passes.{in-passes, out-passes, visit-passes, relation-passes, train-after, relation-after, visit-run, relation-run};
-ghost use Rattle.sheet.specs.Passes.{visits-pass, relations-pass, over-area, place-passes, sheet-passes, division-passes};
-use railway::network::Network;
+ghost use Rattle.page.specs.Pages.{good-page};
+ghost use Rattle.sheet.specs.between.Passes.{in-passes, out-passes, visit-passes, relation-passes, train-after, relation-after, visit-run, relation-run};
+ghost use Rattle.sheet.specs.between.Passes.{visits-pass, relations-pass, covers, place-passes, sheet-passes, division-passes};
+use network::Network;
+use railway::sorts::Area;
 use railway::sorts::Station;
 use railway::visit;
 use railway::visit::InLink;
@@ -18,7 +20,7 @@ use records::bytes;
 use records::record;
 
 // Whether the bytes are the same.
-fn is_same(a: &[u8], b: &[u8]) -> bool
+pub fn is_same(a: &[u8], b: &[u8]) -> bool
     ensures { λ r. ⌜ r ≡ same (now (a .entry)) (now (b .entry)) ⌝ }
 {
     if a.len() != b.len() {
@@ -36,7 +38,7 @@ fn is_same(a: &[u8], b: &[u8]) -> bool
 
 // A visit's values: "it has only values that an edit could carry under the network without 3 or 7"
 
-fn in_good(l: InLink, network: Network, s: Station) -> bool
+pub fn in_good(l: InLink, network: Network, s: Station) -> bool
     ensures { λ r. ⌜ r ≡ in-passes network s l ⌝ }
 {
     match l {
@@ -54,7 +56,7 @@ fn in_good(l: InLink, network: Network, s: Station) -> bool
     }
 }
 
-fn out_good(l: OutLink, network: Network, s: Station) -> bool
+pub fn out_good(l: OutLink, network: Network, s: Station) -> bool
     ensures { λ r. ⌜ r ≡ out-passes network s l ⌝ }
 {
     match l {
@@ -128,44 +130,44 @@ fn good_relation_record(r: &[u8]) -> bool
 }
 
 // The record at an index is the first, or comes after the one before it.
-fn train_after(shelf: &[u8], i: usize) -> bool
-    requires { ⌜ 16 * i + 16 ≤ length (now shelf) ⌝ }
-    ensures { λ r. ⌜ r ≡ train-after (now (shelf .entry)) i ⌝ }
+fn train_after(slots: &[u8], i: usize) -> bool
+    requires { ⌜ 16 * i + 16 ≤ length (now slots) ⌝ }
+    ensures { λ r. ⌜ r ≡ train-after (now (slots .entry)) i ⌝ }
 {
     if i == 0 {
         return true;
     }
     let before = 16 * (i - 1);
     let at = 16 * i;
-    let a = record::train_in(&shelf[before..before + 16]);
-    let b = record::train_in(&shelf[at..at + 16]);
+    let a = record::train_in(&slots[before..before + 16]);
+    let b = record::train_in(&slots[at..at + 16]);
     a.0 < b.0
 }
 
-fn relation_after(shelf: &[u8], i: usize) -> bool
-    requires { ⌜ 16 * i + 16 ≤ length (now shelf) ⌝ }
-    ensures { λ r. ⌜ r ≡ relation-after (now (shelf .entry)) i ⌝ }
+fn relation_after(slots: &[u8], i: usize) -> bool
+    requires { ⌜ 16 * i + 16 ≤ length (now slots) ⌝ }
+    ensures { λ r. ⌜ r ≡ relation-after (now (slots .entry)) i ⌝ }
 {
     if i == 0 {
         return true;
     }
     let before = 16 * (i - 1);
     let at = 16 * i;
-    let a = record::relation_in(&shelf[before..before + 16]);
-    let b = record::relation_in(&shelf[at..at + 16]);
+    let a = record::relation_in(&slots[before..before + 16]);
+    let b = record::relation_in(&slots[at..at + 16]);
     a.precedes(b)
 }
 
 // The first n records.
-fn visit_run(shelf: &[u8], n: usize, network: Network, s: Station) -> bool
-    requires { ⌜ 16 * n ≤ length (now shelf) ⌝ }
-    ensures { λ r. ⌜ r ≡ visit-run network s n (now (shelf .entry)) ⌝ }
+fn visit_run(slots: &[u8], n: usize, network: Network, s: Station) -> bool
+    requires { ⌜ 16 * n ≤ length (now slots) ⌝ }
+    ensures { λ r. ⌜ r ≡ visit-run network s n (now (slots .entry)) ⌝ }
 {
     let mut i: usize = 0;
     while i < n {
         let at = 16 * i;
-        if good_visit_record(&shelf[at..at + 16], network, s) {
-            if train_after(shelf, i) {
+        if good_visit_record(&slots[at..at + 16], network, s) {
+            if train_after(slots, i) {
                 i += 1;
             } else {
                 return false;
@@ -177,15 +179,15 @@ fn visit_run(shelf: &[u8], n: usize, network: Network, s: Station) -> bool
     true
 }
 
-fn relation_run(shelf: &[u8], n: usize) -> bool
-    requires { ⌜ 16 * n ≤ length (now shelf) ⌝ }
-    ensures { λ r. ⌜ r ≡ relation-run n (now (shelf .entry)) ⌝ }
+fn relation_run(slots: &[u8], n: usize) -> bool
+    requires { ⌜ 16 * n ≤ length (now slots) ⌝ }
+    ensures { λ r. ⌜ r ≡ relation-run n (now (slots .entry)) ⌝ }
 {
     let mut i: usize = 0;
     while i < n {
         let at = 16 * i;
-        if good_relation_record(&shelf[at..at + 16]) {
-            if relation_after(shelf, i) {
+        if good_relation_record(&slots[at..at + 16]) {
+            if relation_after(slots, i) {
                 i += 1;
             } else {
                 return false;
@@ -197,25 +199,25 @@ fn relation_run(shelf: &[u8], n: usize) -> bool
     true
 }
 
-// The records of a shelf, and zeros behind them.
-fn good_visits(shelf: &[u8], n: usize, network: Network, s: Station) -> bool
-    requires { ⌜ 16 * n ≤ length (now shelf) ⌝ }
-    ensures { λ r. ⌜ r ≡ visits-pass network s n (now (shelf .entry)) ⌝ }
+// The records of a row of slots, and zeros behind them.
+fn good_visits(slots: &[u8], n: usize, network: Network, s: Station) -> bool
+    requires { ⌜ 16 * n ≤ length (now slots) ⌝ }
+    ensures { λ r. ⌜ r ≡ visits-pass network s n (now (slots .entry)) ⌝ }
 {
-    if visit_run(shelf, n, network, s) {
+    if visit_run(slots, n, network, s) {
         let at = 16 * n;
-        return bytes::is_blank(&shelf[at..]);
+        return bytes::is_blank(&slots[at..]);
     }
     false
 }
 
-fn good_relations(shelf: &[u8], n: usize) -> bool
-    requires { ⌜ 16 * n ≤ length (now shelf) ⌝ }
-    ensures { λ r. ⌜ r ≡ relations-pass n (now (shelf .entry)) ⌝ }
+fn good_relations(slots: &[u8], n: usize) -> bool
+    requires { ⌜ 16 * n ≤ length (now slots) ⌝ }
+    ensures { λ r. ⌜ r ≡ relations-pass n (now (slots .entry)) ⌝ }
 {
-    if relation_run(shelf, n) {
+    if relation_run(slots, n) {
         let at = 16 * n;
-        return bytes::is_blank(&shelf[at..]);
+        return bytes::is_blank(&slots[at..]);
     }
     false
 }
@@ -243,32 +245,39 @@ pub fn good_page(page: &[u8], network: Network, s: Station) -> bool
     false
 }
 
-// A station of the sheet of an area, 0 standing for all stations that are listed.
-fn is_over(network: Network, a: u8, k: Station) -> bool
-    ensures { λ r. ⌜ r ≡ over-area network a k ⌝ }
+// The stations that a sheet is over: all that are listed, or those of an area.
+pub enum Extent {
+    Whole,
+    Of(Area),
+}
+
+fn is_over(network: Network, extent: Extent, k: Station) -> bool
+    ensures { λ r. ⌜ r ≡ covers network extent k ⌝ }
 {
-    if network.listed(k) {
-        if a == 0 {
-            return true;
+    match extent {
+        Extent::Whole => network.listed(k),
+        Extent::Of(a) => {
+            if network.listed(k) {
+                return a.0 == network.group_of(k);
+            }
+            false
         }
-        return a == network.area_of(k);
     }
-    false
 }
 
 // The page of a station of the sheet is good, any other is zeros.
-fn good_place(page: &[u8], network: Network, a: u8, k: Station) -> bool
-    ensures { λ r. ⌜ r ≡ place-passes network a k (now (page .entry)) ⌝ }
+fn good_place(page: &[u8], network: Network, extent: Extent, k: Station) -> bool
+    ensures { λ r. ⌜ r ≡ place-passes network extent k (now (page .entry)) ⌝ }
 {
-    if is_over(network, a, k) {
+    if is_over(network, extent, k) {
         return good_page(page, network, k);
     }
     bytes::is_blank(page)
 }
 
-// A sheet of the stations of area a; 0 for a sheet of all that are listed.
-pub fn good_sheet(sheet: &[u8], network: Network, a: u8) -> bool
-    ensures { λ r. ⌜ r ≡ sheet-passes network a (now (sheet .entry)) ⌝ }
+// A sheet over those stations.
+pub fn good_sheet(sheet: &[u8], network: Network, extent: Extent) -> bool
+    ensures { λ r. ⌜ r ≡ sheet-passes network extent (now (sheet .entry)) ⌝ }
 {
     if sheet.len() != 8192 {
         return false;
@@ -277,7 +286,7 @@ pub fn good_sheet(sheet: &[u8], network: Network, a: u8) -> bool
     let mut k: u8 = 1;
     while i < 16 {
         let at = 512 * i;
-        if good_place(&sheet[at..at + 512], network, a, Station(k)) {
+        if good_place(&sheet[at..at + 512], network, extent, Station(k)) {
             i += 1;
             k += 1;
         } else {
@@ -297,7 +306,7 @@ pub fn good_division(division: &[u8], network: Network) -> bool
     let mut a: u8 = 1;
     while i < 6 {
         let at = 8192 * i;
-        if good_sheet(&division[at..at + 8192], network, a) {
+        if good_sheet(&division[at..at + 8192], network, Extent::Of(Area(a))) {
             i += 1;
             a += 1;
         } else {

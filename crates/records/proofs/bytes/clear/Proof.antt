@@ -1,4 +1,5 @@
--- `records::bytes::clear` meets its contract. The loop's invariant: the first i bytes are zeros, the rest is as it was. Assumes nothing.
+-- `records::bytes::clear` meets its contract. The loop's invariant: the first i bytes are zeros, the rest is as it was.
+-- Assumes nothing.
 use borrow.Author.Needs.{needs}
 use native.Mathlib.Omega.{arith}
 use Prim.Native.Nat.{ℕ, _≤_, _-_}
@@ -48,13 +49,4 @@ returns c =
 pub clear-spec : {M : Type 1} → statement M
 clear-spec =
     tie.close
-    (tie.spec
-    Inv-loop
-    μ-loop
-    loop-holds
-    slice-write-part
-    add-i
-    loop-less
-    loop-again
-    same-length
-    returns)
+    (tie.spec Inv-loop μ-loop loop-holds slice-write-part add-i loop-less loop-again same-length returns)

@@ -1,4 +1,5 @@
--- `records::bytes::close_up` meets its contract. The loop's invariant: the first i bytes are those 16 places on, the rest is as it was. Assumes nothing.
+-- `records::bytes::close_up` meets its contract. The loop's invariant: the first i bytes are those 16 places on, the
+-- rest is as it was. Assumes nothing.
 use borrow.Author.Needs.{needs}
 use native.Mathlib.Omega.{arith}
 use Prim.Native.Nat.{ℕ, _+_, _≤_, _-_}
@@ -78,20 +79,5 @@ returns-2 c =
 pub close-up-spec : {M : Type 1} → statement M
 close-up-spec =
     tie.close
-    (tie.spec
-    Inv-loop
-    μ-loop
-    returns
-    loop-holds
-    add-b
-    slice-read-b
-    slice-write-part
-    add-i
-    loop-less
-    loop-again
-    sub-clear
-    part-clear-start
-    part-clear-end
-    clear-requires
-    same-length
-    returns-2)
+    (tie.spec Inv-loop μ-loop returns loop-holds add-b slice-read-b slice-write-part add-i loop-less loop-again
+    sub-clear part-clear-start part-clear-end clear-requires same-length returns-2)

@@ -1,4 +1,5 @@
--- `records::bytes::copy` meets its contract. The loop's invariant: the first i bytes are the source's, the rest is as it was. Assumes nothing.
+-- `records::bytes::copy` meets its contract. The loop's invariant: the first i bytes are the source's, the rest is as
+-- it was. Assumes nothing.
 use borrow.Author.Needs.{needs}
 use native.Mathlib.Omega.{arith}
 use Prim.Native.Nat.{_≤_, _-_}
@@ -57,15 +58,5 @@ returns-2 c =
 pub copy-spec : {M : Type 1} → statement M
 copy-spec =
     tie.close
-    (tie.spec
-    Inv-loop
-    μ-loop
-    returns
-    loop-holds
-    shared-slice-read-dst
-    slice-write-dst
-    add-i
-    loop-less
-    loop-again
-    same-length
-    returns-2)
+    (tie.spec Inv-loop μ-loop returns loop-holds shared-slice-read-dst slice-write-dst add-i loop-less loop-again
+    same-length returns-2)

@@ -1,4 +1,5 @@
--- `records::bytes::make_room` meets its contract. The loop's invariant: the bytes from i on have moved, those before i are as they were. Assumes nothing.
+-- `records::bytes::make_room` meets its contract. The loop's invariant: the bytes from i on have moved, those before i
+-- are as they were. Assumes nothing.
 use borrow.Author.Needs.{needs}
 use native.Mathlib.Omega.{arith}
 use Prim.Native.Nat.{_≤_, _-_}
@@ -66,17 +67,5 @@ returns-2 c =
 pub make-room-spec : {M : Type 1} → statement M
 make-room-spec =
     tie.close
-    (tie.spec
-    Inv-loop
-    μ-loop
-    returns
-    loop-holds
-    sub-b
-    slice-read-b
-    sub-part
-    slice-write-part
-    sub-i
-    loop-less
-    loop-again
-    same-length
-    returns-2)
+    (tie.spec Inv-loop μ-loop returns loop-holds sub-b slice-read-b sub-part slice-write-part sub-i loop-less
+    loop-again same-length returns-2)

@@ -1,4 +1,5 @@
--- `records::bytes::put_front` meets its contract: room is made, and the record is written over the first 16 bytes. Assumes nothing.
+-- `records::bytes::put_front` meets its contract: room is made, and the record is written over the first 16 bytes.
+-- Assumes nothing.
 use native.Mathlib.Omega.{arith}
 use borrow.Author.Needs.{needs}
 use lib.ListN.{length}
@@ -44,13 +45,5 @@ returns-2 c =
 pub put-front-spec : {M : Type 1} → statement M
 put-front-spec =
     tie.close
-    (tie.spec
-    returns
-    make-room-requires
-    sub-copy
-    part-copy-start
-    part-copy-end
-    slice-aggregate-copy
-    copy-requires
-    same-length
-    returns-2)
+    (tie.spec returns make-room-requires sub-copy part-copy-start part-copy-end slice-aggregate-copy copy-requires
+    same-length returns-2)

@@ -1,4 +1,5 @@
--- `records::bytes::record_at` meets its contract: the part is taken to the end where fewer than 16 bytes are left. Assumes nothing.
+-- `records::bytes::record_at` meets its contract: the part is taken to the end where fewer than 16 bytes are left.
+-- Assumes nothing.
 use native.Mathlib.Omega.{arith}
 use borrow.Author.Needs.{needs}
 use Prim.Native.Nat.{_-_}
@@ -59,18 +60,5 @@ returns-3 c = rw (add-sub-cancel-left (c .before .before .before .args .at) 16)
 pub record-at-spec : {M : Type 1} → statement M
 record-at-spec =
     tie.close
-    (tie.spec
-    sub-result
-    part-result-start
-    part-result-end
-    returns
-    sub-if2
-    sub-result-2
-    part-result-start-2
-    part-result-end-2
-    returns-2
-    add-result
-    sub-result-3
-    part-result-start-3
-    part-result-end-3
-    returns-3)
+    (tie.spec sub-result part-result-start part-result-end returns sub-if2 sub-result-2 part-result-start-2
+    part-result-end-2 returns-2 add-result sub-result-3 part-result-start-3 part-result-end-3 returns-3)

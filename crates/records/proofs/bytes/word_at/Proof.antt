@@ -36,13 +36,5 @@ returns-2 c = sym (word-past (now (c .before .before .args .b)) (c .before .befo
 pub word-at-spec : {M : Type 1} → statement M
 word-at-spec =
     tie.close
-    (tie.spec
-    shared-slice-read-wide
-    wide-requires
-    add-byte-at
-    byte-at-requires
-    wide-requires-2
-    mul-result
-    add-result
-    returns
-    returns-2)
+    (tie.spec shared-slice-read-wide wide-requires add-byte-at byte-at-requires wide-requires-2 mul-result add-result
+    returns returns-2)

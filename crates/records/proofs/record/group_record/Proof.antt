@@ -30,18 +30,10 @@ high-byte-requires-4 c κs = search needs
 
 returns : tie.Need-returns
 unfolding relation-bytes
-returns c = cc
+returns c = rw (c .before .before .before .before .before .before .before .low-byte .ensures, c .before .before .before .before .before .before .high-byte .ensures, c .before .before .before .before .before .low-byte2 .ensures, c .before .before .before .before .high-byte2 .ensures, c .before .before .before .low-byte3 .ensures, c .before .before .high-byte3 .ensures, c .before .low-byte4 .ensures, c .high-byte4 .ensures)
 
 pub group-record-spec : {M : Type 1} → statement M
 group-record-spec =
     tie.close
-    (tie.spec
-    low-byte-requires
-    high-byte-requires
-    low-byte-requires-2
-    high-byte-requires-2
-    low-byte-requires-3
-    high-byte-requires-3
-    low-byte-requires-4
-    high-byte-requires-4
-    returns)
+    (tie.spec low-byte-requires high-byte-requires low-byte-requires-2 high-byte-requires-2 low-byte-requires-3
+    high-byte-requires-3 low-byte-requires-4 high-byte-requires-4 returns)

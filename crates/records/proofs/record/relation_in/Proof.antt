@@ -1,4 +1,5 @@
--- `records::record::relation_in` meets its contract: each return rewrites with the tests of the first byte that led there. Assumes nothing.
+-- `records::record::relation_in` meets its contract: each return rewrites with the tests of the first byte that led
+-- there. Assumes nothing.
 use borrow.Author.Needs.{needs}
 use borrow.Author.Tests.{eq-eqb, ne-eqb}
 use Rattle.records.specs.Records.{decode-relation}
@@ -43,13 +44,5 @@ returns-3 c =
 pub relation-in-spec : {M : Type 1} → statement M
 relation-in-spec =
     tie.close
-    (tie.spec
-    byte-at-requires
-    byte-at-requires-2
-    trains-in-requires
-    returns
-    trains-in-requires-2
-    returns-2
-    word-at-requires
-    word-at-requires-2
-    returns-3)
+    (tie.spec byte-at-requires byte-at-requires-2 trains-in-requires returns trains-in-requires-2 returns-2
+    word-at-requires word-at-requires-2 returns-3)

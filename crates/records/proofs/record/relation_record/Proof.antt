@@ -37,13 +37,5 @@ returns-3 c = simp (c .before .before .relation3 .given .1, c .group-record3 .en
 pub relation-record-spec : {M : Type 1} → statement M
 relation-record-spec =
     tie.close
-    (tie.spec
-    enum-known-relation
-    group-record-requires
-    enum-known-relation-2
-    group-record-requires-2
-    enum-known-relation-3
-    group-record-requires-3
-    returns
-    returns-2
-    returns-3)
+    (tie.spec enum-known-relation group-record-requires enum-known-relation-2 group-record-requires-2
+    enum-known-relation-3 group-record-requires-3 returns returns-2 returns-3)

@@ -18,7 +18,7 @@ word-at-requires-4 c κs = search needs
 
 returns : tie.Need-returns
 unfolding decode-trains
-returns c = cc
+returns c = rw (c .before .before .before .word-at .ensures, c .before .before .word-at2 .ensures, c .before .word-at3 .ensures, c .word-at4 .ensures)
 
 pub trains-in-spec : {M : Type 1} → statement M
 trains-in-spec =

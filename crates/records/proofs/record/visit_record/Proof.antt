@@ -45,23 +45,11 @@ out-run-requires c κs = search needs
 
 returns : tie.Need-returns
 unfolding visit-bytes
-returns c = cc
+returns c = rw (c .before .before .before .before .before .before .before .before .before .before .before .before .low-byte .ensures, c .before .before .before .before .before .before .before .before .before .before .before .high-byte .ensures, c .before .before .before .before .before .before .before .before .before .before .low-byte2 .ensures, c .before .before .before .before .before .before .before .before .before .high-byte2 .ensures, c .before .before .before .before .before .before .before .before .status-byte .ensures, c .before .before .before .before .before .before .before .low-byte3 .ensures, c .before .before .before .before .before .before .high-byte3 .ensures, c .before .before .before .before .before .status-byte2 .ensures, c .before .before .before .before .in-station .ensures, c .before .before .before .in-line .ensures, c .before .before .out-station .ensures, c .before .out-line .ensures, c .out-run .ensures)
 
 pub visit-record-spec : {M : Type 1} → statement M
 visit-record-spec =
     tie.close
-    (tie.spec
-    low-byte-requires
-    high-byte-requires
-    low-byte-requires-2
-    high-byte-requires-2
-    status-byte-requires
-    low-byte-requires-3
-    high-byte-requires-3
-    status-byte-requires-2
-    in-station-requires
-    in-line-requires
-    out-station-requires
-    out-line-requires
-    out-run-requires
-    returns)
+    (tie.spec low-byte-requires high-byte-requires low-byte-requires-2 high-byte-requires-2 status-byte-requires
+    low-byte-requires-3 high-byte-requires-3 status-byte-requires-2 in-station-requires in-line-requires
+    out-station-requires out-line-requires out-run-requires returns)

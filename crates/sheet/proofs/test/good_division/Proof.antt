@@ -1,10 +1,11 @@
--- `sheet::test::good_division` meets its contract. The loop's invariant: what is asked of all sheets is asked of those from i on. Assumes nothing.
+-- `sheet::test::good_division` meets its contract. The loop's invariant: what is asked of all sheets is asked of those
+-- from i on. Assumes nothing.
 use Prim.Native.Nat.{_+_, _-_, _≤_}
 use mathlib.Core.Path.{_≡_, refl, sym, _∙_}
 use native.Mathlib.Omega.{arith}
 use borrow.Author.Needs.{needs}
 use denote.Ref.{now}
-use Rattle.sheet.specs.Passes.{division-passes}
+use Rattle.sheet.specs.between.Passes.{division-passes}
 use Rattle.sheet.proofs.PassLaws.{division-short, sheets-from, sheets-start, sheets-not, sheets-on, sheets-end}
 use Rattle.sheet.proofs.test.good_division.Statement.{statement}
 use Rattle.sheet.proofs.test.good_division.Tie as tie
@@ -73,20 +74,5 @@ returns-3 c =
 pub good-division-spec : {M : Type 1} → statement M
 good-division-spec =
     tie.close
-    (tie.spec
-    Inv-loop
-    μ-loop
-    returns
-    loop-holds
-    mul-at
-    add-good-sheet
-    sub-good-sheet
-    part-good-sheet-start
-    part-good-sheet-end
-    good-sheet-requires
-    add-i
-    add-a
-    loop-less
-    loop-again
-    returns-2
-    returns-3)
+    (tie.spec Inv-loop μ-loop returns loop-holds mul-at add-good-sheet sub-good-sheet part-good-sheet-start
+    part-good-sheet-end good-sheet-requires add-i add-a loop-less loop-again returns-2 returns-3)

@@ -2,7 +2,7 @@
 use mathlib.Core.Path.{refl}
 use lib.ListN.{take, drop}
 use denote.Ref.{now}
-use Rattle.sheet.specs.Passes.{visits-pass, relations-pass}
+use Rattle.sheet.specs.between.Passes.{visits-pass, relations-pass}
 use Rattle.sheet.proofs.PassLaws.{page-short, page-many, page-related, page-tests}
 use borrow.Author.Needs.{needs}
 use Rattle.sheet.proofs.test.good_page.Statement.{statement}
@@ -121,26 +121,7 @@ returns-6 c =
 pub good-page-spec : {M : Type 1} → statement M
 good-page-spec =
     tie.close
-    (tie.spec
-    returns
-    shared-slice-read-size
-    size-requires
-    shared-slice-read-size-2
-    size-requires-2
-    returns-2
-    returns-3
-    sub-is-blank
-    part-is-blank-start
-    part-is-blank-end
-    is-blank-requires
-    sub-good-visits
-    part-good-visits-start
-    part-good-visits-end
-    good-visits-requires
-    sub-good-relations
-    part-good-relations-start
-    part-good-relations-end
-    good-relations-requires
-    returns-4
-    returns-5
-    returns-6)
+    (tie.spec returns shared-slice-read-size size-requires shared-slice-read-size-2 size-requires-2 returns-2
+    returns-3 sub-is-blank part-is-blank-start part-is-blank-end is-blank-requires sub-good-visits
+    part-good-visits-start part-good-visits-end good-visits-requires sub-good-relations part-good-relations-start
+    part-good-relations-end good-relations-requires returns-4 returns-5 returns-6)

@@ -16,7 +16,7 @@ returns : tie.Need-returns
 returns c =
     let s = c .before .before .before .before .args in
     let o = c .before .before .is-over in
-    c .good-page .ensures ∙ place-over (s .network) (s .a) (s .k) (now (s .page)) (o .result) (o .ensures) (c .before .if1 .taken)
+    c .good-page .ensures ∙ place-over (s .network) (s .extent) (s .k) (now (s .page)) (o .result) (o .ensures) (c .before .if1 .taken)
 
 is-blank-requires : tie.Need-is-blank-requires
 is-blank-requires c κs = search needs
@@ -25,7 +25,7 @@ returns-2 : tie.Need-returns-2
 returns-2 c =
     let s = c .before .before .before .before .args in
     let o = c .before .before .is-over in
-    c .is-blank .ensures ∙ place-bare (s .network) (s .a) (s .k) (now (s .page)) (o .result) (o .ensures) (c .before .if1 .left)
+    c .is-blank .ensures ∙ place-bare (s .network) (s .extent) (s .k) (now (s .page)) (o .result) (o .ensures) (c .before .if1 .left)
 
 pub good-place-spec : {M : Type 1} → statement M
 good-place-spec =

@@ -41,11 +41,5 @@ returns-2 c =
 pub good-relation-record-spec : {M : Type 1} → statement M
 good-relation-record-spec =
     tie.close
-    (tie.spec
-    relation-in-requires
-    relation-record-requires
-    slice-aggregate-is-same
-    is-same-requires
-    valid-requires
-    returns
-    returns-2)
+    (tie.spec relation-in-requires relation-record-requires slice-aggregate-is-same is-same-requires valid-requires
+    returns returns-2)

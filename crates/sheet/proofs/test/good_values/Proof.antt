@@ -35,12 +35,5 @@ returns-4 c = simp (c .if1 .left, ← c .before .valid .ensures)
 pub good-values-spec : {M : Type 1} → statement M
 good-values-spec =
     tie.close
-    (tie.spec
-    valid-requires
-    track-known-requires
-    valid-requires-2
-    valid-requires-3
-    returns
-    returns-2
-    returns-3
+    (tie.spec valid-requires track-known-requires valid-requires-2 valid-requires-3 returns returns-2 returns-3
     returns-4)

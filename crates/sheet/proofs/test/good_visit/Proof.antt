@@ -1,6 +1,6 @@
 -- `sheet::test::good_visit` meets its contract: the tests that led to each return decide. Assumes nothing.
 use mathlib.Core.Path.{refl}
-use Rattle.sheet.specs.Passes.{in-passes, out-passes}
+use Rattle.sheet.specs.between.Passes.{in-passes, out-passes}
 use Rattle.sheet.proofs.PassLaws.{visit-tests}
 use borrow.Author.Needs.{needs}
 use Rattle.sheet.proofs.test.good_visit.Statement.{statement}

@@ -65,14 +65,5 @@ returns-3 c =
 pub good-visit-record-spec : {M : Type 1} → statement M
 good-visit-record-spec =
     tie.close
-    (tie.spec
-    train-in-requires
-    visit-in-requires
-    visit-record-requires
-    slice-aggregate-is-same
-    is-same-requires
-    valid-requires
-    good-visit-requires
-    returns
-    returns-2
-    returns-3)
+    (tie.spec train-in-requires visit-in-requires visit-record-requires slice-aggregate-is-same is-same-requires
+    valid-requires good-visit-requires returns returns-2 returns-3)

@@ -31,24 +31,17 @@ returns : tie.Need-returns
 returns c =
     let s = c .before .before .before .before .before .args in
     let r = c .before .before .before .visit-run in
-    rw (c .before .before .if1 .taken) at (visits-tests (s .network) (s .s) (s .n) (now (s .shelf)) (r .result) (c .is-blank .result) (r .ensures) (c .is-blank .ensures))
+    rw (c .before .before .if1 .taken) at (visits-tests (s .network) (s .s) (s .n) (now (s .slots)) (r .result) (c .is-blank .result) (r .ensures) (c .is-blank .ensures))
 
 returns-2 : tie.Need-returns-2
 returns-2 c =
     let s = c .before .before .before .args in
     let r = c .before .visit-run in
-    let b = now (s .shelf) in
-    rw (c .if1 .left) at (visits-tests (s .network) (s .s) (s .n) (now (s .shelf)) (r .result) (blank (take (length b - 16 * s .n) (drop (16 * s .n) b))) (r .ensures) refl)
+    let b = now (s .slots) in
+    rw (c .if1 .left) at (visits-tests (s .network) (s .s) (s .n) (now (s .slots)) (r .result) (blank (take (length b - 16 * s .n) (drop (16 * s .n) b))) (r .ensures) refl)
 
 pub good-visits-spec : {M : Type 1} → statement M
 good-visits-spec =
     tie.close
-    (tie.spec
-    visit-run-requires
-    mul-at
-    sub-is-blank
-    part-is-blank-start
-    part-is-blank-end
-    is-blank-requires
-    returns
+    (tie.spec visit-run-requires mul-at sub-is-blank part-is-blank-start part-is-blank-end is-blank-requires returns
     returns-2)

@@ -1,7 +1,8 @@
--- `sheet::test::in_good` meets its contract: each return rewrites with the link and the tests that led there. Assumes nothing.
+-- `sheet::test::in_good` meets its contract: each return rewrites with the link and the tests that led there. Assumes
+-- nothing.
 use borrow.Author.Needs.{needs}
 use Rattle.timetable.specs.Good.{in-good}
-use Rattle.sheet.specs.Passes.{in-passes}
+use Rattle.sheet.specs.between.Passes.{in-passes}
 use Rattle.sheet.proofs.test.in_good.Statement.{statement}
 use Rattle.sheet.proofs.test.in_good.Tie as tie
 
@@ -46,15 +47,5 @@ returns-5 c = simp (c .before .before .before .l .given .1, c .if1 .left, ← c 
 pub in-good-spec : {M : Type 1} → statement M
 in-good-spec =
     tie.close
-    (tie.spec
-    enum-told
-    enum-known-l
-    valid-requires
-    valid-requires-2
-    listed-requires
-    runs-requires
-    returns
-    returns-2
-    returns-3
-    returns-4
-    returns-5)
+    (tie.spec enum-told enum-known-l valid-requires valid-requires-2 listed-requires runs-requires returns returns-2
+    returns-3 returns-4 returns-5)

@@ -1,27 +1,37 @@
--- `sheet::test::is_over` meets its contract: each return rewrites with the tests that led there. Assumes nothing.
-use borrow.Author.Tests.{eq-eqb, ne-eqb}
+-- `sheet::test::is_over` meets its contract: by the extent, and by the tests that led to each return. Assumes nothing.
 use borrow.Author.Needs.{needs}
-use Rattle.sheet.specs.Passes.{over-area}
+use Rattle.sheet.specs.between.Passes.{covers}
 use Rattle.sheet.proofs.test.is_over.Statement.{statement}
 use Rattle.sheet.proofs.test.is_over.Tie as tie
+
+enum-told : tie.Need-enum-told
+enum-told c = search needs
 
 listed-requires : tie.Need-listed-requires
 listed-requires c κs = search needs
 
-returns : tie.Need-returns
-unfolding over-area
-returns c = simp (eq-eqb _ _ (c .if2 .taken), c .before .if1 .taken, ← c .before .before .listed .ensures)
+enum-known-extent : tie.Need-enum-known-extent
+enum-known-extent c = search needs
 
-area-of-requires : tie.Need-area-of-requires
-area-of-requires c κs = search needs
+listed-requires-2 : tie.Need-listed-requires-2
+listed-requires-2 c κs = search needs
+
+group-of-requires : tie.Need-group-of-requires
+group-of-requires c κs = search needs
+
+returns : tie.Need-returns
+unfolding covers
+returns c = rw (c .before .before .before .before .before .extent .given .1) (simp (← c .before .group-of .ensures, c .before .before .if1 .taken, ← c .before .before .before .listed2 .ensures))
 
 returns-2 : tie.Need-returns-2
-unfolding over-area
-returns-2 c = simp (← c .area-of .ensures, ne-eqb _ _ (c .before .if2 .left), c .before .before .if1 .taken, ← c .before .before .before .listed .ensures)
+unfolding covers
+returns-2 c = rw (c .before .enum-told .given .1) (c .listed .ensures)
 
 returns-3 : tie.Need-returns-3
-unfolding over-area
-returns-3 c = simp (c .if1 .left, ← c .before .listed .ensures)
+unfolding covers
+returns-3 c = rw (c .before .before .before .extent .given .1) (simp (c .if1 .left, ← c .before .listed2 .ensures))
 
 pub is-over-spec : {M : Type 1} → statement M
-is-over-spec = tie.close (tie.spec listed-requires returns area-of-requires returns-2 returns-3)
+is-over-spec =
+    tie.close
+    (tie.spec enum-told listed-requires enum-known-extent listed-requires-2 group-of-requires returns returns-2 returns-3)

@@ -1,4 +1,5 @@
--- `sheet::test::is_same` meets its contract. The loop's invariant: the bytes compare as what is left of them. Assumes nothing.
+-- `sheet::test::is_same` meets its contract. The loop's invariant: the bytes compare as what is left of them. Assumes
+-- nothing.
 use Prim.Native.Nat.{_≤_, _-_}
 use mathlib.Core.Path.{_≡_, refl, sym, _∙_}
 use native.Mathlib.Omega.{arith}
@@ -55,15 +56,5 @@ returns-3 c =
 pub is-same-spec : {M : Type 1} → statement M
 is-same-spec =
     tie.close
-    (tie.spec
-    Inv-loop
-    μ-loop
-    returns
-    loop-holds
-    shared-slice-read-if2
-    shared-slice-read-if2-2
-    returns-2
-    add-i
-    loop-less
-    loop-again
-    returns-3)
+    (tie.spec Inv-loop μ-loop returns loop-holds shared-slice-read-if2 shared-slice-read-if2-2 returns-2 add-i
+    loop-less loop-again returns-3)

@@ -1,7 +1,8 @@
--- `sheet::test::out_good` meets its contract: each return rewrites with the link and the tests that led there. Assumes nothing.
+-- `sheet::test::out_good` meets its contract: each return rewrites with the link and the tests that led there. Assumes
+-- nothing.
 use borrow.Author.Needs.{needs}
 use Rattle.timetable.specs.Good.{out-good}
-use Rattle.sheet.specs.Passes.{out-passes}
+use Rattle.sheet.specs.between.Passes.{out-passes}
 use Rattle.sheet.proofs.test.out_good.Statement.{statement}
 use Rattle.sheet.proofs.test.out_good.Tie as tie
 
@@ -53,17 +54,5 @@ returns-6 c = simp (c .before .before .before .l .given .1, c .if1 .left, ← c 
 pub out-good-spec : {M : Type 1} → statement M
 out-good-spec =
     tie.close
-    (tie.spec
-    enum-told
-    enum-known-l
-    valid-requires
-    valid-requires-2
-    run-valid-requires
-    listed-requires
-    runs-requires
-    returns
-    returns-2
-    returns-3
-    returns-4
-    returns-5
-    returns-6)
+    (tie.spec enum-told enum-known-l valid-requires valid-requires-2 run-valid-requires listed-requires runs-requires
+    returns returns-2 returns-3 returns-4 returns-5 returns-6)

@@ -1,4 +1,5 @@
--- `sheet::test::relation_after` meets its contract: the relations are those of two records side by side. Assumes nothing.
+-- `sheet::test::relation_after` meets its contract: the relations are those of two records side by side. Assumes
+-- nothing.
 use mathlib.Core.Path.{_∙_}
 use denote.Ref.{now}
 use Rattle.sheet.proofs.PassLaws.{relation-first, relation-next}
@@ -7,7 +8,7 @@ use Rattle.sheet.proofs.test.relation_after.Statement.{statement}
 use Rattle.sheet.proofs.test.relation_after.Tie as tie
 
 returns : tie.Need-returns
-returns c = relation-first (now (c .before .before .args .shelf)) (c .before .before .args .i) (c .if1 .taken)
+returns c = relation-first (now (c .before .before .args .slots)) (c .before .before .args .i) (c .if1 .taken)
 
 sub-before : tie.Need-sub-before
 sub-before c = search needs
@@ -55,27 +56,13 @@ returns-2 : tie.Need-returns-2
 returns-2 c =
     let s = c .before .before .before .before .before .before .before .args in
     c .precedes .ensures
-    ∙ relation-next (now (s .shelf)) (s .i) (c .before .before .before .before .before .if1 .left)
+    ∙ relation-next (now (s .slots)) (s .i) (c .before .before .before .before .before .if1 .left)
     (c .before .before .before .relation-in .result) (c .before .relation-in2 .result)
     (c .before .before .before .relation-in .ensures) (c .before .relation-in2 .ensures)
 
 pub relation-after-spec : {M : Type 1} → statement M
 relation-after-spec =
     tie.close
-    (tie.spec
-    returns
-    sub-before
-    mul-before
-    mul-at
-    add-relation-in
-    sub-relation-in
-    part-relation-in-start
-    part-relation-in-end
-    relation-in-requires
-    add-relation-in-2
-    sub-relation-in-2
-    part-relation-in-start-2
-    part-relation-in-end-2
-    relation-in-requires-2
-    precedes-requires
-    returns-2)
+    (tie.spec returns sub-before mul-before mul-at add-relation-in sub-relation-in part-relation-in-start
+    part-relation-in-end relation-in-requires add-relation-in-2 sub-relation-in-2 part-relation-in-start-2
+    part-relation-in-end-2 relation-in-requires-2 precedes-requires returns-2)

@@ -6,7 +6,7 @@ use Rattle.sheet.proofs.test.train_after.Statement.{statement}
 use Rattle.sheet.proofs.test.train_after.Tie as tie
 
 returns : tie.Need-returns
-returns c = train-first (now (c .before .before .args .shelf)) (c .before .before .args .i) (c .if1 .taken)
+returns c = train-first (now (c .before .before .args .slots)) (c .before .before .args .i) (c .if1 .taken)
 
 sub-before : tie.Need-sub-before
 sub-before c = search needs
@@ -50,26 +50,13 @@ train-in-requires-2 c κs = search needs
 returns-2 : tie.Need-returns-2
 returns-2 c =
     let s = c .before .before .before .before .before .before .before .before .args in
-    train-next (now (s .shelf)) (s .i) (c .before .before .before .before .before .before .if1 .left)
+    train-next (now (s .slots)) (s .i) (c .before .before .before .before .before .before .if1 .left)
     (c .before .before .before .before .train-in .result) (c .before .before .train-in2 .result)
     (c .before .before .before .before .train-in .ensures) (c .before .before .train-in2 .ensures)
 
 pub train-after-spec : {M : Type 1} → statement M
 train-after-spec =
     tie.close
-    (tie.spec
-    returns
-    sub-before
-    mul-before
-    mul-at
-    add-train-in
-    sub-train-in
-    part-train-in-start
-    part-train-in-end
-    train-in-requires
-    add-train-in-2
-    sub-train-in-2
-    part-train-in-start-2
-    part-train-in-end-2
-    train-in-requires-2
+    (tie.spec returns sub-before mul-before mul-at add-train-in sub-train-in part-train-in-start part-train-in-end
+    train-in-requires add-train-in-2 sub-train-in-2 part-train-in-start-2 part-train-in-end-2 train-in-requires-2
     returns-2)

@@ -1,0 +1,10 @@
+pub mod FlatLaws
+pub mod SlotLaws
+pub mod FindLaws
+pub mod FoundLaws
+pub mod PutLaws
+pub mod ChangeLaws
+pub mod AnewLaws
+pub mod LossLaws
+pub mod PageLaws
+pub mod EntryLaws

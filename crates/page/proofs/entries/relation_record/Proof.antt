@@ -1,0 +1,41 @@
+-- `page_rules::entries::relation_record` meets its contract: the test decides where the record is cut out. Assumes
+-- nothing.
+use mathlib.Core.Path.{_∙_}
+use denote.Ref.{now}
+use Rattle.page.proofs.EntryLaws.{relation-cut, relation-left}
+use borrow.Author.Needs.{needs}
+use Rattle.page.proofs.entries.relation_record.Statement.{statement}
+use Rattle.page.proofs.entries.relation_record.Tie as tie
+
+relation-count-requires : tie.Need-relation-count-requires
+relation-count-requires c κs = search needs
+
+mul-record-at : tie.Need-mul-record-at
+mul-record-at c = search needs
+
+add-record-at : tie.Need-add-record-at
+add-record-at c = search needs
+
+record-at-requires : tie.Need-record-at-requires
+record-at-requires c κs = search needs
+
+returns : tie.Need-returns
+returns c = let s = c .before .before .before .before .args in c .record-at .ensures ∙ relation-cut (now (s .part)) (s .i) (c .before .before .relation-count .result) (c .before .before .relation-count .ensures .0) (c .before .if1 .taken)
+
+sub-result : tie.Need-sub-result
+sub-result c = search needs
+
+part-result-start : tie.Need-part-result-start
+part-result-start c = search needs
+
+part-result-end : tie.Need-part-result-end
+part-result-end c = search needs
+
+returns-2 : tie.Need-returns-2
+returns-2 c = let s = c .before .before .before .before .args in relation-left (now (s .part)) (s .i) (c .before .before .relation-count .result) (c .before .before .relation-count .ensures .0) (c .before .if1 .left)
+
+pub relation-record-spec : {M : Type 1} → statement M
+relation-record-spec =
+    tie.close
+    (tie.spec relation-count-requires mul-record-at add-record-at record-at-requires returns sub-result
+    part-result-start part-result-end returns-2)

@@ -1,0 +1,120 @@
+-- `sheet::page::write_visit` meets its contract: the record is written over where the train's is found, else nothing
+-- changes. Assumes nothing.
+use native.Mathlib.Omega.{arith}
+use borrow.Author.Needs.{needs}
+use Prim.Native.Nat.{ℕ, _+_, _*_, min}
+use mathlib.Core.Path.{_≡_, sym, ap, _∙_}
+use mathlib.Core.List.{List}
+use lib.ListN.{length, getD}
+use denote.Ref.{now}
+use borrow.Author.Tests.{lt-ltb, le-ltb}
+use Rattle.records.specs.Bytes.{splice}
+use Rattle.records.proofs.RecordLaws.{visit-length}
+use Rattle.page.specs.between.Changes.{page-write-visit}
+use Rattle.page.proofs.FindLaws.{train-index-is}
+use Rattle.page.proofs.PutLaws.{written-over, counts-short, counts-over, counts-few}
+use Rattle.page.proofs.write_visit.Statement.{statement}
+use Rattle.page.proofs.write_visit.Tie as tie
+
+returns : tie.Need-returns
+unfolding page-write-visit
+returns c = rw (counts-short 0 24 (now (c .before .before .args .page)) (c .if1 .taken))
+
+slice-read-size : tie.Need-slice-read-size
+slice-read-size c = search needs
+
+size-requires : tie.Need-size-requires
+size-requires c κs = search needs
+
+returns-2 : tie.Need-returns-2
+unfolding page-write-visit
+returns-2 c =
+    let z = c .before .size in
+    rw (counts-over 0 24 (now (c .before .before .before .before .before .args .page)) (z .result) (c .before .before .before .if1 .left) (z .ensures .0) (c .if2 .taken))
+
+sub-train-index : tie.Need-sub-train-index
+sub-train-index c = search needs
+
+part-train-index-start : tie.Need-part-train-index-start
+part-train-index-start c = search needs
+
+part-train-index-end : tie.Need-part-train-index-end
+part-train-index-end c = search needs
+
+train-index-requires : tie.Need-train-index-requires
+train-index-requires c κs = search needs
+
+mul-at : tie.Need-mul-at
+mul-at c = search needs
+
+add-at : tie.Need-add-at
+add-at c = search needs
+
+visit-record-requires : tie.Need-visit-record-requires
+visit-record-requires c κs = search needs
+
+add-copy : tie.Need-add-copy
+add-copy c = search needs
+
+sub-copy : tie.Need-sub-copy
+sub-copy c = search needs
+
+part-copy-start : tie.Need-part-copy-start
+part-copy-start c = search needs
+
+part-copy-end : tie.Need-part-copy-end
+part-copy-end c = search needs
+
+slice-aggregate-copy : tie.Need-slice-aggregate-copy
+slice-aggregate-copy c = search needs
+
+copy-requires : tie.Need-copy-requires
+copy-requires c κs = search needs
+
+same-length : tie.Need-same-length
+same-length c = search needs
+
+returns-3 : tie.Need-returns-3
+unfolding page-write-visit
+returns-3 c =
+    let copied = c .before .before .copy in
+    let new = c .before .before .before .before .before .visit-record in
+    let found = c .before .before .before .before .before .before .before .train-index in
+    let u = c .before .before .before .before .before .before .before .before .before .before in
+    let z = u .before .size in
+    let s = u .before .before .before .before .before in
+    let p = now (s .args .page) in
+    let whole = u .before .before .before .if1 .left in
+    let few = counts-few 0 24 p (z .result) whole (z .ensures .0) (omega arith) in
+    let many : z .result ≡ min (getD p 0 0) 24 = omega arith in
+    let there = train-index-is (s .args .train) p (found .result) (z .result) whole many (found .ensures) in
+    let inside = lt-ltb (found .result) (z .result) (c .before .before .before .before .before .before .if3 .taken) in
+    let sixteen : length (new .result) ≡ 16 = ap length (new .ensures) ∙ visit-length (s .args .train) (s .args .visit) in
+    written-over p (new .result) (copied .last .0) (32 + 16 * found .result) sixteen (omega arith) (copied .ensures)
+    ∙ ap (λ (r : List ℕ). splice (32 + 16 * found .result) r p) (new .ensures)
+    ∙ sym (rw (few, there, ← z .ensures .0, inside))
+
+same-length-2 : tie.Need-same-length-2
+same-length-2 c = search needs
+
+returns-4 : tie.Need-returns-4
+unfolding page-write-visit
+returns-4 c =
+    let found = c .before .train-index in
+    let u = c .before .before .before .before in
+    let z = u .before .size in
+    let s = u .before .before .before .before .before in
+    let p = now (s .args .page) in
+    let whole = u .before .before .before .if1 .left in
+    let few = counts-few 0 24 p (z .result) whole (z .ensures .0) (omega arith) in
+    let many : z .result ≡ min (getD p 0 0) 24 = omega arith in
+    let there = train-index-is (s .args .train) p (found .result) (z .result) whole many (found .ensures) in
+    let outside = le-ltb (found .result) (z .result) (c .if3 .left) in
+    rw (few, there, ← z .ensures .0, outside)
+
+pub write-visit-spec : {M : Type 1} → statement M
+write-visit-spec =
+    tie.close
+    (tie.spec returns slice-read-size size-requires returns-2 sub-train-index part-train-index-start
+    part-train-index-end train-index-requires mul-at add-at visit-record-requires add-copy sub-copy part-copy-start
+    part-copy-end slice-aggregate-copy copy-requires same-length returns-3 same-length-2 returns-4)

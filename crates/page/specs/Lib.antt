@@ -1,0 +1,4 @@
+pub mod Types
+pub mod Pages
+pub mod Layout
+pub mod between
