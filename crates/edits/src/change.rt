@@ -1,74 +1,26 @@
 // What an edit makes of the page of its station s, and of that of p.
 ghost use mathlib.Core.Path.{_≡_};
-ghost use Rattle.timetable.specs.Visits.{with-in, with-out, amended, arrived-at, departed-at};
+ghost use Rattle.visits.specs.between.Changes.{change-by};
 ghost use Rattle.edits.specs.Types.{Place, Prepend, Append};
-ghost use Rattle.edits.specs.Pairs.{page-change, page-without, here-page, there-page};
+ghost use Rattle.edits.specs.between.Pairs.{page-change, page-without, here-page, there-page};
+use page::VisitFound;
 use railway::edit::Edit;
 use railway::edit::Extension;
 use railway::edit::Plan;
-use railway::minute::Minute;
 use railway::sorts::Train;
 use railway::visit::InLink;
 use railway::visit::OutLink;
-use sheet::page;
-use sheet::page::VisitFound;
+use visits::Change;
 
-fn link_in(page: &mut [u8], t: Train, link: InLink)
-    ensures { λ _. ⌜ now (page .exit) ≡ page-change t (with-in link) (now (page .entry)) ⌝ }
+// The train's visit, if it is there.
+fn change_visit(page: &mut [u8], t: Train, c: Change)
+    ensures { λ _. ⌜ now (page .exit) ≡ page-change t (change-by c) (now (page .entry)) ⌝ }
 {
     let found = page::visit_of(page, t);
     match found {
         VisitFound::Nothing => {}
         VisitFound::Is(v) => {
-            page::write_visit(page, t, visits::linked_in(link, v));
-        }
-    }
-}
-
-fn link_out(page: &mut [u8], t: Train, link: OutLink)
-    ensures { λ _. ⌜ now (page .exit) ≡ page-change t (with-out link) (now (page .entry)) ⌝ }
-{
-    let found = page::visit_of(page, t);
-    match found {
-        VisitFound::Nothing => {}
-        VisitFound::Is(v) => {
-            page::write_visit(page, t, visits::linked_out(link, v));
-        }
-    }
-}
-
-fn amend(page: &mut [u8], p: Plan)
-    ensures { λ _. ⌜ now (page .exit) ≡ page-change (p .train) (amended p) (now (page .entry)) ⌝ }
-{
-    let found = page::visit_of(page, p.train);
-    match found {
-        VisitFound::Nothing => {}
-        VisitFound::Is(v) => {
-            page::write_visit(page, p.train, visits::amend_visit(p, v));
-        }
-    }
-}
-
-fn report_arrival(page: &mut [u8], t: Train, time: Minute)
-    ensures { λ _. ⌜ now (page .exit) ≡ page-change t (arrived-at time) (now (page .entry)) ⌝ }
-{
-    let found = page::visit_of(page, t);
-    match found {
-        VisitFound::Nothing => {}
-        VisitFound::Is(v) => {
-            page::write_visit(page, t, visits::arrive(time, v));
-        }
-    }
-}
-
-fn report_departure(page: &mut [u8], t: Train, time: Minute)
-    ensures { λ _. ⌜ now (page .exit) ≡ page-change t (departed-at time) (now (page .entry)) ⌝ }
-{
-    let found = page::visit_of(page, t);
-    match found {
-        VisitFound::Nothing => {}
-        VisitFound::Is(v) => {
-            page::write_visit(page, t, visits::depart(time, v));
+            page::write_visit(page, t, visits::changed(c, v));
         }
     }
 }
@@ -116,9 +68,15 @@ pub fn change_here(page: &mut [u8], e: Edit)
         Edit::Append(x) => append(page, x),
         Edit::DeleteFirst(d) => take_out(page, d.train),
         Edit::DeleteLast(d) => take_out(page, d.train),
-        Edit::Amend(p) => amend(page, p),
-        Edit::ReportArrival(r) => report_arrival(page, r.train, r.time),
-        Edit::ReportDeparture(r) => report_departure(page, r.train, r.time),
+        Edit::Amend(p) => change_visit(page, p.train, Change::Amend(p)),
+        Edit::ReportArrival(r) => {
+            let time = r.time;
+            change_visit(page, r.train, Change::Arrive(time))
+        }
+        Edit::ReportDeparture(r) => {
+            let time = r.time;
+            change_visit(page, r.train, Change::Depart(time))
+        }
         Edit::AddRelation(r) => {
             let relation = r.relation;
             page::add_relation(page, relation)
@@ -138,20 +96,16 @@ pub fn change_there(page: &mut [u8], e: Edit)
     match e {
         Edit::Prepend(x) => {
             let p = x.plan;
-            link_in(page, p.train, visits::link_from(p.station, x.line))
+            let link = visits::link_from(p.station, x.line);
+            change_visit(page, p.train, Change::In(link))
         }
         Edit::Append(x) => {
             let p = x.plan;
-            link_out(page, p.train, visits::link_to(p.station, x.line, x.run))
+            let link = visits::link_to(p.station, x.line, x.run);
+            change_visit(page, p.train, Change::Out(link))
         }
-        Edit::DeleteFirst(d) => link_in(page, d.train, InLink::Nothing),
-        Edit::DeleteLast(d) => link_out(page, d.train, OutLink::Nothing),
-        Edit::Place(_) => {}
-        Edit::Amend(_) => {}
-        Edit::ReportArrival(_) => {}
-        Edit::ReportDeparture(_) => {}
-        Edit::AddRelation(_) => {}
-        Edit::RemoveRelation(_) => {}
-        Edit::DeleteTrain(_) => {}
+        Edit::DeleteFirst(d) => change_visit(page, d.train, Change::In(InLink::Nothing)),
+        Edit::DeleteLast(d) => change_visit(page, d.train, Change::Out(OutLink::Nothing)),
+        _ => {}
     }
 }

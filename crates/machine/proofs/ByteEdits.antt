@@ -1,5 +1,6 @@
--- The calls on good bytes. An edit leaves a good sheet good, and an edit on the divided timetable is the divided edit: the sheets of a divided good sheet are
--- those of the divided timetable, and there the theory's law holds. Assumes nothing.
+-- The calls on good bytes. An edit leaves a good sheet good, and an edit on the divided timetable is the divided edit:
+-- the sheets of a divided good sheet are those of the divided timetable, and there the theory's law holds. Assumes
+-- nothing.
 use Prim.Native.Nat.{ℕ}
 use mathlib.Core.Path.{_≡_, sym, _∙_, ap, fun-ext}
 use mathlib.Core.Bool.{Bool, true, false, not, _&&_, _||_}
@@ -7,25 +8,28 @@ use mathlib.Core.List.{List}
 use native.Mathlib.Omega.{arith}
 use lib.Dec.{T, ltb, leb, eqb, le→leb, eqb→eq}
 use lib.ListN.{length}
-use borrow.Author.Tests.{ltb-true, eqb-true, eq-eqb}
+use borrow.Author.Tests.{ltb-true, eq-eqb}
 use Rattle.base.specs.Choice.{if_then_else_, _if_else_}
 use Rattle.base.proofs.Tests.{by-value, T-true, and-l, and-r, or-r, both, every-weaker}
 use Rattle.railway.specs.Ranges.{station-ok}
-use Rattle.railway.specs.Networks.{network-refusal, listed, area-of}
+use Rattle.network.specs.Networks.{network-refusal, listed, area-of}
 use Rattle.timetable.specs.Tables.{empty}
 use Rattle.timetable.specs.Machine.{Timetable, answer, after}
 use Rattle.timetable.specs.Groups.{Divided, in-group, names-group, divide, merge, gather, divided-answer, divided-after}
 use Rattle.timetable.specs.Good.{Whole}
+use Rattle.timetable.specs.Refusals.{call-refusal}
+use Rattle.timetable.proofs.RefusalLaws.{call-fits, or-none}
 use Rattle.theory.proofs.Kept.{after-whole}
 use Rattle.theory.proofs.Divided.{answer-divided, after-divided}
-use Rattle.sheet.specs.Pages.{encode-page}
+use Rattle.actions.specs.Early.{early-refusal}
+use Rattle.page.specs.Pages.{encode-page}
 use Rattle.sheet.specs.Sheets.{six, page-at, encode-sheet, decode-sheet, good-sheet, sheet-at, good-division, divided}
-use Rattle.sheet.proofs.AreaLaws.{area-high, listed-placed, listed-ok}
-use Rattle.sheet.proofs.PageLaws.{Coded, empty-coded, blank-page, good-bytes}
+use Rattle.network.proofs.AreaLaws.{area-high, listed-placed, listed-ok}
+use Rattle.page.proofs.PageLaws.{Coded, empty-coded, blank-page, good-bytes}
 use Rattle.sheet.proofs.SheetLaws.{area-number, page-good, page-zeros, decoded-page, decoded-good, good-all-coded, encoded-size, encoded-page, encoded-sheet-good, good-sheet-back}
 use Rattle.sheet.proofs.SheetLaws.{sheets-equal, sheet-size, sheets-whole, row-same, all-areas, divided-size, divided-own, divided-other, divided-reads, divided-good}
 use Rattle.machine.specs.Types.{Station, Edit, Network, Answer}
-use Rattle.machine.specs.Calls.{early-refusal, call-refusal, refused-with, sheet-refusal, sheet-answer, sheet-after}
+use Rattle.machine.specs.Calls.{refused-with, sheet-refusal, sheet-answer, sheet-after}
 use Rattle.machine.specs.Calls.{named-good, parts, division-refusal, division-answer, division-after}
 
 module _ (n : Network) (good : network-refusal n ≡ 0) where
@@ -96,9 +100,8 @@ module _ (n : Network) (good : network-refusal n ≡ 0) (d d′ : Divided) (same
 -- an edit on a good sheet
 
 -- the buffer fits and its sheets are good: what is left is decided before any sheet is looked at
-pub call-good : (fits : Bool) (early : ℕ) (sheets : Bool) → fits ≡ true → sheets ≡ true → call-refusal fits early sheets ≡ early
-unfolding call-refusal
-call-good fits early sheets e f = rw (e, f) (by-value (eqb early 0) (λ g. rw g (sym (eqb-true early 0 g))) (λ g. rw g))
+pub call-good : (fits : Bool) (early : ℕ) (sheets : Bool) → fits ≡ true → sheets ≡ true → call-refusal fits early sheets 0 ≡ early
+call-good fits early sheets e f = call-fits fits early sheets 0 e f ∙ or-none early
 
 module _ (n : Network) (good : network-refusal n ≡ 0) (sheet : List ℕ) (size : length sheet ≡ 8192) (fine : T (good-sheet n (listed n) sheet)) (e : Edit) where
   early-only : sheet-refusal n e sheet ≡ early-refusal n e

@@ -1,12 +1,13 @@
--- Lists of edits on bytes. A good division is the divided sheet that it merges to, so an edit leaves it good; and edits one after another on a divided sheet are
--- the edits on the sheet, divided. Both go by induction over the list. Assumes nothing.
+-- Lists of edits on bytes. A good division is the divided sheet that it merges to, so an edit leaves it good; and edits
+-- one after another on a divided sheet are the edits on the sheet, divided. Both go by induction over the list. Assumes
+-- nothing.
 use Prim.Native.Nat.{ℕ}
 use mathlib.Core.Path.{_≡_, refl, sym, _∙_, ap}
 use mathlib.Core.List.{List, [], _∷_}
 use lib.Dec.{T}
 use lib.ListN.{length}
 use Rattle.base.specs.Runs.{run, answers}
-use Rattle.railway.specs.Networks.{network-refusal, listed}
+use Rattle.network.specs.Networks.{network-refusal, listed}
 use Rattle.sheet.specs.Sheets.{good-sheet, good-division, divided, merged}
 use Rattle.sheet.proofs.SheetLaws.{divided-size, merged-size, divided-merged, divided-good, merged-good}
 use Rattle.machine.specs.Types.{Edit, Network, Answer}

@@ -1,5 +1,5 @@
--- An edit on the page of a good table: an accepted edit makes of it the page of the table that the central machine makes of that table. Each edit is one change of
--- a page, or two, and each change is one of the table. Assumes nothing.
+-- An edit on the page of a good table: an accepted edit makes of it the page of the table that the central machine
+-- makes of that table. Each edit is one change of a page, or two, and each change is one of the table. Assumes nothing.
 use Prim.Native.Nat.{_<_}
 use mathlib.Core.Path.{_≡_, refl, sym, _∙_, ap, ap₂}
 use mathlib.Core.Bool.{Bool, true, false, not}
@@ -20,12 +20,13 @@ use Rattle.timetable.specs.Tables.{Entry, Table, visit-of, has-visit, add-visit
 use Rattle.timetable.specs.Machine.{Action, Meaning, local, throughout, meaning, as-it-was}
 use Rattle.timetable.specs.Good.{table-good}
 use Rattle.timetable.proofs.TableLaws.{GoodTable, number, lacking, absent, table-facts}
-use Rattle.sheet.specs.Pages.{encode-page}
-use Rattle.sheet.specs.Changes.{table-in, page-add-visit, page-lose-train}
-use Rattle.sheet.proofs.PageLaws.{page-length, page-back, good-coded}
-use Rattle.sheet.proofs.ShelfLaws.{table-of-page}
-use Rattle.sheet.proofs.ChangeLaws.{Fitting, add-visit-page, write-visit-page, remove-visit-page, add-relation-page, remove-relation-page, lose-train-page}
-use Rattle.edits.specs.Pairs.{refuses-on, page-changed, page-change, page-without, here-page, there-page}
+use Rattle.theory.proofs.Kept.{has-room, third}
+use Rattle.page.specs.Pages.{encode-page}
+use Rattle.page.specs.between.Changes.{table-in, page-add-visit, page-lose-train}
+use Rattle.page.proofs.PageLaws.{page-length, page-back, good-coded}
+use Rattle.page.proofs.SlotLaws.{table-of-page}
+use Rattle.page.proofs.ChangeLaws.{Fitting, add-visit-page, write-visit-page, remove-visit-page, add-relation-page, remove-relation-page, lose-train-page}
+use Rattle.edits.specs.between.Pairs.{refuses-on, page-changed, page-change, page-without, here-page, there-page}
 use Rattle.machine.specs.Types.{Station, Train, Visit, Edit, Network, Place, Prepend, Append, DeleteFirst, DeleteLast, Amend}
 use Rattle.machine.specs.Types.{ReportArrival, ReportDeparture, AddRelation, RemoveRelation, DeleteTrain}
 
@@ -117,28 +118,24 @@ few : (tab : Table) → full-relations tab ≡ false → length (tab .relations)
 unfolding full-relations
 few tab e = omega (arith, leb-false 6 (length (tab .relations)) e)
 
--- edits 2 and 3 that are not refused: there is room
-room : (b c d f : Bool) → (8 if b else 9 if c else 10 if d else 12 if f else 0) ≡ 0 → f ≡ false
-room b c d f e = passed 11 f 0 (rest-passed 9 d _ (rest-passed 8 c _ (rest-passed 7 b _ e)))
-
 -- what an edit makes of the pages of its tables, where they do not refuse it
 abbrev pub PageSteps : Network → Edit → Meaning → Type 0
-PageSteps n e (local a) = (here there : Table) → T (table-good n (a .home) here) → T (table-good n (a .away) there) → a .refuses here there ≡ 0
+PageSteps n e (local a) = (here there : Table) → T (table-good n (a .home) here) → T (table-good n (a .away) there) → a .refuses n here there ≡ 0
     → (here-page e (encode-page here) ≡ encode-page (a .here here)) × (there-page e (encode-page there) ≡ encode-page (a .there there))
 PageSteps n e (throughout t) = (s : Station) (tab : Table) → T (table-good n s tab) → here-page e (encode-page tab) ≡ encode-page (without t tab)
 
 pub page-steps : (n : Network) (e : Edit) → PageSteps n e (meaning e)
 unfolding meaning here-page there-page as-it-was
 page-steps n (Place p) = λ here there h t r. (
-  add-page n (p .station) here h (p .train) (planned p) (passed 11 (full-visits here) 0 (rest-passed 7 (has-visit (p .train) here) _ r)),
+  add-page n (p .station) here h (p .train) (planned p) (has-room n (p .station) here (rest-passed 7 (has-visit (p .train) here) _ r)),
   refl,
 )
 page-steps n (Prepend x) = λ here there h t r. (
-  add-page n (x .plan .station) here h (x .plan .train) _ (room (has-visit (x .plan .train) here) (not (has-visit (x .plan .train) there)) (not (is lacks-in (visit-of (x .plan .train) there))) (full-visits here) r),
+  add-page n (x .plan .station) here h (x .plan .train) _ (has-room n (x .plan .station) here (third (has-visit (x .plan .train) here) (not (has-visit (x .plan .train) there)) (not (is lacks-in (visit-of (x .plan .train) there))) _ r)),
   change-page n (x .other) there t (x .plan .train) _,
 )
 page-steps n (Append x) = λ here there h t r. (
-  add-page n (x .plan .station) here h (x .plan .train) _ (room (has-visit (x .plan .train) here) (not (has-visit (x .plan .train) there)) (not (is lacks-out (visit-of (x .plan .train) there))) (full-visits here) r),
+  add-page n (x .plan .station) here h (x .plan .train) _ (has-room n (x .plan .station) here (third (has-visit (x .plan .train) here) (not (has-visit (x .plan .train) there)) (not (is lacks-out (visit-of (x .plan .train) there))) _ r)),
   change-page n (x .other) there t (x .plan .train) _,
 )
 page-steps n (DeleteFirst d) = λ here there h t r. (without-page n (d .station) here h (d .train), change-page n (d .other) there t (d .train) _)
@@ -160,6 +157,6 @@ page-steps n (DeleteTrain c) = λ s tab h. without-page n s tab h (c .train)
 
 -- and the tables' refusal is that of their pages
 module _ (n : Network) (a : Action) (here there : Table) (h : T (table-good n (a .home) here)) (t : T (table-good n (a .away) there)) where
-  pub pages-refuse : refuses-on (local a) (encode-page here) (encode-page there) ≡ a .refuses here there
+  pub pages-refuse : refuses-on n (local a) (encode-page here) (encode-page there) ≡ a .refuses n here there
   unfolding refuses-on
-  pages-refuse = ap₂ (a .refuses) (table-here n (a .home) here h) (table-here n (a .away) there t)
+  pages-refuse = ap₂ (a .refuses n) (table-here n (a .home) here h) (table-here n (a .away) there t)

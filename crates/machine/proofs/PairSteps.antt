@@ -1,4 +1,5 @@
--- An edit on pages, case by case as the code takes it: refused, accepted, at all listed stations or at one or two. Assumes nothing.
+-- An edit on pages, case by case as the code takes it: refused, accepted, at all listed stations or at one or two.
+-- Assumes nothing.
 use Prim.Native.Nat.{ℕ, _+_, _*_, _-_, _≤_, _<_}
 use mathlib.Core.Path.{_≡_, sym, _∙_, ap, ap₂}
 use mathlib.Core.Bool.{Bool, true, false, _&&_}
@@ -9,49 +10,51 @@ use borrow.Author.Tests.{ne-eqb}
 use Rattle.base.specs.Lists.{every}
 use Rattle.base.proofs.Tests.{and-l, and-r}
 use Rattle.timetable.specs.Machine.{meaning}
-use Rattle.edits.specs.Pairs.{refuses-on, here-page}
+use Rattle.actions.specs.between.Shapes.{shape-of}
+use Rattle.edits.specs.between.Pairs.{refuses-on, here-page}
 use Rattle.machine.specs.Types.{Station, Edit, Network}
-use Rattle.machine.specs.Cells.{change-cell, place-of, places, swept, sweep, home-of, away-of, removes-of, is-throughout}
-use Rattle.machine.specs.Cells.{pair-refusal, pair-answer, far-changed, pair-after, has-room, cells-fit, cells-answer, cells-after}
-use Rattle.machine.proofs.CellLaws.{lent-cell}
+use Rattle.machine.specs.between.PageEdits.{place-of, places, swept, sweep}
+use Rattle.sheet.specs.between.Frames.{change-frame}
+use Rattle.machine.specs.between.PageEdits.{pair-refusal, pair-answer, far-changed, pair-after, has-room, frames-fit, frames-answer, frames-after}
+use Rattle.sheet.proofs.FrameLaws.{lent-frame}
 
-module _ (e : Edit) (i j : ℕ) (b : List ℕ) where
-  pub pair-told : (r : ℕ) → r ≡ refuses-on (meaning e) (take (512 * i + 512 - 512 * i) (drop (512 * i) b)) (take (512 * j + 512 - 512 * j) (drop (512 * j) b))
-      → r ≡ pair-refusal e i j b
+module _ (n : Network) (e : Edit) (i j : ℕ) (b : List ℕ) where
+  pub pair-told : (r : ℕ) → r ≡ refuses-on n (meaning e) (take (512 * i + 512 - 512 * i) (drop (512 * i) b)) (take (512 * j + 512 - 512 * j) (drop (512 * j) b))
+      → r ≡ pair-refusal n e i j b
   unfolding pair-refusal
-  pair-told r q = q ∙ ap₂ (refuses-on (meaning e)) (lent-cell i b) (lent-cell j b)
+  pair-told r q = q ∙ ap₂ (refuses-on n (meaning e)) (lent-frame i b) (lent-frame j b)
 
-  module _ (r : ℕ) (told : r ≡ pair-refusal e i j b) where
-    pub pair-refused : ¬ (r ≡ 0) → (record { refusal = r; removed = 0 } ≡ pair-answer e i j b) × (b ≡ pair-after e i j b)
+  module _ (r : ℕ) (told : r ≡ pair-refusal n e i j b) where
+    pub pair-refused : ¬ (r ≡ 0) → (record { refusal = r; removed = 0 } ≡ pair-answer n e i j b) × (b ≡ pair-after n e i j b)
     unfolding pair-answer pair-after
     pair-refused z = (sym (rw (sym told, ne-eqb r 0 z)), sym (rw (sym told, ne-eqb r 0 z)))
 
-    pub pair-changed : r ≡ 0 → (k : ℕ) → k ≡ removes-of (meaning e) → (far : List ℕ) → far ≡ far-changed e i j b
-        → (new : List ℕ) → new ≡ change-cell i (here-page e) far
-        → (record { refusal = 0; removed = k } ≡ pair-answer e i j b) × (new ≡ pair-after e i j b)
+    pub pair-changed : r ≡ 0 → (k : ℕ) → k ≡ shape-of (meaning e) .removes → (far : List ℕ) → far ≡ far-changed e i j b
+        → (new : List ℕ) → new ≡ change-frame i (here-page e) far
+        → (record { refusal = 0; removed = k } ≡ pair-answer n e i j b) × (new ≡ pair-after n e i j b)
     unfolding pair-answer pair-after
-    pair-changed z k q far f new g = (sym (rw (sym told ∙ z, ← q)), g ∙ ap (change-cell i (here-page e)) f ∙ sym (rw (sym told ∙ z)))
+    pair-changed z k q far f new g = (sym (rw (sym told ∙ z, ← q)), g ∙ ap (change-frame i (here-page e)) f ∙ sym (rw (sym told ∙ z)))
 
 module _ (divided : Bool) (n : Network) (e : Edit) where
-  pub fit-all : (size : ℕ) → is-throughout (meaning e) ≡ true → T (cells-fit divided n e size) → T (every (has-room size) (places divided n))
-  unfolding cells-fit
+  pub fit-all : (size : ℕ) → shape-of (meaning e) .everywhere ≡ true → T (frames-fit divided n e size) → T (every (has-room size) (places divided n))
+  unfolding frames-fit
   fit-all size q t = rw q at t
 
-  pub all-cells : (b : List ℕ) → is-throughout (meaning e) ≡ true → (k : ℕ) → k ≡ swept e (places divided n) b
-      → (record { refusal = 0; removed = k } ≡ cells-answer divided n e b) × (sweep e (places divided n) b ≡ cells-after divided n e b)
-  unfolding cells-answer cells-after
-  all-cells b q k r = (sym (rw (q, ← r)), sym (rw q))
+  pub all-frames : (b : List ℕ) → shape-of (meaning e) .everywhere ≡ true → (k : ℕ) → k ≡ swept e (places divided n) b
+      → (record { refusal = 0; removed = k } ≡ frames-answer divided n e b) × (sweep e (places divided n) b ≡ frames-after divided n e b)
+  unfolding frames-answer frames-after
+  all-frames b q k r = (sym (rw (q, ← r)), sym (rw q))
 
   -- the places as the code finds them
-  module _ (home : Station) (h : home ≡ home-of (meaning e)) (away : Station) (a : away ≡ away-of (meaning e)) where
-    fit-places : (size : ℕ) → is-throughout (meaning e) ≡ false → T (cells-fit divided n e size)
+  module _ (home : Station) (h : home ≡ shape-of (meaning e) .home) (away : Station) (a : away ≡ shape-of (meaning e) .away) where
+    fit-places : (size : ℕ) → shape-of (meaning e) .everywhere ≡ false → T (frames-fit divided n e size)
         → T (has-room size (place-of divided n home) && has-room size (place-of divided n away))
-    unfolding cells-fit
+    unfolding frames-fit
     fit-places size q t = rw (h, a) (rw q at t)
 
 module _ (divided : Bool) (n : Network) (e : Edit) where
-  pub fit-two : (size : ℕ) → is-throughout (meaning e) ≡ false → T (cells-fit divided n e size)
-      → (home : Station) → home ≡ home-of (meaning e) → (away : Station) → away ≡ away-of (meaning e)
+  pub fit-two : (size : ℕ) → shape-of (meaning e) .everywhere ≡ false → T (frames-fit divided n e size)
+      → (home : Station) → home ≡ shape-of (meaning e) .home → (away : Station) → away ≡ shape-of (meaning e) .away
       → (i : ℕ) → (i ≡ place-of divided n home) × (i < 4335) → (j : ℕ) → (j ≡ place-of divided n away) × (j < 4335)
       → (512 * i + 512 ≤ size) × (512 * j + 512 ≤ size) × (i < 4335) × (j < 4335)
   unfolding has-room
@@ -63,9 +66,9 @@ module _ (divided : Bool) (n : Network) (e : Edit) where
       let right = leb→le (512 * r + 512) size (and-r (leb (512 * p + 512) size) (leb (512 * r + 512) size) u) in
       (rw (x .0) left, rw (y .0) right, x .1, y .1)
 
-  pub two-cells : (b : List ℕ) → is-throughout (meaning e) ≡ false
-      → (home : Station) → home ≡ home-of (meaning e) → (away : Station) → away ≡ away-of (meaning e)
+  pub two-frames : (b : List ℕ) → shape-of (meaning e) .everywhere ≡ false
+      → (home : Station) → home ≡ shape-of (meaning e) .home → (away : Station) → away ≡ shape-of (meaning e) .away
       → (i : ℕ) → i ≡ place-of divided n home → (j : ℕ) → j ≡ place-of divided n away
-      → (pair-answer e i j b ≡ cells-answer divided n e b) × (pair-after e i j b ≡ cells-after divided n e b)
-  unfolding cells-answer cells-after
-  two-cells b q home h away a i x j y = (sym (rw (q, ← h, ← a, ← x, ← y)), sym (rw (q, ← h, ← a, ← x, ← y)))
+      → (pair-answer n e i j b ≡ frames-answer divided n e b) × (pair-after n e i j b ≡ frames-after divided n e b)
+  unfolding frames-answer frames-after
+  two-frames b q home h away a i x j y = (sym (rw (q, ← h, ← a, ← x, ← y)), sym (rw (q, ← h, ← a, ← x, ← y)))

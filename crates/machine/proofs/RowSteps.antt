@@ -1,5 +1,5 @@
--- The rows of a network's stations, gone through from an index on: the next page that edit 11 changes, and whether an edit names a station of an area.
--- Assumes nothing.
+-- The rows of a network's stations, gone through from an index on: the next page that edit 11 changes, and whether an
+-- edit names a station of an area. Assumes nothing.
 use Prim.Native.Nat.{ℕ, _+_, _*_, _-_, _<_, _≤_, min}
 use mathlib.Core.Path.{_≡_, refl, sym, _∙_, ap}
 use mathlib.Core.Bool.{Bool, true, false, _&&_, _||_}
@@ -12,14 +12,15 @@ use lib.Seq.{getD-take}
 use Rattle.base.specs.Lists.{any, every}
 use Rattle.base.proofs.Lengths.{drop-next, every-next}
 use Rattle.base.proofs.Tests.{every-head, every-tail}
-use Rattle.railway.specs.Networks.{station-rows, stations-of}
-use Rattle.railway.specs.declared.network.StationRow.{StationRow}
-use Rattle.railway.proofs.RowLaws.{used-rows}
+use Rattle.network.specs.Networks.{station-rows, stations-of}
+use Rattle.network.specs.declared.StationRow.{StationRow}
+use Rattle.network.proofs.RowLaws.{used-rows}
 use Rattle.sheet.specs.Sheets.{six, sheet-at}
 use Rattle.sheet.proofs.SheetLaws.{area-at}
-use Rattle.edits.specs.Pairs.{here-page}
+use Rattle.edits.specs.between.Pairs.{here-page}
 use Rattle.machine.specs.Types.{Edit, Network}
-use Rattle.machine.specs.Cells.{cell, change-cell, place-of, places, sweep, visits-on, swept, has-room, touches-at, touches-area, area-passes}
+use Rattle.machine.specs.between.PageEdits.{place-of, places, sweep, visits-on, swept, has-room, touches-at, touches-area, area-passes}
+use Rattle.sheet.specs.between.Frames.{frame, change-frame}
 
 -- what an array of rows is read as past its end
 abbrev pub nowhere : StationRow
@@ -95,11 +96,11 @@ module _ (rows : List StationRow) (k : ℕ) (fits : k ≤ length rows) (i : ℕ)
         every-tail (has-room size) (g (getD rows i nowhere)) later u
 
     pub swept-on : (e : Edit) (b : List ℕ) → i < k
-        → swept e left b ≡ visits-on e (cell (g (getD rows i nowhere)) b) + swept e later (change-cell (g (getD rows i nowhere)) (here-page e) b)
+        → swept e left b ≡ visits-on e (frame (g (getD rows i nowhere)) b) + swept e later (change-frame (g (getD rows i nowhere)) (here-page e) b)
     unfolding swept
     swept-on e b h = ap (λ (l : List ℕ). swept e l b) (left-on h)
 
-    pub sweep-on : (e : Edit) (b : List ℕ) → i < k → sweep e left b ≡ sweep e later (change-cell (g (getD rows i nowhere)) (here-page e) b)
+    pub sweep-on : (e : Edit) (b : List ℕ) → i < k → sweep e left b ≡ sweep e later (change-frame (g (getD rows i nowhere)) (here-page e) b)
     unfolding sweep
     sweep-on e b h = ap (λ (l : List ℕ). sweep e l b) (left-on h)
 

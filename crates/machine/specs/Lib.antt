@@ -1,4 +1,4 @@
 pub mod Types
 pub mod Calls
-pub mod Cells
-pub mod Tested
+pub mod Lists
+pub mod between

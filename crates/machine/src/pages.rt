@@ -1,23 +1,36 @@
-// An edit on pages in a row: the pages of a sheet or of a division. A page is a page wherever it stands, so the same functions serve both.
+// An edit on pages in a row: the pages of a sheet or of a division. A page is a page wherever it stands, so the same
+// functions serve both.
 ghost use mathlib.Core.Path.{_≡_};
 ghost use Prim.Native.Nat.{_+_, _*_, _-_, _≤_, _<_, min};
 ghost use lib.Dec.{T};
 ghost use lib.ListN.{length};
 ghost use Rattle.base.specs.Lists.{every};
-ghost use Rattle.edits.specs.Pairs.{here-page};
-ghost use Rattle.machine.specs.Cells.{cell, change-cell, place-of, places, visits-on, swept, sweep, pair-answer, far-changed, pair-after};
-ghost use Rattle.machine.specs.Cells.{has-room, cells-fit, cells-answer, cells-after, touches-at, touches-area, area-passes, named-pass};
-use crate::facts;
+ghost use Rattle.edits.specs.between.Pairs.{here-page};
+ghost use Rattle.machine.specs.Calls.{refused-with};
+ghost use Rattle.machine.specs.between.PageEdits.{place-of, places, visits-on, swept, sweep, pair-answer, far-changed, pair-after};
+ghost use Rattle.sheet.specs.between.Frames.{frame, change-frame};
+ghost use Rattle.machine.specs.between.PageEdits.{has-room, frames-fit, frames-answer, frames-after, touches-at, touches-area, area-passes, named-pass};
+use actions::shape;
 use edits::change;
 use edits::refusal;
+use network::Network;
+use page::VisitFound;
 use railway::edit::Edit;
-use railway::network::Network;
+use railway::sorts::Area;
 use railway::sorts::Station;
 use records::bytes;
-use sheet::page;
-use sheet::page::VisitFound;
 use sheet::test;
+use sheet::test::Extent;
 use timetable::Answer;
+
+pub fn refused(k: u8) -> Answer
+    ensures { λ r. ⌜ r ≡ refused-with k ⌝ }
+{
+    Answer {
+        refusal: k,
+        removed: 0,
+    }
+}
 
 // One less, and 0 for 0.
 fn before(x: u8) -> usize
@@ -34,7 +47,7 @@ fn place_of(divided: bool, n: Network, s: Station) -> usize
     ensures { λ r. ⌜ (r ≡ place-of divided n s) × (r < 4335) ⌝ }
 {
     if divided {
-        return 16 * before(n.area_of(s)) + before(s.0);
+        return 16 * before(n.group_of(s)) + before(s.0);
     }
     before(s.0)
 }
@@ -54,7 +67,7 @@ fn change_far(b: &mut [u8], i: usize, j: usize, e: Edit)
 
 fn change_near(b: &mut [u8], i: usize, e: Edit)
     requires { ⌜ (512 * i + 512 ≤ length (now b)) × (i < 4335) ⌝ }
-    ensures { λ _. ⌜ now (b .exit) ≡ change-cell i (here-page e) (now (b .entry)) ⌝ }
+    ensures { λ _. ⌜ now (b .exit) ≡ change-frame i (here-page e) (now (b .entry)) ⌝ }
 {
     let at = 512 * i;
     let end = at + 512;
@@ -62,21 +75,21 @@ fn change_near(b: &mut [u8], i: usize, e: Edit)
 }
 
 // An edit at one or two stations, s with its page at i and p with its page at j.
-fn edit_two(b: &mut [u8], i: usize, j: usize, e: Edit) -> Answer
+fn edit_two(b: &mut [u8], n: Network, i: usize, j: usize, e: Edit) -> Answer
     requires { ⌜ (512 * i + 512 ≤ length (now b)) × (512 * j + 512 ≤ length (now b)) × (i < 4335) × (j < 4335) ⌝ }
-    ensures { λ r. ⌜ (r ≡ pair-answer e i j (now (b .entry))) × (now (b .exit) ≡ pair-after e i j (now (b .entry))) ⌝ }
+    ensures { λ r. ⌜ (r ≡ pair-answer n e i j (now (b .entry))) × (now (b .exit) ≡ pair-after n e i j (now (b .entry))) ⌝ }
 {
     let at = 512 * i;
     let end = at + 512;
     let from = 512 * j;
     let to = from + 512;
-    let r = refusal::refusal_of(&b[at..end], &b[from..to], e);
+    let r = refusal::refusal_of(&b[at..end], &b[from..to], n, e);
     if r == 0 {
         change_far(b, i, j, e);
         change_near(b, i, e);
         return Answer {
             refusal: 0,
-            removed: facts::removes(e),
+            removed: shape::shape_of(e).removes,
         };
     }
     Answer {
@@ -91,7 +104,7 @@ fn edit_two(b: &mut [u8], i: usize, j: usize, e: Edit) -> Answer
 fn count_on(part: &[u8], e: Edit) -> u8
     ensures { λ r. ⌜ (r ≡ visits-on e (now (part .entry))) × (r ≤ 1) ⌝ }
 {
-    let found = page::visit_of(part, facts::train(e));
+    let found = page::visit_of(part, shape::shape_of(e).train);
     match found {
         VisitFound::Is(_) => 1,
         VisitFound::Nothing => 0,
@@ -101,7 +114,7 @@ fn count_on(part: &[u8], e: Edit) -> u8
 // At one page.
 fn sweep_one(b: &mut [u8], i: usize, e: Edit) -> u8
     requires { ⌜ (512 * i + 512 ≤ length (now b)) × (i < 4335) ⌝ }
-    ensures { λ r. ⌜ (r ≡ visits-on e (cell i (now (b .entry)))) × (now (b .exit) ≡ change-cell i (here-page e) (now (b .entry))) × (r ≤ 1) ⌝ }
+    ensures { λ r. ⌜ (r ≡ visits-on e (frame i (now (b .entry)))) × (now (b .exit) ≡ change-frame i (here-page e) (now (b .entry))) × (r ≤ 1) ⌝ }
 {
     let at = 512 * i;
     let end = at + 512;
@@ -139,19 +152,20 @@ fn sweep_all(b: &mut [u8], divided: bool, n: Network, e: Edit) -> u8
 
 // An edit on all the pages that it names.
 pub fn edit_pages(b: &mut [u8], divided: bool, n: Network, e: Edit) -> Answer
-    requires { ⌜ T (cells-fit divided n e (length (now b))) ⌝ }
-    ensures { λ r. ⌜ (r ≡ cells-answer divided n e (now (b .entry))) × (now (b .exit) ≡ cells-after divided n e (now (b .entry))) ⌝ }
+    requires { ⌜ T (frames-fit divided n e (length (now b))) ⌝ }
+    ensures { λ r. ⌜ (r ≡ frames-answer divided n e (now (b .entry))) × (now (b .exit) ≡ frames-after divided n e (now (b .entry))) ⌝ }
 {
-    if facts::is_everywhere(e) {
+    let a = shape::shape_of(e);
+    if a.everywhere {
         let removed = sweep_all(b, divided, n, e);
         return Answer {
             refusal: 0,
             removed: removed,
         };
     }
-    let i = place_of(divided, n, facts::home(e));
-    let j = place_of(divided, n, facts::away(e));
-    edit_two(b, i, j, e)
+    let i = place_of(divided, n, a.home);
+    let j = place_of(divided, n, a.away);
+    edit_two(b, n, i, j, e)
 }
 
 // Which sheets of a division are to be good
@@ -159,8 +173,8 @@ pub fn edit_pages(b: &mut [u8], divided: bool, n: Network, e: Edit) -> Answer
 fn is_named(n: Network, e: Edit, a: u8, s: Station) -> bool
     ensures { λ r. ⌜ r ≡ touches-at n e a s ⌝ }
 {
-    if a == n.area_of(s) {
-        return facts::touched(e, s);
+    if a == n.group_of(s) {
+        return shape::touched(e, s);
     }
     false
 }
@@ -187,7 +201,7 @@ fn area_good(part: &[u8], n: Network, e: Edit, a: u8) -> bool
     ensures { λ r. ⌜ r ≡ area-passes n e a (now (part .entry)) ⌝ }
 {
     if names_area(n, e, a) {
-        return test::good_sheet(part, n, a);
+        return test::good_sheet(part, n, Extent::Of(Area(a)));
     }
     true
 }

@@ -1,7 +1,9 @@
-// Visits by value: their links, whether they stop, and visits with another link or time, as the definitions of timetable/specs/Visits.antt say.
+// Visits by value: their links, whether they stop, and visits with another link or time, as the definitions of
+// timetable/specs/Visits.antt say.
 ghost use mathlib.Core.Path.{_≡_};
 ghost use Rattle.timetable.specs.Visits.{lacks-in, lacks-out, comes-from, leaves-to, stops, with-in, with-out, planned, amended, arrived-at, departed-at};
-ghost use Rattle.visits.specs.Kept.{keeps-arrival, alters-departure};
+ghost use Rattle.visits.specs.between.Kept.{keeps-arrival, alters-departure};
+ghost use Rattle.visits.specs.between.Changes.{change-by};
 ghost use Rattle.timetable.specs.Visits.{from, onward, first-stands, last-stands, alters};
 use railway::edit::Plan;
 use railway::minute::Minute;
@@ -209,6 +211,27 @@ pub fn depart(time: Minute, v: Visit) -> Visit
         departed: true,
         inward,
         outward,
+    }
+}
+
+// One change of a visit that stands, by edits 2 to 8.
+pub enum Change {
+    In(InLink),
+    Out(OutLink),
+    Amend(Plan),
+    Arrive(Minute),
+    Depart(Minute),
+}
+
+pub fn changed(c: Change, v: Visit) -> Visit
+    ensures { λ r. ⌜ r ≡ change-by c v ⌝ }
+{
+    match c {
+        Change::In(link) => linked_in(link, v),
+        Change::Out(link) => linked_out(link, v),
+        Change::Amend(p) => amend_visit(p, v),
+        Change::Arrive(time) => arrive(time, v),
+        Change::Depart(time) => depart(time, v),
     }
 }
 

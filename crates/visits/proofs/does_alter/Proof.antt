@@ -29,10 +29,5 @@ returns-3 c = simp (← c .alters-departure2 .ensures, c .before .if1 .left)
 pub does-alter-spec : {M : Type 1} → statement M
 does-alter-spec =
     tie.close
-    (tie.spec
-    keeps-arrival-requires
-    alters-departure-requires
-    returns
-    returns-2
-    alters-departure-requires-2
+    (tie.spec keeps-arrival-requires alters-departure-requires returns returns-2 alters-departure-requires-2
     returns-3)

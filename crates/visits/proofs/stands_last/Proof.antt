@@ -1,4 +1,5 @@
--- `visits::stands_last` meets its contract: each return rewrites with the links and tests that led there. Assumes nothing.
+-- `visits::stands_last` meets its contract: each return rewrites with the links and tests that led there. Assumes
+-- nothing.
 use borrow.Author.Needs.{needs}
 use borrow.Author.Tests.{eq-eqb, ne-eqb}
 use Rattle.timetable.specs.Visits.{last-stands}
@@ -40,12 +41,4 @@ returns-4 c = rw (← c .before .has-no-out .ensures, c .if1 .left)
 pub stands-last-spec : {M : Type 1} → statement M
 stands-last-spec =
     tie.close
-    (tie.spec
-    has-no-out-requires
-    enum-told
-    returns
-    enum-known-link
-    is-to-requires
-    returns-2
-    returns-3
-    returns-4)
+    (tie.spec has-no-out-requires enum-told returns enum-known-link is-to-requires returns-2 returns-3 returns-4)

@@ -1,6 +1,7 @@
 -- `edits::change::change_here` meets its contract: each arm is the change of its edit. Assumes nothing.
 use borrow.Author.Needs.{needs}
-use Rattle.edits.specs.Pairs.{here-page}
+use Rattle.visits.specs.between.Changes.{change-by}
+use Rattle.edits.specs.between.Pairs.{here-page}
 use Rattle.edits.proofs.change.change_here.Statement.{statement}
 use Rattle.edits.proofs.change.change_here.Tie as tie
 
@@ -37,20 +38,20 @@ take-out-requires-2 c κs = search needs
 enum-known-e-6 : tie.Need-enum-known-e-6
 enum-known-e-6 c = search needs
 
-amend-requires : tie.Need-amend-requires
-amend-requires c κs = search needs
+change-visit-requires : tie.Need-change-visit-requires
+change-visit-requires c κs = search needs
 
 enum-known-e-7 : tie.Need-enum-known-e-7
 enum-known-e-7 c = search needs
 
-report-arrival-requires : tie.Need-report-arrival-requires
-report-arrival-requires c κs = search needs
+change-visit-requires-2 : tie.Need-change-visit-requires-2
+change-visit-requires-2 c κs = search needs
 
 enum-known-e-8 : tie.Need-enum-known-e-8
 enum-known-e-8 c = search needs
 
-report-departure-requires : tie.Need-report-departure-requires
-report-departure-requires c κs = search needs
+change-visit-requires-3 : tie.Need-change-visit-requires-3
+change-visit-requires-3 c κs = search needs
 
 enum-known-e-9 : tie.Need-enum-known-e-9
 enum-known-e-9 c = search needs
@@ -106,22 +107,22 @@ same-length-6 : tie.Need-same-length-6
 same-length-6 c = search needs
 
 returns-6 : tie.Need-returns-6
-unfolding here-page
-returns-6 c = rw (c .before .before .before .before .before .e6 .given .1) (c .before .before .amend .ensures)
+unfolding here-page change-by
+returns-6 c = rw (c .before .before .before .before .before .e6 .given .1) (c .before .before .change-visit .ensures)
 
 same-length-7 : tie.Need-same-length-7
 same-length-7 c = search needs
 
 returns-7 : tie.Need-returns-7
-unfolding here-page
-returns-7 c = rw (c .before .before .before .before .before .e7 .given .1) (c .before .before .report-arrival .ensures)
+unfolding here-page change-by
+returns-7 c = rw (c .before .before .before .before .before .before .e7 .given .1) (c .before .before .change-visit2 .ensures)
 
 same-length-8 : tie.Need-same-length-8
 same-length-8 c = search needs
 
 returns-8 : tie.Need-returns-8
-unfolding here-page
-returns-8 c = rw (c .before .before .before .before .before .e8 .given .1) (c .before .before .report-departure .ensures)
+unfolding here-page change-by
+returns-8 c = rw (c .before .before .before .before .before .before .e8 .given .1) (c .before .before .change-visit3 .ensures)
 
 same-length-9 : tie.Need-same-length-9
 same-length-9 c = search needs
@@ -147,48 +148,10 @@ returns-11 c = rw (c .before .before .before .before .before .e11 .given .1) (c 
 pub change-here-spec : {M : Type 1} → statement M
 change-here-spec =
     tie.close
-    (tie.spec
-    enum-known-e
-    place-requires
-    enum-known-e-2
-    prepend-requires
-    enum-known-e-3
-    append-requires
-    enum-known-e-4
-    take-out-requires
-    enum-known-e-5
-    take-out-requires-2
-    enum-known-e-6
-    amend-requires
-    enum-known-e-7
-    report-arrival-requires
-    enum-known-e-8
-    report-departure-requires
-    enum-known-e-9
-    add-relation-requires
-    enum-known-e-10
-    remove-relation-requires
-    enum-known-e-11
-    take-out-requires-3
-    same-length
-    returns
-    same-length-2
-    returns-2
-    same-length-3
-    returns-3
-    same-length-4
-    returns-4
-    same-length-5
-    returns-5
-    same-length-6
-    returns-6
-    same-length-7
-    returns-7
-    same-length-8
-    returns-8
-    same-length-9
-    returns-9
-    same-length-10
-    returns-10
-    same-length-11
+    (tie.spec enum-known-e place-requires enum-known-e-2 prepend-requires enum-known-e-3 append-requires
+    enum-known-e-4 take-out-requires enum-known-e-5 take-out-requires-2 enum-known-e-6 change-visit-requires
+    enum-known-e-7 change-visit-requires-2 enum-known-e-8 change-visit-requires-3 enum-known-e-9 add-relation-requires
+    enum-known-e-10 remove-relation-requires enum-known-e-11 take-out-requires-3 same-length returns same-length-2
+    returns-2 same-length-3 returns-3 same-length-4 returns-4 same-length-5 returns-5 same-length-6 returns-6
+    same-length-7 returns-7 same-length-8 returns-8 same-length-9 returns-9 same-length-10 returns-10 same-length-11
     returns-11)

@@ -4,8 +4,8 @@ use mathlib.Core.Path.{sym, _∙_, ap, ap₂}
 use denote.Ref.{now}
 use Rattle.railway.specs.declared.visit.Visit.{Visit}
 use Rattle.timetable.specs.Visits.{with-in, with-out}
-use Rattle.sheet.specs.Changes.{page-add-visit}
-use Rattle.edits.specs.Pairs.{here-page}
+use Rattle.page.specs.between.Changes.{page-add-visit}
+use Rattle.edits.specs.between.Pairs.{here-page}
 use Rattle.edits.proofs.change.place.Statement.{statement}
 use Rattle.edits.proofs.change.place.Tie as tie
 

@@ -4,8 +4,8 @@ use mathlib.Core.Path.{sym, _∙_, ap, ap₂}
 use denote.Ref.{now}
 use Rattle.railway.specs.declared.visit.Visit.{Visit}
 use Rattle.timetable.specs.Visits.{with-in, with-out}
-use Rattle.sheet.specs.Changes.{page-add-visit}
-use Rattle.edits.specs.Pairs.{here-page}
+use Rattle.page.specs.between.Changes.{page-add-visit}
+use Rattle.edits.specs.between.Pairs.{here-page}
 use Rattle.edits.proofs.change.prepend.Statement.{statement}
 use Rattle.edits.proofs.change.prepend.Tie as tie
 
@@ -34,10 +34,4 @@ returns c =
 pub prepend-spec : {M : Type 1} → statement M
 prepend-spec =
     tie.close
-    (tie.spec
-    link-to-requires
-    plan-visit-requires
-    linked-out-requires
-    add-visit-requires
-    same-length
-    returns)
+    (tie.spec link-to-requires plan-visit-requires linked-out-requires add-visit-requires same-length returns)

@@ -1,8 +1,9 @@
--- `edits::change::take_out` meets its contract: the visit is removed, and then the train leaves the relations. Assumes nothing.
+-- `edits::change::take_out` meets its contract: the visit is removed, and then the train leaves the relations. Assumes
+-- nothing.
 use borrow.Author.Needs.{needs}
 use mathlib.Core.Path.{_∙_, ap}
-use Rattle.sheet.specs.Changes.{page-lose-train}
-use Rattle.edits.specs.Pairs.{page-without}
+use Rattle.page.specs.between.Changes.{page-lose-train}
+use Rattle.edits.specs.between.Pairs.{page-without}
 use Rattle.edits.proofs.change.take_out.Statement.{statement}
 use Rattle.edits.proofs.change.take_out.Tie as tie
 

@@ -4,9 +4,9 @@ use mathlib.Core.Path.{sym, _∙_}
 use denote.Ref.{now}
 use Rattle.timetable.specs.Tables.{visit-of}
 use Rattle.timetable.specs.Machine.{meaning}
-use Rattle.sheet.specs.Changes.{table-in}
-use Rattle.edits.specs.Pairs.{refuses-on}
-use Rattle.edits.proofs.FoundLaws.{found-some, found-none, there-some, there-none}
+use Rattle.page.specs.between.Changes.{table-in}
+use Rattle.edits.specs.between.Pairs.{refuses-on}
+use Rattle.page.proofs.FoundLaws.{found-some, found-none, there-some, there-none}
 use Rattle.edits.proofs.refusal.is_there.Statement.{statement}
 use Rattle.edits.proofs.refusal.is_there.Tie as tie
 

@@ -1,7 +1,7 @@
 -- `edits::refusal::refusal_of` meets its contract: each arm is the refusal of its edit. Assumes nothing.
 use borrow.Author.Needs.{needs}
 use Rattle.timetable.specs.Machine.{meaning}
-use Rattle.edits.specs.Pairs.{refuses-on, missing-visit}
+use Rattle.edits.specs.between.Pairs.{refuses-on, missing-visit}
 use Rattle.edits.proofs.refusal.refusal_of.Statement.{statement}
 use Rattle.edits.proofs.refusal.refusal_of.Tie as tie
 
@@ -107,36 +107,8 @@ returns-11 c = rw (c .enum-told .given .1)
 pub refusal-of-spec : {M : Type 1} → statement M
 refusal-of-spec =
     tie.close
-    (tie.spec
-    enum-known-e
-    refuse-place-requires
-    enum-known-e-2
-    refuse-prepend-requires
-    enum-known-e-3
-    refuse-append-requires
-    enum-known-e-4
-    refuse-delete-first-requires
-    enum-known-e-5
-    refuse-delete-last-requires
-    enum-known-e-6
-    refuse-amend-requires
-    enum-known-e-7
-    refuse-report-requires
-    enum-known-e-8
-    refuse-report-requires-2
-    enum-known-e-9
-    refuse-add-relation-requires
-    enum-known-e-10
-    refuse-remove-relation-requires
-    enum-told
-    returns
-    returns-2
-    returns-3
-    returns-4
-    returns-5
-    returns-6
-    returns-7
-    returns-8
-    returns-9
-    returns-10
-    returns-11)
+    (tie.spec enum-known-e refuse-place-requires enum-known-e-2 refuse-prepend-requires enum-known-e-3
+    refuse-append-requires enum-known-e-4 refuse-delete-first-requires enum-known-e-5 refuse-delete-last-requires
+    enum-known-e-6 refuse-amend-requires enum-known-e-7 refuse-report-requires enum-known-e-8 refuse-report-requires-2
+    enum-known-e-9 refuse-add-relation-requires enum-known-e-10 refuse-remove-relation-requires enum-told returns
+    returns-2 returns-3 returns-4 returns-5 returns-6 returns-7 returns-8 returns-9 returns-10 returns-11)

@@ -1,7 +1,8 @@
--- `edits::refusal::refuse_add_relation` meets its contract: each return rewrites with the tests that led there. Assumes nothing.
+-- `edits::refusal::refuse_add_relation` meets its contract: each return rewrites with the tests that led there. Assumes
+-- nothing.
 use borrow.Author.Needs.{needs}
 use Rattle.timetable.specs.Machine.{meaning}
-use Rattle.edits.specs.Pairs.{refuses-on}
+use Rattle.edits.specs.between.Pairs.{refuses-on}
 use Rattle.edits.proofs.refusal.refuse_add_relation.Statement.{statement}
 use Rattle.edits.proofs.refusal.refuse_add_relation.Tie as tie
 

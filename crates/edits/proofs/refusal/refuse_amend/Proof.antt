@@ -1,12 +1,13 @@
--- `edits::refusal::refuse_amend` meets its contract: each return rewrites with the look-up and test that led there. Assumes nothing.
+-- `edits::refusal::refuse_amend` meets its contract: each return rewrites with the look-up and test that led there.
+-- Assumes nothing.
 use borrow.Author.Needs.{needs}
 use mathlib.Core.Path.{sym, _∙_}
 use denote.Ref.{now}
 use Rattle.timetable.specs.Tables.{visit-of}
 use Rattle.timetable.specs.Machine.{meaning}
-use Rattle.sheet.specs.Changes.{table-in}
-use Rattle.edits.specs.Pairs.{refuses-on}
-use Rattle.edits.proofs.FoundLaws.{found-some, found-none, there-some, there-none}
+use Rattle.page.specs.between.Changes.{table-in}
+use Rattle.edits.specs.between.Pairs.{refuses-on}
+use Rattle.page.proofs.FoundLaws.{found-some, found-none, there-some, there-none}
 use Rattle.edits.proofs.refusal.refuse_amend.Statement.{statement}
 use Rattle.edits.proofs.refusal.refuse_amend.Tie as tie
 
@@ -49,11 +50,4 @@ returns-3 c =
 pub refuse-amend-spec : {M : Type 1} → statement M
 refuse-amend-spec =
     tie.close
-    (tie.spec
-    visit-of-requires
-    enum-told
-    enum-known-found
-    does-alter-requires
-    returns
-    returns-2
-    returns-3)
+    (tie.spec visit-of-requires enum-told enum-known-found does-alter-requires returns returns-2 returns-3)

@@ -1,12 +1,12 @@
--- `edits::refusal::refuse_prepend` meets its contract: each return rewrites with the look-ups and tests that led there. Assumes nothing.
+-- `edits::refusal::refuse_prepend` meets its contract: each return rewrites with the look-ups and tests that led there.
+-- Assumes nothing.
 use borrow.Author.Needs.{needs}
-use mathlib.Core.Path.{sym, _∙_}
 use denote.Ref.{now}
 use Rattle.timetable.specs.Tables.{visit-of}
 use Rattle.timetable.specs.Machine.{meaning}
-use Rattle.sheet.specs.Changes.{table-in}
-use Rattle.edits.specs.Pairs.{refuses-on}
-use Rattle.edits.proofs.FoundLaws.{found-some, found-none, there-some, there-none}
+use Rattle.page.specs.between.Changes.{table-in}
+use Rattle.edits.specs.between.Pairs.{refuses-on}
+use Rattle.page.proofs.FoundLaws.{found-some, found-none, there-some, there-none}
 use Rattle.edits.proofs.refusal.refuse_prepend.Statement.{statement}
 use Rattle.edits.proofs.refusal.refuse_prepend.Tie as tie
 
@@ -29,36 +29,28 @@ enum-known-found c = search needs
 has-no-in-requires : tie.Need-has-no-in-requires
 has-no-in-requires c κs = search needs
 
-full-requires : tie.Need-full-requires
-full-requires c κs = search needs
+room-at-requires : tie.Need-room-at-requires
+room-at-requires c κs = search needs
 
 returns-2 : tie.Need-returns-2
 unfolding refuses-on meaning
 returns-2 c =
-    let s = c .before .before .before .before .before .before .before .before .before .before .before .before .before .args in
+    let s = c .before .before .before .before .before .before .before .before .before .before .before .before .args in
     let t = s .x .plan .train in
-    let far = found-some (visit-of t (table-in (now (s .there)))) _ _ (c .before .before .before .before .before .before .before .visit-of .ensures) (c .before .before .before .before .before .found .given .1) in
-    rw (← c .before .before .before .before .before .before .before .before .before .is-there .ensures, c .before .before .before .before .before .before .before .before .if1 .left, there-some t (table-in (now (s .there))) _ far, far, ← c .before .before .before .has-no-in .ensures, c .before .before .if2 .taken, ← c .before .full .ensures, c .if3 .taken)
+    let far = found-some (visit-of t (table-in (now (s .there)))) _ _ (c .before .before .before .before .before .before .visit-of .ensures) (c .before .before .before .before .found .given .1) in
+    rw (← c .before .before .before .before .before .before .before .before .is-there .ensures, c .before .before .before .before .before .before .before .if1 .left, there-some t (table-in (now (s .there))) _ far, far, ← c .before .before .has-no-in .ensures, c .before .if2 .taken) (c .room-at .ensures)
 
 returns-3 : tie.Need-returns-3
 unfolding refuses-on meaning
 returns-3 c =
-    let s = c .before .before .before .before .before .before .before .before .before .before .before .before .before .args in
-    let t = s .x .plan .train in
-    let far = found-some (visit-of t (table-in (now (s .there)))) _ _ (c .before .before .before .before .before .before .before .visit-of .ensures) (c .before .before .before .before .before .found .given .1) in
-    rw (← c .before .before .before .before .before .before .before .before .before .is-there .ensures, c .before .before .before .before .before .before .before .before .if1 .left, there-some t (table-in (now (s .there))) _ far, far, ← c .before .before .before .has-no-in .ensures, c .before .before .if2 .taken, ← c .before .full .ensures, c .if3 .left)
-
-returns-4 : tie.Need-returns-4
-unfolding refuses-on meaning
-returns-4 c =
     let s = c .before .before .before .before .before .before .before .before .args in
     let t = s .x .plan .train in
     let far = found-none (visit-of t (table-in (now (s .there)))) _ (c .before .before .visit-of .ensures) (c .enum-told .given .1) in
     rw (← c .before .before .before .before .is-there .ensures, c .before .before .before .if1 .left, there-none t (table-in (now (s .there))) far)
 
-returns-5 : tie.Need-returns-5
+returns-4 : tie.Need-returns-4
 unfolding refuses-on meaning
-returns-5 c =
+returns-4 c =
     let s = c .before .before .before .before .before .before .before .before .before .before .before .args in
     let t = s .x .plan .train in
     let far = found-some (visit-of t (table-in (now (s .there)))) _ _ (c .before .before .before .before .before .visit-of .ensures) (c .before .before .before .found .given .1) in
@@ -67,15 +59,5 @@ returns-5 c =
 pub refuse-prepend-spec : {M : Type 1} → statement M
 refuse-prepend-spec =
     tie.close
-    (tie.spec
-    is-there-requires
-    returns
-    visit-of-requires
-    enum-told
-    enum-known-found
-    has-no-in-requires
-    full-requires
-    returns-2
-    returns-3
-    returns-4
-    returns-5)
+    (tie.spec is-there-requires returns visit-of-requires enum-told enum-known-found has-no-in-requires
+    room-at-requires returns-2 returns-3 returns-4)

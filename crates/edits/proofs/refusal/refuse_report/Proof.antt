@@ -1,6 +1,7 @@
--- `edits::refusal::refuse_report` meets its contract: each return rewrites with the tests that led there. Assumes nothing.
+-- `edits::refusal::refuse_report` meets its contract: each return rewrites with the tests that led there. Assumes
+-- nothing.
 use borrow.Author.Needs.{needs}
-use Rattle.edits.specs.Pairs.{missing-visit}
+use Rattle.edits.specs.between.Pairs.{missing-visit}
 use Rattle.edits.proofs.refusal.refuse_report.Statement.{statement}
 use Rattle.edits.proofs.refusal.refuse_report.Tie as tie
 

@@ -1,6 +1,6 @@
 -- `machine::pages::area_good` meets its contract: the test of the area decides. Assumes nothing.
 use mathlib.Core.Path.{sym, _∙_}
-use Rattle.machine.specs.Cells.{area-passes}
+use Rattle.machine.specs.between.PageEdits.{area-passes}
 use borrow.Author.Needs.{needs}
 use Rattle.machine.proofs.pages.area_good.Statement.{statement}
 use Rattle.machine.proofs.pages.area_good.Tie as tie

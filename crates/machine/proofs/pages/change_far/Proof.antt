@@ -1,10 +1,11 @@
--- `machine::pages::change_far` meets its contract: nothing is done where the two pages are one, else what was made of the lent page is the page changed in the whole. Assumes nothing.
+-- `machine::pages::change_far` meets its contract: nothing is done where the two pages are one, else what was made of
+-- the lent page is the page changed in the whole. Assumes nothing.
 use mathlib.Core.Path.{sym, _∙_}
 use denote.Ref.{now}
 use borrow.Author.Tests.{eq-eqb, ne-eqb}
-use Rattle.edits.specs.Pairs.{there-page}
-use Rattle.machine.specs.Cells.{far-changed}
-use Rattle.machine.proofs.CellLaws.{lent-back}
+use Rattle.edits.specs.between.Pairs.{there-page}
+use Rattle.machine.specs.between.PageEdits.{far-changed}
+use Rattle.sheet.proofs.FrameLaws.{lent-back}
 use borrow.Author.Needs.{needs}
 use Rattle.machine.proofs.pages.change_far.Statement.{statement}
 use Rattle.machine.proofs.pages.change_far.Tie as tie
@@ -45,13 +46,5 @@ returns-2 c =
 pub change-far-spec : {M : Type 1} → statement M
 change-far-spec =
     tie.close
-    (tie.spec
-    returns
-    mul-at
-    add-end
-    sub-change-there
-    part-change-there-start
-    part-change-there-end
-    change-there-requires
-    same-length
-    returns-2)
+    (tie.spec returns mul-at add-end sub-change-there part-change-there-start part-change-there-end
+    change-there-requires same-length returns-2)

@@ -1,7 +1,8 @@
--- `machine::pages::change_near` meets its contract: what was made of the lent page is the page changed in the whole. Assumes nothing.
+-- `machine::pages::change_near` meets its contract: what was made of the lent page is the page changed in the whole.
+-- Assumes nothing.
 use denote.Ref.{now}
-use Rattle.edits.specs.Pairs.{here-page}
-use Rattle.machine.proofs.CellLaws.{lent-back}
+use Rattle.edits.specs.between.Pairs.{here-page}
+use Rattle.sheet.proofs.FrameLaws.{lent-back}
 use borrow.Author.Needs.{needs}
 use Rattle.machine.proofs.pages.change_near.Statement.{statement}
 use Rattle.machine.proofs.pages.change_near.Tie as tie
@@ -36,12 +37,5 @@ returns c =
 pub change-near-spec : {M : Type 1} → statement M
 change-near-spec =
     tie.close
-    (tie.spec
-    mul-at
-    add-end
-    sub-change-here
-    part-change-here-start
-    part-change-here-end
-    change-here-requires
-    same-length
-    returns)
+    (tie.spec mul-at add-end sub-change-here part-change-here-start part-change-here-end change-here-requires
+    same-length returns)

@@ -3,15 +3,15 @@ use mathlib.Core.Path.{sym}
 use native.Mathlib.Omega.{arith}
 use denote.Ref.{now}
 use Rattle.timetable.specs.Tables.{visit-of}
-use Rattle.sheet.specs.Changes.{table-in}
-use Rattle.edits.proofs.FoundLaws.{found-some, found-none, there-some, there-none}
-use Rattle.machine.specs.Cells.{visits-on}
+use Rattle.page.specs.between.Changes.{table-in}
+use Rattle.page.proofs.FoundLaws.{found-some, found-none, there-some, there-none}
+use Rattle.machine.specs.between.PageEdits.{visits-on}
 use borrow.Author.Needs.{needs}
 use Rattle.machine.proofs.pages.count_on.Statement.{statement}
 use Rattle.machine.proofs.pages.count_on.Tie as tie
 
-train-requires : tie.Need-train-requires
-train-requires c κs = search needs
+shape-of-requires : tie.Need-shape-of-requires
+shape-of-requires c κs = search needs
 
 visit-of-requires : tie.Need-visit-of-requires
 visit-of-requires c κs = search needs
@@ -26,9 +26,9 @@ returns : tie.Need-returns
 unfolding visits-on
 returns c =
     let s = c .before .before .before .before .before .args in
-    let t = c .before .before .before .train in (
+    let t = c .before .before .before .shape-of in (
       sym
-          (rw (← t .ensures, there-some (t .result) (table-in (now (s .part))) _ (found-some (visit-of (t .result) (table-in (now (s .part)))) _ _ (c .before .before .visit-of .ensures) (c .enum-told .given .1)))),
+          (rw (← t .ensures, there-some (t .result .train) (table-in (now (s .part))) _ (found-some (visit-of (t .result .train) (table-in (now (s .part)))) _ _ (c .before .before .visit-of .ensures) (c .enum-told .given .1)))),
       omega arith,
     )
 
@@ -36,12 +36,12 @@ returns-2 : tie.Need-returns-2
 unfolding visits-on
 returns-2 c =
     let s = c .before .before .before .before .before .args in
-    let t = c .before .before .before .train in (
+    let t = c .before .before .before .shape-of in (
       sym
-          (rw (← t .ensures, there-none (t .result) (table-in (now (s .part))) (found-none (visit-of (t .result) (table-in (now (s .part)))) _ (c .before .before .visit-of .ensures) (c .enum-told2 .given .1)))),
+          (rw (← t .ensures, there-none (t .result .train) (table-in (now (s .part))) (found-none (visit-of (t .result .train) (table-in (now (s .part)))) _ (c .before .before .visit-of .ensures) (c .enum-told2 .given .1)))),
       omega arith,
     )
 
 pub count-on-spec : {M : Type 1} → statement M
 count-on-spec =
-    tie.close (tie.spec train-requires visit-of-requires enum-told enum-told-2 returns returns-2)
+    tie.close (tie.spec shape-of-requires visit-of-requires enum-told enum-told-2 returns returns-2)

@@ -1,4 +1,5 @@
--- `machine::pages::named_good` meets its contract: what is asked of all sheets is asked of those from i on. Assumes nothing.
+-- `machine::pages::named_good` meets its contract: what is asked of all sheets is asked of those from i on. Assumes
+-- nothing.
 use borrow.Author.Needs.{needs}
 use Prim.Native.Nat.{_+_, _-_, _≤_}
 use mathlib.Core.Path.{_≡_, refl, sym, _∙_}
@@ -7,7 +8,7 @@ use denote.Ref.{now}
 use lib.ListN.{drop}
 use Rattle.base.specs.Lists.{every}
 use Rattle.sheet.specs.Sheets.{six, sheet-at}
-use Rattle.machine.specs.Cells.{area-passes, named-pass}
+use Rattle.machine.specs.between.PageEdits.{area-passes, named-pass}
 use Rattle.machine.proofs.RowSteps.{sheets-not, sheets-on, sheets-end}
 use Rattle.machine.proofs.pages.named_good.Statement.{statement}
 use Rattle.machine.proofs.pages.named_good.Tie as tie
@@ -78,19 +79,5 @@ returns-2 c =
 pub named-good-spec : {M : Type 1} → statement M
 named-good-spec =
     tie.close
-    (tie.spec
-    Inv-loop
-    μ-loop
-    loop-holds
-    mul-at
-    add-end
-    sub-area-good
-    part-area-good-start
-    part-area-good-end
-    area-good-requires
-    add-i
-    add-a
-    loop-less
-    loop-again
-    returns
-    returns-2)
+    (tie.spec Inv-loop μ-loop loop-holds mul-at add-end sub-area-good part-area-good-start part-area-good-end
+    area-good-requires add-i add-a loop-less loop-again returns returns-2)

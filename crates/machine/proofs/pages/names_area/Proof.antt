@@ -1,11 +1,12 @@
--- `machine::pages::names_area` meets its contract: the loop goes on as long as no station was named: what is asked of all rows is asked of those from i on. Assumes nothing.
+-- `machine::pages::names_area` meets its contract: the loop goes on as long as no station was named: what is asked of
+-- all rows is asked of those from i on. Assumes nothing.
 use borrow.Author.Needs.{needs}
 use Prim.Native.Nat.{_-_, _≤_}
 use mathlib.Core.Path.{_≡_, refl, sym, _∙_}
 use native.Mathlib.Omega.{arith}
 use lib.ListN.{length, length-map, take, drop}
 use Rattle.base.specs.Lists.{any}
-use Rattle.machine.specs.Cells.{touches-at}
+use Rattle.machine.specs.between.PageEdits.{touches-at}
 use Rattle.machine.proofs.RowSteps.{areas-are, any-yes, any-on, any-over}
 use Rattle.machine.proofs.pages.names_area.Statement.{statement}
 use Rattle.machine.proofs.pages.names_area.Tie as tie
@@ -73,16 +74,5 @@ returns-2 c =
 pub names-area-spec : {M : Type 1} → statement M
 names-area-spec =
     tie.close
-    (tie.spec
-    Inv-loop
-    μ-loop
-    in-use-requires
-    loop-holds
-    mul-row
-    array-copy-out-row
-    is-named-requires
-    returns
-    add-i
-    loop-less
-    loop-again
-    returns-2)
+    (tie.spec Inv-loop μ-loop in-use-requires loop-holds mul-row array-copy-out-row is-named-requires returns add-i
+    loop-less loop-again returns-2)

@@ -2,14 +2,14 @@
 use Prim.Native.Nat.{_+_, _*_, _-_}
 use mathlib.Core.Path.{_≡_}
 use native.Mathlib.Omega.{arith}
-use Rattle.railway.specs.Networks.{area-of}
-use Rattle.machine.specs.Cells.{place-of}
+use Rattle.network.specs.Networks.{area-of}
+use Rattle.machine.specs.between.PageEdits.{place-of}
 use borrow.Author.Needs.{needs}
 use Rattle.machine.proofs.pages.place_of.Statement.{statement}
 use Rattle.machine.proofs.pages.place_of.Tie as tie
 
-area-of-requires : tie.Need-area-of-requires
-area-of-requires c κs = search needs
+group-of-requires : tie.Need-group-of-requires
+group-of-requires c κs = search needs
 
 before-requires : tie.Need-before-requires
 before-requires c κs = search needs
@@ -27,7 +27,7 @@ returns : tie.Need-returns
 unfolding place-of
 returns c =
     let s = c .before .before .before .before .args in
-    let a = c .before .before .area-of .ensures in
+    let a = c .before .before .group-of .ensures in
     let p = c .before .before2 .ensures .0 in
     let q = c .before3 .ensures .0 in
     let e : 16 * c .before .before2 .result + c .before3 .result ≡ 16 * (area-of (s .n) (s .s) - 1) + (s .s .0 - 1) = omega arith in
@@ -43,12 +43,5 @@ returns-2 c = (rw (c .before .if1 .left) (c .before4 .ensures .0), omega arith)
 pub place-of-spec : {M : Type 1} → statement M
 place-of-spec =
     tie.close
-    (tie.spec
-    area-of-requires
-    before-requires
-    mul-result
-    before-requires-2
-    add-result
-    returns
-    before-requires-3
+    (tie.spec group-of-requires before-requires mul-result before-requires-2 add-result returns before-requires-3
     returns-2)

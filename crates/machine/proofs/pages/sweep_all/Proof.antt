@@ -1,4 +1,5 @@
--- `machine::pages::sweep_all` meets its contract: the loop has changed the pages of the first i rows and counted their visits: what is left to do and to count is that of the rows from i on. Assumes nothing.
+-- `machine::pages::sweep_all` meets its contract: the loop has changed the pages of the first i rows and counted their
+-- visits: what is left to do and to count is that of the rows from i on. Assumes nothing.
 use borrow.Author.Needs.{needs}
 use Prim.Native.Nat.{ℕ, _+_, _-_, _≤_}
 use mathlib.Core.Path.{_≡_, refl, sym, _∙_, ap}
@@ -7,8 +8,9 @@ use mathlib.Core.List.{map}
 use lib.Dec.{T}
 use lib.ListN.{length, length-map, getD, take, drop}
 use Rattle.base.specs.Lists.{every}
-use Rattle.edits.specs.Pairs.{here-page}
-use Rattle.machine.specs.Cells.{cell, change-cell, has-room, visits-on, swept, sweep}
+use Rattle.edits.specs.between.Pairs.{here-page}
+use Rattle.machine.specs.between.PageEdits.{has-room, visits-on, swept, sweep}
+use Rattle.sheet.specs.between.Frames.{frame, change-frame}
 use Rattle.machine.proofs.RowSteps.{nowhere, spot, places-are, room-here, room-later, swept-on, sweep-on, swept-over, sweep-over}
 use Rattle.machine.proofs.pages.sweep_all.Statement.{statement}
 use Rattle.machine.proofs.pages.sweep_all.Tie as tie
@@ -79,8 +81,8 @@ loop-again c =
     let w = c .before .before .sweep-one in
     let p = c .before .before .before .place-of in
     let many : length (s .n .stations) ≡ 16 = simp length-map at (c .before .before .before .before .before .before .before .before .before .before .before .good .1 .1 .0 .1 .1 .1 .0 .1 .0 .1) in
-    let is = w .ensures .1 ∙ ap (λ (x : ℕ). change-cell x (here-page (s .e)) (l .b)) (p .ensures .0) in
-    let told = w .ensures .0 ∙ ap (λ (x : ℕ). visits-on (s .e) (cell x (l .b))) (p .ensures .0) in
+    let is = w .ensures .1 ∙ ap (λ (x : ℕ). change-frame x (here-page (s .e)) (l .b)) (p .ensures .0) in
+    let told = w .ensures .0 ∙ ap (λ (x : ℕ). visits-on (s .e) (frame x (l .b))) (p .ensures .0) in
     let on = swept-on (s .n .stations) (u .result) (omega arith) (l .i) (spot (s .divided) (s .n)) (s .e) (l .b) (omega arith) in (
       omega arith,
       omega arith,
@@ -88,7 +90,7 @@ loop-again c =
       rw (w .kept .0)
           (room-later (s .n .stations) (u .result) (omega arith) (l .i) (spot (s .divided) (s .n)) (length (l .b)) (omega arith) (l .inv .3)),
       rw is
-          (l .inv .4 ∙ ap (λ (x : ℕ). l .removed + x) on ∙ ap (λ (x : ℕ). l .removed + (x + swept (s .e) (map (spot (s .divided) (s .n)) (drop (l .i + 1) (take (u .result) (s .n .stations)))) (change-cell (spot (s .divided) (s .n) (getD (s .n .stations) (l .i) nowhere)) (here-page (s .e)) (l .b)))) (sym told) ∙ omega arith),
+          (l .inv .4 ∙ ap (λ (x : ℕ). l .removed + x) on ∙ ap (λ (x : ℕ). l .removed + (x + swept (s .e) (map (spot (s .divided) (s .n)) (drop (l .i + 1) (take (u .result) (s .n .stations)))) (change-frame (spot (s .divided) (s .n) (getD (s .n .stations) (l .i) nowhere)) (here-page (s .e)) (l .b)))) (sym told) ∙ omega arith),
       rw is (l .inv .5 ∙ sweep-on (s .n .stations) (u .result) (omega arith) (l .i) (spot (s .divided) (s .n)) (s .e) (l .b) (omega arith)),
     )
 
@@ -111,18 +113,5 @@ returns c =
 pub sweep-all-spec : {M : Type 1} → statement M
 sweep-all-spec =
     tie.close
-    (tie.spec
-    Inv-loop
-    μ-loop
-    in-use-requires
-    loop-holds
-    mul-row
-    array-copy-out-row
-    place-of-requires
-    sweep-one-requires
-    add-removed
-    add-i
-    loop-less
-    loop-again
-    same-length
-    returns)
+    (tie.spec Inv-loop μ-loop in-use-requires loop-holds mul-row array-copy-out-row place-of-requires
+    sweep-one-requires add-removed add-i loop-less loop-again same-length returns)

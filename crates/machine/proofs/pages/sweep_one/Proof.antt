@@ -1,8 +1,8 @@
 -- `machine::pages::sweep_one` meets its contract: the lent page is counted and then changed. Assumes nothing.
 use mathlib.Core.Path.{_∙_, ap}
 use denote.Ref.{now}
-use Rattle.machine.specs.Cells.{visits-on}
-use Rattle.machine.proofs.CellLaws.{lent-cell}
+use Rattle.machine.specs.between.PageEdits.{visits-on}
+use Rattle.sheet.proofs.FrameLaws.{lent-frame}
 use borrow.Author.Needs.{needs}
 use Rattle.machine.proofs.pages.sweep_one.Statement.{statement}
 use Rattle.machine.proofs.pages.sweep_one.Tie as tie
@@ -35,18 +35,10 @@ returns : tie.Need-returns
 returns c =
     let s = c .before .before .before .before .before .before .before .before in
     let k = c .before .before .before .before .count-on in
-    (k .ensures .0 ∙ ap (visits-on (s .args .e)) (lent-cell (s .args .i) (now (s .args .b))), c .before .before .change-near .ensures, k .ensures .1)
+    (k .ensures .0 ∙ ap (visits-on (s .args .e)) (lent-frame (s .args .i) (now (s .args .b))), c .before .before .change-near .ensures, k .ensures .1)
 
 pub sweep-one-spec : {M : Type 1} → statement M
 sweep-one-spec =
     tie.close
-    (tie.spec
-    mul-at
-    add-end
-    sub-count-on
-    part-count-on-start
-    part-count-on-end
-    count-on-requires
-    change-near-requires
-    same-length
-    returns)
+    (tie.spec mul-at add-end sub-count-on part-count-on-start part-count-on-end count-on-requires change-near-requires
+    same-length returns)

@@ -1,4 +1,0 @@
-pub mod ListLaws
-pub mod TakenLaws
-pub mod RefusalLaws
-pub mod RunLaws

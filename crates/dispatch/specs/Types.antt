@@ -1,9 +1,0 @@
--- The types of the crates below and of this crate, under one module for this crate's own files.
-pub use Rattle.railway.specs.declared.edit.Edit.{Edit}
-pub use Rattle.railway.specs.declared.network.Network.{Network}
-pub use Rattle.timetable.specs.declared.Answer.{Answer}
-pub use Rattle.timetable.specs.declared.Output.{Output}
-pub use Rattle.dispatch.specs.declared.Run.{Run}
-pub use Rattle.files.specs.declared.edit.Cursor.{Cursor}
-pub use Rattle.files.specs.declared.edit.NextEdit.{NextEdit}
-pub use Rattle.files.specs.declared.edits.EditsRead.{EditsRead}
