@@ -1,14 +1,12 @@
--- What the tests of a raise leave: small fields, and at most one visit added, so that no sum is too large; and how a raise ends, case by case. Assumes nothing.
+-- What the tests of a raise leave: small fields, so that no sum is too large; and how a raise ends, case by case.
+-- Assumes nothing.
 use Prim.Native.Nat.{ℕ, _+_, _≤_}
 use mathlib.Core.Path.{_≡_, refl}
 use mathlib.Core.Bool.{Bool, true, false, _||_}
-use native.Mathlib.Omega.{arith}
 use borrow.Author.Tests.{ltb-false, eq-eqb, ne-eqb}
 use Rattle.railway.specs.declared.edit.Edit.{Edit}
 use Rattle.timetable.specs.declared.Answer.{Answer}
 use Rattle.timetable.specs.declared.Tally.{Tally}
-use Rattle.railway.specs.declared.edit.Edit.the-variants.{Place, Prepend, Append, DeleteFirst, DeleteLast, Amend}
-use Rattle.railway.specs.declared.edit.Edit.the-variants.{ReportArrival, ReportDeparture, AddRelation, RemoveRelation, DeleteTrain}
 use Rattle.timetable.specs.Machine.{meaning, added-by}
 use Rattle.timetable.specs.Count.{overfull, unlikely, raise-refusal, raised, raise}
 
@@ -31,21 +29,6 @@ small y e =
     let (a, r) = or-none _ _ ar in
     let (d, m) = or-none _ _ dm in
     record { accepted = ltb-false _ _ a; refused = ltb-false _ _ r; added = ltb-false _ _ d; removed = ltb-false _ _ m }
-
--- an edit adds at most one visit
-pub adds-few : (e : Edit) → added-by (meaning e) ≤ 1
-unfolding added-by meaning
-adds-few (Place p) = omega arith
-adds-few (Prepend x) = omega arith
-adds-few (Append x) = omega arith
-adds-few (DeleteFirst d) = omega arith
-adds-few (DeleteLast d) = omega arith
-adds-few (Amend p) = omega arith
-adds-few (ReportArrival r) = omega arith
-adds-few (ReportDeparture r) = omega arith
-adds-few (AddRelation r) = omega arith
-adds-few (RemoveRelation r) = omega arith
-adds-few (DeleteTrain c) = omega arith
 
 -- how a raise ends
 module _ (y : Tally) (e : Edit) (a : Answer) where

@@ -1,8 +1,9 @@
-// The tally of a shift. Document 01, "Projection and tally": "The shift has one small tally record which each edit raises: accepted, refused, added, removed,
-// the last two counting visits. Raising it is a call of its own on the edit and its answer".
+// The tally of a shift. Document 01, "Projection and tally": "The shift has one small tally record which each edit
+// raises: accepted, refused, added, removed, the last two counting visits. Raising it is a call of its own on the edit
+// and its answer".
 ghost use mathlib.Core.Path.{_≡_};
-ghost use Rattle.timetable.specs.Machine.{meaning, added-by};
 ghost use Rattle.timetable.specs.Count.{overfull, unlikely, raise-refusal, raise};
+use actions::shape;
 use railway::edit::Edit;
 use timetable::Answer;
 use timetable::Tally;
@@ -14,25 +15,6 @@ const MOST: u32 = 1000000;
 pub struct Raise {
     pub refusal: u8,
     pub tally: Tally,
-}
-
-// How many visits an edit adds: edits 1, 2 and 3 add one.
-pub fn adds(e: Edit) -> u32
-    ensures { λ r. ⌜ r ≡ added-by (meaning e) ⌝ }
-{
-    match e {
-        Edit::Place(_) => 1,
-        Edit::Prepend(_) => 1,
-        Edit::Append(_) => 1,
-        Edit::DeleteFirst(_) => 0,
-        Edit::DeleteLast(_) => 0,
-        Edit::Amend(_) => 0,
-        Edit::ReportArrival(_) => 0,
-        Edit::ReportDeparture(_) => 0,
-        Edit::AddRelation(_) => 0,
-        Edit::RemoveRelation(_) => 0,
-        Edit::DeleteTrain(_) => 0,
-    }
 }
 
 // A field is above the most.
@@ -84,7 +66,7 @@ pub fn raised(y: Tally, e: Edit, a: Answer) -> Raise
         let next = Tally {
             accepted: y.accepted + 1,
             refused: y.refused,
-            added: y.added + adds(e),
+            added: y.added + shape::shape_of(e).adds as u32,
             removed: y.removed + a.removed as u32,
         };
         return Raise {
@@ -108,22 +90,4 @@ pub fn raised(y: Tally, e: Edit, a: Answer) -> Raise
         refusal: 0,
         tally: next,
     }
-}
-
-// The lent tally is raised; the answer is the refusal number or 0.
-pub fn raise_tally(y: &mut Tally, e: Edit, a: Answer) -> u8
-    ensures { λ r. ⌜ (r ≡ raise-refusal (now (y .entry)) a) × (now (y .exit) ≡ raise (now (y .entry)) e a) ⌝ }
-{
-    let end = raised(*y, e, a);
-    *y = end.tally;
-    end.refusal
-}
-
-// The same for a caller that has the tally by value: it is lent for the raise and handed back, so that the caller lends nothing itself.
-pub fn raise_own(y: Tally, e: Edit, a: Answer) -> Raise
-    ensures { λ r. ⌜ (r .refusal ≡ raise-refusal y a) × (r .tally ≡ raise y e a) ⌝ }
-{
-    let mut tally = y;
-    let refusal = raise_tally(&mut tally, e, a);
-    Raise { refusal, tally }
 }

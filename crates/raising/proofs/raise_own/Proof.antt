@@ -1,5 +1,6 @@
--- `tally::raise_own` meets its contract: a walk of its MIR, by hand. The tally is copied into a local, which is lent to `raise_tally` for a lifetime that is made for the call; it comes back at the last value that `raise_tally` says, and is handed back beside the answer.
--- All that the proof knows of `raise_tally` is that it meets its contract.
+-- `raising::raise_own` meets its contract: a walk of its MIR, by hand. The tally is copied into a local, which is lent
+-- to `raise_tally` for a lifetime that is made for the call; it comes back at the last value that `raise_tally` says,
+-- and is handed back beside the answer. All that the proof knows of `raise_tally` is that it meets its contract.
 -- Assumes nothing.
 use mathlib.Core.Path.{_≡_, refl, ap}
 use Prim.Native.Nat.{ℕ, _<_, _^_}
@@ -51,17 +52,17 @@ use Rattle.timetable.specs.declared.Tally.{Tally}
 use Rattle.timetable.proofs.Tally as T
 use Rattle.timetable.proofs.Tally.Laws as T′
 use Rattle.timetable.specs.Count.{raise-refusal, raise}
 use Rattle.tally.specs.declared.Raise.{Raise}
 use Rattle.tally.proofs.Raise as R
 use Rattle.tally.proofs.Raise.Laws as R′
-use Rattle.tally.proofs.raise_tally as raise-tally
-use Rattle.tally.proofs.raise_tally.Symbol as raise-tally-def
-use Rattle.tally.proofs.raise_tally.Symbol.{name as #tally·raise-tally}
-use Rattle.tally.proofs.raise_tally.Met as raise-tally-thm
-use Rattle.tally.proofs.raise_own.Key.{name as #tally·raise-own}
-use Rattle.tally.proofs.raise_own as raise-own
-use Rattle.tally.proofs.raise_own.Statement as stated
-use Rattle.tally.proofs.raise_own.Code as code
+use Rattle.raising.proofs.raise_tally as raise-tally
+use Rattle.raising.proofs.raise_tally.Symbol as raise-tally-def
+use Rattle.raising.proofs.raise_tally.Symbol.{name as #raising·raise-tally}
+use Rattle.raising.proofs.raise_tally.Met as raise-tally-thm
+use Rattle.raising.proofs.raise_own.Key.{name as #raising·raise-own}
+use Rattle.raising.proofs.raise_own as raise-own
+use Rattle.raising.proofs.raise_own.Statement as stated
+use Rattle.raising.proofs.raise_own.Code as code
 
 abbrev stayed : Stays (raise-own.ended .signature .params) (raise-own.ended .kept)
 stayed = (stay-none (λ _. T.the-row) yes, (stay-none (λ _. E.the-row) yes, (stay-none (λ _. N.the-row) yes, tt)))
@@ -82,7 +83,7 @@ made : (n : ℕ) (t : Tally) → n < 2 ^ 8 → Is T.the-row t (mach t ∷ []) �
 made n t fits is = LL.owes R.the-type R′.the-laws (record { refusal = n; tally = t }) ((refl, fits), (is, tt))
 
 module _ {M : Type 1} (𝓤 : URA M) (H : Heap 𝓤) (A : Atoms 𝓤) (W : Given 𝓤 H A) (l : ℕ) (t : Tally) where
-  -- a tally's cell, as what can be lent, and back
+  -- a tally's frame, as what can be lent, and back
   to-lend : Is T.the-row t (mach t ∷ []) → ent 𝓤 (sem 𝓤 H A (fat fullShare T′.mir l 0 (mach t))) (sem 𝓤 H A (partAt T.the-row fullShare t l 0))
   unfolding partOf
   to-lend is =
@@ -128,7 +129,7 @@ module _ {M : Type 1} (𝓤 : URA M) (H : Heap 𝓤) (A : Atoms 𝓤) (W : Given
       qed W (‵ (flft (ν ∷ []) fullShare) ∷ ‵ (MutRef (named 0) (ν ∷ []) T.the-row .own (lent l δ .0) (vptr l 0 ∷ [])) ∷ []) ∵ nothing ! $ owned ! N.the-row (Is N.the-row) (LL.makes N.the-type N′.the-plain 𝓤 H A) a _ a-is $ fjoin ! $
       owned ! E.the-row (Is E.the-row) (EL.makes E.the-type E′.the-plain 𝓤 H A) e _ e-is $ fjoin ! $ move ! (2 ∷ 0 ∷ []) $ fjoin ! $ nothing ! $ move ! (2 ∷ 0 ∷ []) $ join ! $ join ! $ frame ! $ done !
 
-  module _ (C : Calls 𝓤 H) (Λ : Loops 𝓤 H) (fm : FmC 𝓤 H (W .laws) C) (known : Triple 𝓤 (C #tally·raise-tally) (Lent 𝓤 H A at-mem run)) where
+  module _ (C : Calls 𝓤 H) (Λ : Loops 𝓤 H) (fm : FmC 𝓤 H (W .laws) C) (known : Triple 𝓤 (C #raising·raise-tally) (Lent 𝓤 H A at-mem run)) where
     walk : ent 𝓤 (onEntry 𝓤 H A raise-own.signature tt tt x at) (WpFn 𝓤 H C Λ code.function (mach h ∷ ve ∷ va ∷ []) Post)
     walk =
         qed W (‵ ftrue ∷ ‵ (owns (T.the-row ∷ E.the-row ∷ N.the-row ∷ []) x at) ∷ []) ∵ enter ! C Λ code.function (mach h ∷ ve ∷ va ∷ []) _ $
@@ -158,7 +159,7 @@ module _ {M : Type 1} (𝓤 : URA M) (H : Heap 𝓤) (A : Atoms 𝓤) (W : Given
         keep ! (0 ∷ []) $ by ! (exits (record { refusal = n; tally = ts .0 }) (made n (ts .0) (fits .1) is) s)))))))))))))))))
 
 module _ {M : Type 1} (𝓤 : URA M) (H : Heap 𝓤) (A : Atoms 𝓤) (W : Given 𝓤 H A) (at-mem : Memory → SProp 𝓤) (run : Routine → Fun 𝓤) where
-  raise-own-walks : (C : Calls 𝓤 H) (Λ : Loops 𝓤 H) → FmC 𝓤 H (W .laws) C → Triple 𝓤 (C #tally·raise-tally) (Lent 𝓤 H A at-mem run) → Walks 𝓤 H A raise-own.ended stayed (WpFn 𝓤 H C Λ code.function) (raise-own.clauses 𝓤 H A at-mem run)
+  raise-own-walks : (C : Calls 𝓤 H) (Λ : Loops 𝓤 H) → FmC 𝓤 H (W .laws) C → Triple 𝓤 (C #raising·raise-tally) (Lent 𝓤 H A at-mem run) → Walks 𝓤 H A raise-own.ended stayed (WpFn 𝓤 H C Λ code.function) (raise-own.clauses 𝓤 H A at-mem run)
   raise-own-walks C Λ fm known = walked 𝓤 H A raise-own.ended stayed (raise-own.clauses 𝓤 H A at-mem run) (WpFn 𝓤 H C Λ code.function)
       (λ κs. (LL.vals T.the-type T′.the-laws, (EL.vals E.the-type E′.the-laws, (LL.vals N.the-type N′.the-laws, tt)))) (λ κs. (LL.tells T.the-type T′.the-laws, (EL.tells E.the-type E′.the-laws, (LL.tells N.the-type N′.the-laws, tt))))
       (λ κs qs bounds x _ are. via 𝓤 _ (fst∗ 𝓤 _ (emp 𝓤)) (walk 𝓤 H A W at-mem run (x .0) (x .1 .0) (x .1 .1 .0) _ _ (are .0) (are .1 .0) (are .1 .1 .0) C Λ fm known))
@@ -166,7 +167,7 @@ module _ {M : Type 1} (𝓤 : URA M) (H : Heap 𝓤) (A : Atoms 𝓤) (W : Given
   all-go : AllGo 𝓤 H A W 0 (raise-own.signature .params) (raise-own.ended .kept) stayed
   all-go = (goes-none 𝓤 H A W 0 (λ _. T.the-row) yes (λ κs x f. refl), (goes-none 𝓤 H A W 0 (λ _. E.the-row) yes (λ κs x f. refl), (goes-none 𝓤 H A W 0 (λ _. N.the-row) yes (λ κs x f. refl), tt)))
 
-raise-own-meets : {M : Type 1} (𝓤 : URA M) (H : Heap 𝓤) (A : Atoms 𝓤) → Given 𝓤 H A → (at-mem : Memory → SProp 𝓤) (run : Routine → Fun 𝓤) (𝓣 : Tables 𝓤 H) → Triple 𝓤 (𝓣 .C #tally·raise-tally) (Lent 𝓤 H A at-mem run)
+raise-own-meets : {M : Type 1} (𝓤 : URA M) (H : Heap 𝓤) (A : Atoms 𝓤) → Given 𝓤 H A → (at-mem : Memory → SProp 𝓤) (run : Routine → Fun 𝓤) (𝓣 : Tables 𝓤 H) → Triple 𝓤 (𝓣 .C #raising·raise-tally) (Lent 𝓤 H A at-mem run)
     → Meets 𝓤 H A raise-own.signature (WpFn 𝓤 H (𝓣 .C) (𝓣 .Λ) code.function) (raise-own.spec 𝓤 H A at-mem run)
 raise-own-meets 𝓤 H A W at-mem run 𝓣 known =
     walk-meets 𝓤 H A raise-own.ended stayed W (all-go 𝓤 H A W at-mem run) (raise-own.clauses 𝓤 H A at-mem run) (WpFn 𝓤 H (𝓣 .C) (𝓣 .Λ) code.function) (WpFn-mono 𝓤 H (W .laws) 𝓣 code.function)
@@ -176,6 +177,6 @@ pub raise-own-spec : {M : Type 1} → stated.statement M
 unfolding code.routine tablesOf
 raise-own-spec 𝓤 H 𝓜 𝓖 𝓡 =
     entered 𝓤 H (tripleOf 𝓤 H (𝓖 .A) raise-own.signature (raise-own.spec 𝓤 H (𝓖 .A) (𝓜 .mem) (𝓡 .run)))
-    (tables 𝓤 H 𝓜 𝓡 code.env .C) (tables 𝓤 H 𝓜 𝓡 code.env .Λ) #tally·raise-own code.function (code.unfolded 𝓤 H 𝓜 𝓡)
+    (tables 𝓤 H 𝓜 𝓡 code.env .C) (tables 𝓤 H 𝓜 𝓡 code.env .Λ) #raising·raise-own code.function (code.unfolded 𝓤 H 𝓜 𝓡)
     (raise-own-meets 𝓤 H (𝓖 .A) (givenOf 𝓤 H 𝓜 𝓖) (𝓜 .mem) (𝓡 .run) (tablesOf 𝓤 H 𝓜 (tables 𝓤 H 𝓜 𝓡 code.env))
-    (cited 𝓤 H (Lent 𝓤 H (𝓖 .A) (𝓜 .mem) (𝓡 .run)) 𝓜 𝓡 code.env #tally·raise-tally raise-tally-def.routine code.calls-tally·raise-tally (raise-tally-thm.met 𝓤 H 𝓜 𝓖 𝓡)))
+    (cited 𝓤 H (Lent 𝓤 H (𝓖 .A) (𝓜 .mem) (𝓡 .run)) 𝓜 𝓡 code.env #raising·raise-tally raise-tally-def.routine code.calls-raising·raise-tally (raise-tally-thm.met 𝓤 H 𝓜 𝓖 𝓡)))

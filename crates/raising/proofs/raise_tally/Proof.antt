@@ -1,6 +1,8 @@
--- `tally::raise_tally` meets its contract: a walk of its MIR, by hand. The borrow is opened and the tally behind it copied out; `raised` is called with the copy; the tally that it returned is stored over the old one; and the borrow is closed at it.
--- All that the proof knows of `raised` is that it meets its contract. The edit and the answer are passed on as they came: of their machine values only the relations to the edit and the answer are used.
--- Assumes nothing.
+-- `raising::raise_tally` meets its contract: a walk of its MIR, by hand. The borrow is opened and the tally behind it
+-- copied out; `raised` is called with the copy; the tally that it returned is stored over the old one; and the borrow
+-- is closed at it. All that the proof knows of `raised` is that it meets its contract. The edit and the answer are
+-- passed on as they came: of their machine values only the relations to the edit and the answer are used. Assumes
+-- nothing.
 use mathlib.Core.Path.{_≡_, refl, ap}
 use Prim.Native.Nat.{ℕ, _<_, _^_}
 use mathlib.Core.List.{[], _∷_, List}
@@ -50,17 +52,17 @@ use Rattle.timetable.specs.declared.Tally.{Tally}
 use Rattle.timetable.proofs.Tally as T
 use Rattle.timetable.proofs.Tally.Laws as T′
 use Rattle.timetable.specs.Count.{raise-refusal, raise}
 use Rattle.tally.specs.declared.Raise.{Raise}
 use Rattle.tally.proofs.Raise as R
 use Rattle.tally.proofs.Raise.Laws as R′
 use Rattle.tally.proofs.raised as raised
 use Rattle.tally.proofs.raised.Symbol as raised-def
 use Rattle.tally.proofs.raised.Symbol.{name as #tally·raised}
 use Rattle.tally.proofs.raised.Met as raised-thm
-use Rattle.tally.proofs.raise_tally.Key.{name as #tally·raise-tally}
-use Rattle.tally.proofs.raise_tally as raise-tally
-use Rattle.tally.proofs.raise_tally.Statement as stated
-use Rattle.tally.proofs.raise_tally.Code as code
+use Rattle.raising.proofs.raise_tally.Key.{name as #raising·raise-tally}
+use Rattle.raising.proofs.raise_tally as raise-tally
+use Rattle.raising.proofs.raise_tally.Statement as stated
+use Rattle.raising.proofs.raise_tally.Code as code
 
 abbrev stayed : Stays (raise-tally.ended .signature .params) (raise-tally.ended .kept)
 stayed = (stay-ref (0 ∷ []) tt (plain (λ _. T.the-row)), (stay-none (λ _. E.the-row) yes, (stay-none (λ _. N.the-row) yes, tt)))
@@ -127,7 +129,8 @@ module _ {M : Type 1} (𝓤 : URA M) (H : Heap 𝓤) (A : Atoms 𝓤) (W : Given
         move ! (13 ∷ []) $ fsplit ! $ fsplit3 ! $ drop ! $ move ! (15 ∷ []) $ split ! $ move ! (2 ∷ 3 ∷ 0 ∷ []) $
         opens ! tt T.the-row {h = h} b o (λ vs. spelt ! T.the-row (Is T.the-row) (shows 𝓤 H A T.the-row) (LL.vals T.the-type T′.the-laws) (LL.tells T.the-type T′.the-laws) fullShare h vs b o $
         move ! (1 ∷ []) $ peeks ! T.the-row (Is T.the-row) (shows 𝓤 H A T.the-row) h (mach h ∷ []) (λ was. move ! (1 ∷ 0 ∷ []) $
-        -- [the tally's cell; what a Tally owns; the open borrow; obs; auth; true; what e and a own; _5; …; _4; …; _3; …; _2; …; _1; …; room for _0; …]
+        -- [the tally's frame; what a Tally owns; the open borrow; obs; auth; true; what e and a own; _5; …; _4; …; _3;
+        -- …; _2; …; _1; …; room for _0; …]
         assigns ! (of-opd ! (load ! (from ! (hop ! (look ! 15 refl) (stop !))) (look-raw ! 0 refl))) (from ! (stop !)) (init ! 7 refl (LL.lawful T.the-type T′.the-laws 𝓤 H A W .typed h _ was .0)) $
         nothing ! $ use1 W (raw (Raised 𝓤 H A at-mem run .pre to-raised)) (goes-raised was) $
         calls-at ! fm (Raised 𝓤 H A at-mem run) known to-raised (and-then ! (load ! (from ! (stop !)) (look ! 8 refl)) (and-then ! (load ! (from ! (stop !)) (look ! 14 refl)) (and-then ! (load ! (from ! (stop !)) (look ! 12 refl)) (no-more !)))) (λ v.
@@ -135,7 +138,8 @@ module _ {M : Type 1} (𝓤 : URA M) (H : Heap 𝓤) (A : Atoms 𝓤) (W : Given
         split ! $ move ! (1 ∷ []) $ use1 W (raw (fact 𝓤 (Said h e a r))) (said-of 𝓤 H A at-mem run h e a r) $ heard ! (Said h e a r) (λ s. split ! $ drop ! $
         peeks ! R.the-row (Is R.the-row) (shows 𝓤 H A R.the-row) r (v ∷ []) (λ is.
         land ! (from ! (stop !)) (init ! 10 refl (LL.lawful R.the-type R′.the-laws 𝓤 H A W .typed r _ is .0)) $ rewrite ! 10 (λ (u : Val). ‵ (fat fullShare R′.mir l₄ 0 u)) (ap only (LL.tells R.the-type R′.the-laws r (v ∷ []) is)) refl $ drop ! $
-        -- the tally that `raised` returned is stored, and its refusal is the result; the fields' types and places are written out, since finding them takes antt past its limit
+        -- the tally that `raised` returned is stored, and its refusal is the result; the fields' types and places are
+        -- written out, since finding them takes antt past its limit
         assigns ! (of-opd ! (load ! (from ! (fld ! {τ = T′.mir} {d = 4} refl (stop !))) (look-in ! 9 (sub ! 1 {τ = T′.mir} {d = 4} refl (whole !))))) (from ! (hop ! (look ! 15 refl) (stop !))) (store-raw ! 0 refl (LL.lawful T.the-type T′.the-laws 𝓤 H A W .typed (r .tally) _ (tally-is r _ is) .0)) $
         assigns ! (of-opd ! (load ! (from ! (fld ! {τ = tyInt w8} {d = 0} refl (stop !))) (look-in ! 9 (sub ! 0 {τ = tyInt w8} {d = 0} refl (whole !))))) (from ! (stop !)) (init ! 17 refl (tt, record { fits = refusal-fits r _ is })) $
         -- the borrow is closed at that tally
@@ -163,6 +167,6 @@ pub raise-tally-spec : {M : Type 1} → stated.statement M
 unfolding code.routine tablesOf
 raise-tally-spec 𝓤 H 𝓜 𝓖 𝓡 =
     entered 𝓤 H (tripleOf 𝓤 H (𝓖 .A) raise-tally.signature (raise-tally.spec 𝓤 H (𝓖 .A) (𝓜 .mem) (𝓡 .run)))
-    (tables 𝓤 H 𝓜 𝓡 code.env .C) (tables 𝓤 H 𝓜 𝓡 code.env .Λ) #tally·raise-tally code.function (code.unfolded 𝓤 H 𝓜 𝓡)
+    (tables 𝓤 H 𝓜 𝓡 code.env .C) (tables 𝓤 H 𝓜 𝓡 code.env .Λ) #raising·raise-tally code.function (code.unfolded 𝓤 H 𝓜 𝓡)
     (raise-tally-meets 𝓤 H (𝓖 .A) (givenOf 𝓤 H 𝓜 𝓖) (𝓜 .mem) (𝓡 .run) (tablesOf 𝓤 H 𝓜 (tables 𝓤 H 𝓜 𝓡 code.env))
     (cited 𝓤 H (Raised 𝓤 H (𝓖 .A) (𝓜 .mem) (𝓡 .run)) 𝓜 𝓡 code.env #tally·raised raised-def.routine code.calls-tally·raised (raised-thm.met 𝓤 H 𝓜 𝓖 𝓡)))
