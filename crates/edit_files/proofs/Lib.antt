@@ -1,0 +1,4 @@
+pub mod EditLaws
+pub mod ListLaws
+pub mod WritingLaws
+pub mod RoundTrip

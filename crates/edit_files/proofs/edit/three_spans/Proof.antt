@@ -1,0 +1,12 @@
+-- `edit_files::edit::three_spans` meets its contract by computation. Assumes nothing.
+use mathlib.Core.Path.{refl}
+use Rattle.fields.specs.between.Answers.{ranges-of}
+use Rattle.edit_files.proofs.edit.three_spans.Statement.{statement}
+use Rattle.edit_files.proofs.edit.three_spans.Tie as tie
+
+returns : tie.Need-returns
+unfolding ranges-of
+returns c = refl
+
+pub three-spans-spec : {M : Type 1} → statement M
+three-spans-spec = tie.close (tie.spec returns)

@@ -1,0 +1,274 @@
+// One edit of a file: "kind and fields".
+ghost use mathlib.Core.Path.{_≡_};
+ghost use mathlib.Core.List.{[], _∷_, map};
+ghost use Prim.Native.Nat.{ℕ, _<_, _≤_};
+ghost use lib.ListN.{getD};
+ghost use Rattle.timetable.specs.Formats.{done, _and-then_, _to_, read, row};
+ghost use Rattle.timetable.specs.EditsFile.{station-relation-entry, plan-ranges, extension-ranges};
+ghost use Rattle.railway.specs.declared.edit.Edit.the-variants.{AddRelation, RemoveRelation};
+ghost use Rattle.timetable.specs.EditsFile.{plan-of, extension-of, deletion-of, report-of, edit-ranges, edit-of, edit-fields, edit-entry};
+ghost use Rattle.fields.specs.between.Answers.{ranges-of};
+ghost use Rattle.edit_files.specs.Answers.{edit-read, next-read};
+use fields::bar::no_bar;
+use fields::field::FieldRead;
+use fields::field::Span;
+use fields::field::Spans;
+use fields::field::field;
+use fields::field::narrow;
+use fields::field::row;
+use railway::edit::Cancellation;
+use railway::edit::Deletion;
+use railway::edit::Edit;
+use railway::edit::Extension;
+use railway::edit::Plan;
+use railway::edit::Report;
+use railway::minute::Minute;
+use railway::sorts::Line;
+use railway::sorts::Station;
+use railway::sorts::Track;
+use railway::sorts::Train;
+use relation_files::reading::RelationRead;
+use relation_files::reading::relation_entry;
+
+pub enum EditRead {
+    Entry(Edit, usize),
+    Refused(u8, usize),
+}
+
+// A place in a file of edits.
+pub struct Cursor {
+    pub at: usize,
+}
+
+// The edit at a place and the place behind it, or a refusal's number and place.
+pub enum NextEdit {
+    Entry(Edit, Cursor),
+    Refused(u8, usize),
+}
+
+fn plan_from(v: [u16; 12]) -> Plan
+    ensures { λ r. ⌜ (getD v 0 0 < 256 → getD v 2 0 < 256 → r ≡ plan-of v) ⌝ }
+{
+    Plan {
+        station: Station(narrow(v[0])),
+        train: Train(v[1]),
+        track: Track(narrow(v[2])),
+        arrival: Minute(v[3]),
+        departure: Minute(v[4]),
+    }
+}
+
+fn extension_from(v: [u16; 12]) -> Extension
+    ensures { λ r. ⌜ (getD v 0 0 < 256 → getD v 2 0 < 256 → getD v 5 0 < 256 → getD v 6 0 < 256 → getD v 7 0 < 256 → r ≡ extension-of v) ⌝ }
+{
+    Extension {
+        plan: plan_from(v),
+        other: Station(narrow(v[5])),
+        line: Line(narrow(v[6])),
+        run: narrow(v[7]),
+    }
+}
+
+fn deletion_from(v: [u16; 12]) -> Deletion
+    ensures { λ r. ⌜ (getD v 0 0 < 256 → getD v 2 0 < 256 → r ≡ deletion-of v) ⌝ }
+{
+    Deletion {
+        station: Station(narrow(v[0])),
+        train: Train(v[1]),
+        other: Station(narrow(v[2])),
+    }
+}
+
+fn report_from(v: [u16; 12]) -> Report
+    ensures { λ r. ⌜ (getD v 0 0 < 256 → r ≡ report-of v) ⌝ }
+{
+    Report {
+        station: Station(narrow(v[0])),
+        train: Train(v[1]),
+        time: Minute(v[2]),
+    }
+}
+
+// The ranges of the fields.
+fn plan_spans() -> Spans
+    ensures { λ r. ⌜ ranges-of r ≡ plan-ranges ⌝ }
+{
+    let none = Span { lo: 0, hi: 0 };
+    let station = Span { lo: 1, hi: 16 };
+    let train = Span { lo: 1, hi: 9999 };
+    let track = Span { lo: 1, hi: 8 };
+    let time = Span { lo: 0, hi: 2879 };
+    Spans {
+        count: 5,
+        spans: [station, train, track, time, time, none, none, none],
+    }
+}
+
+fn extension_spans() -> Spans
+    ensures { λ r. ⌜ ranges-of r ≡ extension-ranges ⌝ }
+{
+    let station = Span { lo: 1, hi: 16 };
+    let train = Span { lo: 1, hi: 9999 };
+    let track = Span { lo: 1, hi: 8 };
+    let time = Span { lo: 0, hi: 2879 };
+    let line = Span { lo: 1, hi: 32 };
+    let run = Span { lo: 1, hi: 240 };
+    Spans {
+        count: 8,
+        spans: [station, train, track, time, time, station, line, run],
+    }
+}
+
+// Three fields: station, train, and one more up to `last`.
+fn three_spans(first: u32, last: u16) -> Spans
+    ensures { λ r. ⌜ ranges-of r ≡ 1 to 16 ∷ 1 to 9999 ∷ first to last ∷ [] ⌝ }
+{
+    let none = Span { lo: 0, hi: 0 };
+    let station = Span { lo: 1, hi: 16 };
+    let train = Span { lo: 1, hi: 9999 };
+    let third = Span {
+        lo: first,
+        hi: last,
+    };
+    Spans {
+        count: 3,
+        spans: [station, train, third, none, none, none, none, none],
+    }
+}
+
+fn train_spans() -> Spans
+    ensures { λ r. ⌜ ranges-of r ≡ 1 to 9999 ∷ [] ⌝ }
+{
+    let none = Span { lo: 0, hi: 0 };
+    let train = Span { lo: 1, hi: 9999 };
+    Spans {
+        count: 1,
+        spans: [train, none, none, none, none, none, none, none],
+    }
+}
+
+// The ranges of an edit's fields by its kind; 9 and 10 hold a relation instead.
+fn edit_spans(kind: u16) -> Spans
+    ensures { λ r. ⌜ ranges-of r ≡ edit-ranges kind ⌝ }
+{
+    if kind == 1 {
+        return plan_spans();
+    }
+    if kind == 2 {
+        return extension_spans();
+    }
+    if kind == 3 {
+        return extension_spans();
+    }
+    if kind == 4 {
+        return three_spans(1, 16);
+    }
+    if kind == 5 {
+        return three_spans(1, 16);
+    }
+    if kind == 6 {
+        return plan_spans();
+    }
+    if kind == 7 {
+        return three_spans(0, 2879);
+    }
+    if kind == 8 {
+        return three_spans(0, 2879);
+    }
+    train_spans()
+}
+
+// The edit of such fields.
+fn edit_from(kind: u16, v: [u16; 12]) -> Edit
+    ensures { λ r. ⌜ (((i : ℕ) → getD v i 0 ≤ getD (map (λ x. x .hi) (edit-ranges kind)) i 0) → r ≡ edit-of kind v) ⌝ }
+{
+    if kind == 1 {
+        return Edit::Place(plan_from(v));
+    }
+    if kind == 2 {
+        return Edit::Prepend(extension_from(v));
+    }
+    if kind == 3 {
+        return Edit::Append(extension_from(v));
+    }
+    if kind == 4 {
+        return Edit::DeleteFirst(deletion_from(v));
+    }
+    if kind == 5 {
+        return Edit::DeleteLast(deletion_from(v));
+    }
+    if kind == 6 {
+        return Edit::Amend(plan_from(v));
+    }
+    if kind == 7 {
+        return Edit::ReportArrival(report_from(v));
+    }
+    if kind == 8 {
+        return Edit::ReportDeparture(report_from(v));
+    }
+    Edit::DeleteTrain(Cancellation { train: Train(v[0]) })
+}
+
+fn fields_edit(file: &[u8], at: usize, kind: u16) -> EditRead
+    ensures { λ r. ⌜ r ≡ edit-read (read (row (edit-ranges kind) [] and-then (λ ns. done (edit-of kind ns))) (now (file .entry)) at) ⌝ }
+{
+    let read = row(file, at, edit_spans(kind));
+    if read.accepted {
+        let values = read.values;
+        return EditRead::Entry(edit_from(kind, values), read.place);
+    }
+    EditRead::Refused(read.refusal, read.place)
+}
+
+fn add_edit(file: &[u8], at: usize) -> EditRead
+    ensures { λ r. ⌜ r ≡ edit-read (read (station-relation-entry [] and-then (λ x. done (AddRelation x))) (now (file .entry)) at) ⌝ }
+{
+    let read = relation_entry(file, at, no_bar());
+    match read {
+        RelationRead::Refused(k, p) => EditRead::Refused(k, p),
+        RelationRead::Entry(x, next) => EditRead::Entry(Edit::AddRelation(x), next),
+    }
+}
+
+fn remove_edit(file: &[u8], at: usize) -> EditRead
+    ensures { λ r. ⌜ r ≡ edit-read (read (station-relation-entry [] and-then (λ x. done (RemoveRelation x))) (now (file .entry)) at) ⌝ }
+{
+    let read = relation_entry(file, at, no_bar());
+    match read {
+        RelationRead::Refused(k, p) => EditRead::Refused(k, p),
+        RelationRead::Entry(x, next) => EditRead::Entry(Edit::RemoveRelation(x), next),
+    }
+}
+
+fn edit_of_kind(file: &[u8], at: usize, kind: u16) -> EditRead
+    ensures { λ r. ⌜ r ≡ edit-read (read (edit-fields kind) (now (file .entry)) at) ⌝ }
+{
+    if kind == 9 {
+        return add_edit(file, at);
+    }
+    if kind == 10 {
+        return remove_edit(file, at);
+    }
+    fields_edit(file, at, kind)
+}
+
+pub fn read_edit(file: &[u8], at: usize) -> EditRead
+    ensures { λ r. ⌜ r ≡ edit-read (read edit-entry (now (file .entry)) at) ⌝ }
+{
+    let kind = field(file, at, 1, 11);
+    match kind {
+        FieldRead::Refused(k, p) => EditRead::Refused(k, p),
+        FieldRead::Value(n, next) => edit_of_kind(file, next, n),
+    }
+}
+
+// The edit at a cursor, tested by itself.
+pub fn next_edit(file: &[u8], c: Cursor) -> NextEdit
+    ensures { λ r. ⌜ r ≡ next-read (read edit-entry (now (file .entry)) (c .at)) ⌝ }
+{
+    let read = read_edit(file, c.at);
+    match read {
+        EditRead::Refused(k, p) => NextEdit::Refused(k, p),
+        EditRead::Entry(e, next) => NextEdit::Entry(e, Cursor { at: next }),
+    }
+}

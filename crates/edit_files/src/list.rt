@@ -1,0 +1,124 @@
+// Files of edits: "count (0..1000), then kind and fields".
+ghost use mathlib.Core.Path.{_≡_};
+ghost use Rattle.timetable.specs.Formats.{refused, read, placed};
+ghost use Rattle.timetable.specs.EditsFile.{edits-on, edits-format, read-edits};
+ghost use Rattle.edit_files.specs.Answers.{scan-read, edits-read, edits-answer};
+use crate::edit::EditRead;
+use crate::edit::read_edit;
+use fields::field::FieldRead;
+use fields::field::field;
+
+// The place behind the edits, or a refusal's number and place.
+pub enum Scan {
+    End(usize),
+    Refused(u8, usize),
+}
+
+// Edits from a place of a file on: the place behind them, that of the first, and their count; or a refusal's number and
+// place.
+pub struct EditsPart {
+    pub accepted: bool,
+    pub refusal: u8,
+    pub place: usize,
+    pub first: usize,
+    pub count: u16,
+}
+
+// Refusal 0 with the place behind the edits, that of the first and their count; or a refusal's number and place.
+pub struct EditsRead {
+    pub refusal: u8,
+    pub place: usize,
+    pub first: usize,
+    pub count: u16,
+}
+
+// So many edits, each tested.
+fn scan_edits(file: &[u8], at: usize, count: u16) -> Scan
+    ensures { λ r. ⌜ r ≡ scan-read (read (edits-on count) (now (file .entry)) at) ⌝ }
+{
+    let mut place = at;
+    let mut i: u16 = 0;
+    while i < count {
+        let found = read_edit(file, place);
+        match found {
+            EditRead::Refused(k, p) => {
+                return Scan::Refused(k, p);
+            }
+            EditRead::Entry(_, next) => {
+                place = next;
+            }
+        }
+        i += 1;
+    }
+    Scan::End(place)
+}
+
+fn refused_part(refusal: u8, place: usize) -> EditsPart
+    ensures { λ r. ⌜ r ≡ edits-read (refused refusal place) ⌝ }
+{
+    EditsPart {
+        accepted: false,
+        refusal: refusal,
+        place: place,
+        first: 0,
+        count: 0,
+    }
+}
+
+fn scanned_part(file: &[u8], at: usize, count: u16) -> EditsPart
+    ensures { λ r. ⌜ r ≡ edits-read (read (placed (edits-on count)) (now (file .entry)) at) ⌝ }
+{
+    let found = scan_edits(file, at, count);
+    match found {
+        Scan::Refused(k, p) => refused_part(k, p),
+        Scan::End(next) => EditsPart {
+            accepted: true,
+            refusal: 0,
+            place: next,
+            first: at,
+            count: count,
+        },
+    }
+}
+
+// The count and the edits from a place of the file on.
+pub fn edits_part(file: &[u8], at: usize) -> EditsPart
+    ensures { λ r. ⌜ r ≡ edits-read (read edits-format (now (file .entry)) at) ⌝ }
+{
+    let count = field(file, at, 0, 1000);
+    match count {
+        FieldRead::Refused(k, p) => refused_part(k, p),
+        FieldRead::Value(n, next) => scanned_part(file, next, n),
+    }
+}
+
+fn refused_edits(refusal: u8, place: usize) -> EditsRead
+    ensures { λ r. ⌜ r ≡ edits-answer (refused refusal place) ⌝ }
+{
+    EditsRead {
+        refusal: refusal,
+        place: place,
+        first: 0,
+        count: 0,
+    }
+}
+
+// A file of edits.
+pub fn read_edits(file: &[u8]) -> EditsRead
+    ensures { λ r. ⌜ r ≡ edits-answer (read-edits (now (file .entry))) ⌝ }
+{
+    let part = edits_part(file, 0);
+    if part.accepted {
+        let place = part.place;
+        if place < file.len() {
+            return refused_edits(1, place);
+        }
+        return EditsRead {
+            refusal: 0,
+            place: place,
+            first: part.first,
+            count: part.count,
+        };
+    }
+    refused_edits(part.refusal, part.place)
+}

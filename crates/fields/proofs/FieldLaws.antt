@@ -1,0 +1,88 @@
+-- One field: what each outcome of reading its number makes of it, and what an answer says of the outcome. A number ends
+-- within the bytes. Assumes nothing.
+use Prim.Native.Nat.{ℕ, zero, suc, _+_, _*_, _-_, _<_, _≤_}
+use mathlib.Core.Path.{_≡_, refl, sym, _∙_, ap}
+use mathlib.Core.Bool.{Bool, true, false, _&&_}
+use mathlib.Core.List.{List, [], _∷_}
+use native.Mathlib.Omega.{arith}
+use lib.Dec.{ltb, leb, eqb}
+use lib.ListN.{length, take, drop, drop-of-length-le, length-drop}
+use borrow.Author.Tests.{lt-ltb, le-leb, lt-leb, eq-eqb, ne-eqb, leb-true}
+use Rattle.base.specs.Choice.{if_then_else_}
+use Rattle.base.specs.Lists.{within}
+use Rattle.base.proofs.Lengths.{rest-whole}
+use Rattle.numbers.specs.Numbers.{group-before, read-groups, read-number}
+use Rattle.numbers.specs.declared.Reading.{Reading}
+use Rattle.numbers.specs.declared.Reading.the-variants.{Value, Refused}
+use Rattle.timetable.specs.Formats.{Outcome, accepted, refused, placed-field, field-at}
+use Rattle.fields.specs.between.Answers.{field-read}
+use Rattle.fields.specs.declared.field.FieldRead.{FieldRead}
+
+-- a number takes bytes that are there
+groups-within : (k : ℕ) (b : List ℕ) (n w : ℕ) → read-groups k b ≡ Value n w → w ≤ length b
+unfolding read-groups group-before
+groups-within zero b n w e = let z : _≡_ {A = ℕ} 0 1 = cc in absurd (omega arith)
+groups-within (suc k) [] n w e = let z : _≡_ {A = ℕ} 0 1 = cc in absurd (omega arith)
+groups-within (suc k) (x ∷ b) n w e = go (ltb x 128) e (λ m v. groups-within k b m v)
+  where
+    more : (r : Reading) → ((m v : ℕ) → r ≡ Value m v → v ≤ length b) → group-before (x - 128) r ≡ Value n w → w ≤ suc (length b)
+    more (Refused j) ih q = let z : _≡_ {A = ℕ} 0 1 = cc in absurd (omega arith)
+    more (Value m v) ih q = last (eqb m 0) q
+      where
+        last : (t : Bool) → (if t then Refused 2 else Value (x - 128 + 128 * m) (v + 1)) ≡ Value n w → w ≤ suc (length b)
+        last true p = let z : _≡_ {A = ℕ} 0 1 = cc in absurd (omega arith)
+        last false p = let u : v + 1 ≡ w = cc in omega (arith, ih m v refl)
+
+    go : (t : Bool) → (if t then Value x 1 else group-before (x - 128) (read-groups k b)) ≡ Value n w
+        → ((m v : ℕ) → read-groups k b ≡ Value m v → v ≤ length b) → w ≤ suc (length b)
+    go true q ih = let u : 1 ≡ w = cc in omega arith
+    go false q ih = more (read-groups k b) ih q
+
+pub number-within : (b : List ℕ) (n w : ℕ) → read-number b ≡ Value n w → w ≤ length b
+unfolding read-number
+number-within b n w e = groups-within 3 b n w e
+
+module _ (lo hi : ℕ) (file : List ℕ) (at : ℕ) where
+  pub field-past : length file < at → field-at lo hi file at ≡ refused 1 (length file)
+  unfolding field-at placed-field read-number read-groups
+  field-past h = rw (drop-of-length-le file {i = at} (omega arith))
+
+  -- the number is read from the part behind the place
+  module _ (r : Reading) (e : r ≡ read-number (take (length file - at) (drop at file))) where
+    pub at-hand : (q : Reading) → r ≡ q → read-number (drop at file) ≡ q
+    at-hand q p = ap read-number (sym (rest-whole at file)) ∙ sym e ∙ p
+
+    pub field-ends : (k : ℕ) → r ≡ Refused k → k ≡ 1 → field-at lo hi file at ≡ refused 1 (length file)
+    unfolding field-at placed-field
+    field-ends k p h = ap (placed-field lo hi (length file) at) (at-hand (Refused k) p) ∙ rw (h)
+
+    pub field-odd : (k : ℕ) → r ≡ Refused k → ¬ (k ≡ 1) → field-at lo hi file at ≡ refused k at
+    unfolding field-at placed-field
+    field-odd k p h = ap (placed-field lo hi (length file) at) (at-hand (Refused k) p) ∙ rw (ne-eqb k 1 h)
+
+    module _ (n w : ℕ) (p : r ≡ Value n w) where
+      pub field-fits : at ≤ length file → at + w ≤ length file
+      field-fits h = omega (arith, number-within (drop at file) n w (at-hand (Value n w) p), length-drop at file)
+
+      pub field-in : lo ≤ n → n ≤ hi → field-at lo hi file at ≡ accepted n (at + w)
+      unfolding field-at placed-field
+      field-in h k = ap (placed-field lo hi (length file) at) (at-hand (Value n w) p) ∙ rw (le-leb lo n h, le-leb n hi k)
+
+      pub field-low : n < lo → field-at lo hi file at ≡ refused 3 at
+      unfolding field-at placed-field
+      field-low h = ap (placed-field lo hi (length file) at) (at-hand (Value n w) p) ∙ rw (lt-leb lo n h)
+
+      pub field-high : lo ≤ n → hi < n → field-at lo hi file at ≡ refused 3 at
+      unfolding field-at placed-field
+      field-high h k = ap (placed-field lo hi (length file) at) (at-hand (Value n w) p) ∙ rw (le-leb lo n h, lt-leb n hi k)
+
+-- what an answer says of the outcome
+pub field-value : (o : Outcome ℕ) (n next : ℕ) → field-read o ≡ FieldRead.Value n next → o ≡ accepted n next
+unfolding field-read
+field-value (accepted m p) n next e = cc
+field-value (refused k p) n next e = let z : _≡_ {A = ℕ} 0 1 = cc in absurd (omega arith)
+
+pub field-refused : (o : Outcome ℕ) (k p : ℕ) → field-read o ≡ FieldRead.Refused k p → o ≡ refused k p
+unfolding field-read
+field-refused (accepted m q) k p e = let z : _≡_ {A = ℕ} 0 1 = cc in absurd (omega arith)
+field-refused (refused j q) k p e = cc

@@ -1,0 +1,62 @@
+-- `fields::bar::least` meets its contract: none, one or more numbers are left to compare with. Assumes nothing.
+use mathlib.Core.Path.{_≡_, refl, _∙_, ap}
+use Prim.Native.Nat.{ℕ, _+_, max}
+use native.Mathlib.Omega.{arith}
+use lib.ListN.{length, length-map}
+use borrow.Author.Needs.{needs}
+use Rattle.fields.proofs.BarLaws.{least-none, least-last, least-more}
+use Rattle.fields.proofs.bar.least.Statement.{statement}
+use Rattle.fields.proofs.bar.least.Tie as tie
+
+in-use-requires : tie.Need-in-use-requires
+in-use-requires c κs = search needs
+
+mul-wide : tie.Need-mul-wide
+mul-wide c = search needs
+
+array-read-wide : tie.Need-array-read-wide
+array-read-wide c = search needs
+
+wide-requires : tie.Need-wide-requires
+wide-requires c κs = search needs
+
+add-if2 : tie.Need-add-if2
+add-if2 c = search needs
+
+larger-requires : tie.Need-larger-requires
+larger-requires c κs = search needs
+
+returns : tie.Need-returns
+returns c =
+    let s = c .before .before .before .before .before .before .args in
+    let many : length (s .bar .values) ≡ 12 = simp length-map at (c .before .before .before .before .before .before .good .0 .1 .1 .1 .1 .0 .1 .0 .1) in
+    let u = c .before .before .before .before .in-use in
+    let w = c .before .before .wide .ensures .0 in
+    c .larger .ensures ∙ ap (λ (b : ℕ). max (s .lo) b) w ∙ least-more (s .bar) (u .result) many (u .ensures) (s .lo) (omega arith) (omega arith)
+
+add-larger : tie.Need-add-larger
+add-larger c = omega arith
+
+larger-requires-2 : tie.Need-larger-requires-2
+larger-requires-2 c κs = search needs
+
+returns-2 : tie.Need-returns-2
+returns-2 c =
+    let s = c .before .before .before .before .before .before .args in
+    let many : length (s .bar .values) ≡ 12 = simp length-map at (c .before .before .before .before .before .before .good .0 .1 .1 .1 .1 .0 .1 .0 .1) in
+    let u = c .before .before .before .before .in-use in
+    let w = c .before .before .wide .ensures .0 in
+    c .larger2 .ensures ∙ ap (λ (b : ℕ). max (s .lo) (b + 1)) w ∙ least-last (s .bar) (u .result) many (u .ensures) (s .lo) (omega arith) (omega arith)
+
+returns-3 : tie.Need-returns-3
+returns-3 c =
+    let s = c .before .before .before .args in
+    let many : length (s .bar .values) ≡ 12 = simp length-map at (c .before .before .before .good .0 .1 .1 .1 .1 .0 .1 .0 .1) in
+    let u = c .before .in-use in
+    least-none (s .bar) (u .result) many (u .ensures) (s .lo) (omega arith)
+
+pub least-spec : {M : Type 1} → statement M
+least-spec =
+    tie.close
+    (tie.spec in-use-requires mul-wide array-read-wide wide-requires add-if2 larger-requires returns add-larger
+    larger-requires-2 returns-2 returns-3)

@@ -1,0 +1,107 @@
+// The order of entries. A number is compared with its namesake in the entry before, as long as all earlier numbers are
+// equal.
+ghost use mathlib.Core.Path.{_≡_};
+ghost use mathlib.Core.List.{[]};
+ghost use Prim.Native.Nat.{_<_, max};
+ghost use Rattle.timetable.specs.Formats.{field-at, least, bar-after};
+ghost use Rattle.fields.specs.between.Answers.{in-use, number-read};
+use crate::field;
+use crate::field::FieldRead;
+use crate::field::Numbers;
+
+// A number and the place behind it, or a refusal's number and place.
+pub struct Number {
+    pub accepted: bool,
+    pub refusal: u8,
+    pub place: usize,
+    pub value: u16,
+}
+
+fn larger(x: u32, y: u32) -> u32
+    ensures { λ r. ⌜ r ≡ max x y ⌝ }
+{
+    if x < y {
+        return y;
+    }
+    x
+}
+
+fn wide(x: u16) -> u32
+    ensures { λ r. ⌜ (r ≡ x) × (r < 65536) ⌝ }
+{
+    x as u32
+}
+
+// No number to compare with.
+pub fn no_bar() -> Numbers
+    ensures { λ r. ⌜ in-use r ≡ [] ⌝ }
+{
+    Numbers {
+        from: 0,
+        to: 0,
+        values: [0; 12],
+    }
+}
+
+// The least value that the next number may have.
+fn least(bar: Numbers, lo: u32) -> u32
+    ensures { λ r. ⌜ r ≡ least lo (in-use bar) ⌝ }
+{
+    let values = bar.values;
+    let from = bar.from;
+    let to = field::in_use(bar.to, 12);
+    if from < to {
+        let b = wide(values[from]);
+        if from + 1 < to {
+            return larger(lo, b);
+        }
+        return larger(lo, b + 1);
+    }
+    lo
+}
+
+// What is left to compare with behind the number n.
+pub fn bar_after(bar: Numbers, n: u16) -> Numbers
+    ensures { λ r. ⌜ in-use r ≡ bar-after n (in-use bar) ⌝ }
+{
+    let values = bar.values;
+    let from = bar.from;
+    let to = field::in_use(bar.to, 12);
+    if from < to {
+        if from + 1 < to {
+            if values[from] == n {
+                return Numbers {
+                    from: from + 1,
+                    to: to,
+                    values: values,
+                };
+            }
+        }
+    }
+    Numbers {
+        from: 0,
+        to: 0,
+        values: values,
+    }
+}
+
+// The number of lo..hi at a place that is not below the bar.
+pub fn compared(file: &[u8], at: usize, lo: u32, hi: u16, bar: Numbers) -> Number
+    ensures { λ r. ⌜ r ≡ number-read (field-at (least lo (in-use bar)) hi (now (file .entry)) at) ⌝ }
+{
+    let found = field::field(file, at, least(bar, lo), hi);
+    match found {
+        FieldRead::Value(n, next) => Number {
+            accepted: true,
+            refusal: 0,
+            place: next,
+            value: n,
+        },
+        FieldRead::Refused(k, p) => Number {
+            accepted: false,
+            refusal: k,
+            place: p,
+            value: 0,
+        },
+    }
+}

@@ -1,0 +1,126 @@
+// One number of a file, and rows of numbers, each with its range.
+ghost use mathlib.Core.Path.{_≡_};
+ghost use mathlib.Core.List.{[]};
+ghost use Prim.Native.Nat.{min, _%_};
+ghost use Rattle.timetable.specs.Formats.{field-at, read, row, refused};
+ghost use Rattle.fields.specs.between.Answers.{field-read, ranges-of, row-read};
+use numbers::Reading;
+
+// The number at a place and the place behind it, or a refusal's number and place.
+pub enum FieldRead {
+    Value(u16, usize),
+    Refused(u8, usize),
+}
+
+// The least and the greatest value of a number. The least may be one above every value of a field.
+pub struct Span {
+    pub lo: u32,
+    pub hi: u16,
+}
+
+// The ranges of the numbers in a row: the first `count` are used.
+pub struct Spans {
+    pub count: usize,
+    pub spans: [Span; 8],
+}
+
+// The numbers of a row, 0 where there are fewer, and the place behind them; or a refusal's number and place.
+pub struct RowRead {
+    pub accepted: bool,
+    pub refusal: u8,
+    pub place: usize,
+    pub values: [u16; 12],
+}
+
+// A row of up to twelve numbers: those of `values` from one index up to another.
+pub struct Numbers {
+    pub from: usize,
+    pub to: usize,
+    pub values: [u16; 12],
+}
+
+// A number as a byte.
+pub fn narrow(n: u16) -> u8
+    ensures { λ r. ⌜ r ≡ n % 256 ⌝ }
+{
+    (n % 256) as u8
+}
+
+// The number of lo..hi at a place of the file.
+pub fn field(file: &[u8], at: usize, lo: u32, hi: u16) -> FieldRead
+    ensures { λ r. ⌜ r ≡ field-read (field-at lo hi (now (file .entry)) at) ⌝ }
+{
+    let end = file.len();
+    if end < at {
+        return FieldRead::Refused(1, end);
+    }
+    let number = numbers::read(&file[at..end]);
+    match number {
+        Reading::Refused(k) => {
+            if k == 1 {
+                return FieldRead::Refused(1, end);
+            }
+            FieldRead::Refused(k, at)
+        }
+        Reading::Value(n, w) => {
+            if lo <= n {
+                if n <= (hi as u32) {
+                    return FieldRead::Value(n as u16, at + w);
+                }
+            }
+            FieldRead::Refused(3, at)
+        }
+    }
+}
+
+pub fn refused_row(refusal: u8, place: usize) -> RowRead
+    ensures { λ r. ⌜ r ≡ row-read (refused refusal place) ⌝ }
+{
+    RowRead {
+        accepted: false,
+        refusal: refusal,
+        place: place,
+        values: [0; 12],
+    }
+}
+
+// How many of the places of an array are in use.
+pub fn in_use(count: usize, places: usize) -> usize
+    ensures { λ r. ⌜ r ≡ min count places ⌝ }
+{
+    if places < count {
+        return places;
+    }
+    count
+}
+
+// A row of numbers from a place of the file on.
+pub fn row(file: &[u8], at: usize, ranges: Spans) -> RowRead
+    ensures { λ r. ⌜ r ≡ row-read (read (row (ranges-of ranges) []) (now (file .entry)) at) ⌝ }
+{
+    let spans = ranges.spans;
+    let n = in_use(ranges.count, 8);
+    let mut values: [u16; 12] = [0; 12];
+    let mut place = at;
+    let mut i: usize = 0;
+    while i < n {
+        let span = spans[i];
+        let number = field(file, place, span.lo, span.hi);
+        match number {
+            FieldRead::Refused(k, p) => {
+                return refused_row(k, p);
+            }
+            FieldRead::Value(v, next) => {
+                values[i] = v;
+                place = next;
+            }
+        }
+        i += 1;
+    }
+    RowRead {
+        accepted: true,
+        refusal: 0,
+        place: place,
+        values: values,
+    }
+}

@@ -1,0 +1,176 @@
+-- Rows of stations and lines: the formats as the code reads them, and what an answer says of its outcome. Assumes
+-- nothing.
+use Prim.Native.Nat.{ℕ, zero, suc, _+_, _-_, _<_, _≤_}
+use mathlib.Core.Path.{_≡_, refl, sym, _∙_, ap}
+use mathlib.Core.Bool.{Bool, true, false, false≢true, not}
+use mathlib.Core.List.{List, [], _∷_, _++_, map}
+use mathlib.Core.Option.{Option, none, some}
+use native.Mathlib.Omega.{arith}
+use lib.ListN.{length, length-map, getD}
+use Rattle.base.specs.Choice.{if_then_else_}
+use Rattle.base.specs.Lists.{first}
+use Rattle.network.specs.declared.StationRow.{StationRow}
+use Rattle.network.specs.declared.LineRow.{LineRow}
+use Rattle.network.specs.declared.Network.{Network}
+use Rattle.network.specs.Networks.{station-rows, stations-of, listed, ends-listed}
+use Rattle.timetable.specs.Formats.{Format, done, Outcome, accepted, refused, _and-then_, behind, read, _to_, row, entries, Placed, placed}
+use Rattle.timetable.specs.NetworkFile.{station-ranges, station-of, station-entry, station-bar, line-ranges, line-of, line-fields, line-entry, line-bar}
+use Rattle.timetable.specs.NetworkFile.{Listed, stations-format, lines-format, lines-part, only-stations, with-headway, with-lines, blank-station, blank-line, blank-network, network-with, network-of, unjoined, unjoined-fault, network-fault}
+use Rattle.network_files.specs.declared.draft.StationRead.{StationRead}
+use Rattle.network_files.specs.declared.draft.LineRead.{LineRead}
+use Rattle.network_files.specs.declared.draft.StationsRead.{StationsRead}
+use Rattle.network_files.specs.declared.draft.LinesRead.{LinesRead}
+use Rattle.timetable.specs.declared.Fault.{Fault}
+use Rattle.network_files.specs.declared.draft.Draft.{Draft}
+use Rattle.fields.specs.between.Answers.{padded}
+use Rattle.network_files.specs.Answers.{station-read, stations-read, line-read, fault-next, lines-read, before-lines, draft-read}
+use Rattle.fields.proofs.ReadLaws.{read-then}
+use Rattle.fields.proofs.EntryLaws.{row-above, padded-at, made, entries-many}
+
+-- stations
+
+pub station-format : (b : ℕ) → station-entry (b ∷ []) ≡ (row ((b + 1) to 16 ∷ 1 to 6 ∷ 1 to 8 ∷ []) [] and-then (λ ns. done (station-of ns)))
+unfolding station-entry station-ranges
+station-format b = ap (λ (f : Format (List ℕ)). f and-then (λ ns. done (station-of ns))) (row-above 1 16 (1 to 6 ∷ 1 to 8 ∷ []) b (omega arith))
+
+pub station-padded : (ns : List ℕ) → station-of (padded 12 0 ns) ≡ station-of ns
+unfolding station-of
+station-padded ns = rw (padded-at 12 ns 0, padded-at 12 ns 1, padded-at 12 ns 2)
+
+pub station-some : (o : Outcome StationRow) (r : StationRow) (next : ℕ) → station-read o ≡ StationRead.Row r next → o ≡ accepted r next
+unfolding station-read
+station-some (accepted q p) r next e = cc
+station-some (refused k p) r next e = let z : _≡_ {A = ℕ} 0 1 = cc in absurd (omega arith)
+
+pub station-none : (o : Outcome StationRow) (k p : ℕ) → station-read o ≡ StationRead.Refused k p → o ≡ refused k p
+unfolding station-read
+station-none (accepted q p′) k p e = let z : _≡_ {A = ℕ} 0 1 = cc in absurd (omega arith)
+station-none (refused j q) k p e = cc
+
+-- lines
+
+pub line-format : (b : ℕ) → line-fields (b ∷ []) ≡ (row ((b + 1) to 32 ∷ 1 to 16 ∷ 1 to 16 ∷ 1 to 3 ∷ 1 to 240 ∷ 1 to 9 ∷ []) [] and-then (λ ns. done (line-of ns)))
+unfolding line-fields line-ranges
+line-format b =
+    ap (λ (f : Format (List ℕ)). f and-then (λ ns. done (line-of ns))) (row-above 1 32 (1 to 16 ∷ 1 to 16 ∷ 1 to 3 ∷ 1 to 240 ∷ 1 to 9 ∷ []) b (omega arith))
+
+pub line-padded : (ns : List ℕ) → line-of (padded 12 0 ns) ≡ line-of ns
+unfolding line-of
+line-padded ns = rw (padded-at 12 ns 0, padded-at 12 ns 1, padded-at 12 ns 2, padded-at 12 ns 3, padded-at 12 ns 4, padded-at 12 ns 5)
+
+pub line-some : (o : Outcome LineRow) (r : LineRow) (next : ℕ) → line-read o ≡ LineRead.Row r next → o ≡ accepted r next
+unfolding line-read
+line-some (accepted q p) r next e = cc
+line-some (refused k p) r next e = let z : _≡_ {A = ℕ} 0 1 = cc in absurd (omega arith)
+
+pub line-none : (o : Outcome LineRow) (k p : ℕ) → line-read o ≡ LineRead.Refused k p → o ≡ refused k p
+unfolding line-read
+line-none (accepted q p′) k p e = let z : _≡_ {A = ℕ} 0 1 = cc in absurd (omega arith)
+line-none (refused j q) k p e = cc
+
+-- the first line that is not joined, one line more
+pub fault-snoc : (n : Network) (ls : List (Placed LineRow)) (l : Placed LineRow)
+    → fault-next n (l .entry) (l .place) (unjoined-fault (first (λ l. not (ends-listed n (l .entry))) ls)) ≡ unjoined-fault (first (λ l. not (ends-listed n (l .entry))) (ls ++ (l ∷ [])))
+unfolding unjoined-fault fault-next first
+fault-snoc n [] l = go (ends-listed n (l .entry))
+  where
+    go : (b : Bool) → (if b then unjoined-fault none else record { number = 4; place = l .place }) ≡ unjoined-fault (if not b then some l else none)
+    go true = refl
+    go false = refl
+fault-snoc n (x ∷ ls) l = go (ends-listed n (x .entry)) (fault-snoc n ls l)
+  where
+    go : (b : Bool)
+        → fault-next n (l .entry) (l .place) (unjoined-fault (first (λ l. not (ends-listed n (l .entry))) ls)) ≡ unjoined-fault (first (λ l. not (ends-listed n (l .entry))) (ls ++ (l ∷ [])))
+        → fault-next n (l .entry) (l .place) (unjoined-fault (if not b then some x else first (λ l. not (ends-listed n (l .entry))) ls))
+        ≡ unjoined-fault (if not b then some x else first (λ l. not (ends-listed n (l .entry))) (ls ++ (l ∷ [])))
+    go true ih = ih
+    go false ih = refl
+
+-- what the answers of lists say of their outcomes
+
+module _ (o : Outcome (List StationRow)) (r : StationsRead) (e : r ≡ stations-read o) where
+  pub stations-value : r .accepted ≡ true → (ss : List StationRow) × (o ≡ accepted ss (r .place)) × (r .rows ≡ padded 16 blank-station ss)
+  unfolding stations-read
+  stations-value t = go o e
+    where
+      go : (o : Outcome (List StationRow)) → r ≡ stations-read o → (ss : List StationRow) × (o ≡ accepted ss (r .place)) × (r .rows ≡ padded 16 blank-station ss)
+      go (accepted ss next) q = (ss, ap (accepted ss) (ap (λ (x : StationsRead). x .place) (sym q)), ap (λ (x : StationsRead). x .rows) q)
+      go (refused k p) q = absurd (false≢true (sym (ap (λ (x : StationsRead). x .accepted) q) ∙ t))
+
+  pub stations-refusal : r .accepted ≡ false → o ≡ refused (r .refusal) (r .place)
+  unfolding stations-read
+  stations-refusal t = go o e
+    where
+      go : (o : Outcome (List StationRow)) → r ≡ stations-read o → o ≡ refused (r .refusal) (r .place)
+      go (accepted ns next) q = absurd (false≢true (sym t ∙ ap (λ (x : StationsRead). x .accepted) q))
+      go (refused k p) q = rw q
+
+module _ (n : Network) (o : Outcome (List (Placed LineRow))) (r : LinesRead) (e : r ≡ lines-read n o) where
+  pub lines-value : r .accepted ≡ true
+      → (ls : List (Placed LineRow)) × (o ≡ accepted ls (r .place)) × (r .rows ≡ padded 32 blank-line (map (λ l. l .entry) ls))
+      × (r .fault ≡ unjoined-fault (first (λ l. not (ends-listed n (l .entry))) ls))
+  unfolding lines-read
+  lines-value t = go o e
+    where
+      go : (o : Outcome (List (Placed LineRow))) → r ≡ lines-read n o
+          → (ls : List (Placed LineRow)) × (o ≡ accepted ls (r .place)) × (r .rows ≡ padded 32 blank-line (map (λ l. l .entry) ls))
+          × (r .fault ≡ unjoined-fault (first (λ l. not (ends-listed n (l .entry))) ls))
+      go (accepted ls next) q =
+          (ls, ap (accepted ls) (ap (λ (x : LinesRead). x .place) (sym q)), ap (λ (x : LinesRead). x .rows) q, ap (λ (x : LinesRead). x .fault) q)
+      go (refused k p) q = absurd (false≢true (sym (ap (λ (x : LinesRead). x .accepted) q) ∙ t))
+
+  pub lines-refusal : r .accepted ≡ false → o ≡ refused (r .refusal) (r .place)
+  unfolding lines-read
+  lines-refusal t = go o e
+    where
+      go : (o : Outcome (List (Placed LineRow))) → r ≡ lines-read n o → o ≡ refused (r .refusal) (r .place)
+      go (accepted ns next) q = absurd (false≢true (sym t ∙ ap (λ (x : LinesRead). x .accepted) q))
+      go (refused k p) q = rw q
+
+lines-many : (file : List ℕ) (at m : ℕ) (ls : List (Placed LineRow)) (next : ℕ) → read (lines-format m) file at ≡ accepted ls next → length ls ≡ m
+unfolding lines-format
+lines-many file at m ls next o = entries-many line-entry line-bar m (0 ∷ []) file at ls next o
+
+-- a network with these lines
+abbrev pub drafted : Network → ℕ → LinesRead → Draft
+drafted n m r = record {
+  accepted = true;
+  refusal = 0;
+  place = r .place;
+  network = record { stationcount = n .stationcount; stations = n .stations; headway = n .headway; linecount = m; lines = r .rows };
+  fault = r .fault;
+}
+
+lines-behind : (x : Listed) (m : ℕ) (r : LinesRead) (file : List ℕ) (at : ℕ) (ls : List (Placed LineRow)) → read (lines-format m) file at ≡ accepted ls (r .place)
+    → r .rows ≡ padded 32 blank-line (map (λ l. l .entry) ls) → r .fault ≡ unjoined-fault (first (λ l. not (ends-listed (before-lines x) (l .entry))) ls)
+    → drafted (before-lines x) m r ≡ draft-read (read (lines-part x m) file at)
+unfolding before-lines with-lines network-with network-of network-fault unjoined lines-part draft-read ends-listed listed stations-of station-rows padded
+lines-behind x m r file at ls o u v =
+    let many = length-map ls (λ (l : Placed LineRow). l .entry) ∙ lines-many file at m ls (r .place) o in
+    let w = made {A = Listed} (λ (ls : List (Placed LineRow)). with-lines x ls) (lines-format m) file at ls (r .place) o in
+    rw (w, u, v, many)
+
+-- the lines put behind the stations and the headway
+pub lines-drafted : (x : Listed) (m : ℕ) (known : Network) (r : LinesRead) (file : List ℕ) (at : ℕ) → known ≡ before-lines x
+    → r ≡ lines-read known (read (lines-format m) file at) → r .accepted ≡ true → drafted known m r ≡ draft-read (read (lines-part x m) file at)
+lines-drafted x m known r file at e q t =
+    let (ls, o, u, v) = lines-value (before-lines x) (read (lines-format m) file at) r (q ∙ ap (λ (n : Network). lines-read n (read (lines-format m) file at)) e) t in
+    ap (λ (n : Network). drafted n m r) e ∙ lines-behind x m r file at ls o u v
+
+-- stations and no headway yet; and then the headway
+pub stations-known : (ss : List StationRow) (count : ℕ) (rows : List StationRow) (b : Network) → length ss ≡ count → rows ≡ padded 16 blank-station ss → b ≡ blank-network
+    → _≡_ {A = Network} (record { stationcount = count; stations = rows; headway = b .headway; linecount = b .linecount; lines = b .lines }) (before-lines (only-stations ss))
+unfolding blank-network before-lines with-lines only-stations network-of network-with padded
+stations-known ss count rows b m u e =
+    ap (λ (b : Network). record { stationcount = count; stations = rows; headway = b .headway; linecount = b .linecount; lines = b .lines }) e ∙ rw (← m, u)
+
+pub headway-known : (x : Listed) (known : Network) (h k : ℕ) → known ≡ before-lines x → k ≡ h
+    → _≡_ {A = Network} (record { stationcount = known .stationcount; stations = known .stations; headway = k; linecount = known .linecount; lines = known .lines })
+    (before-lines (with-headway x h))
+unfolding before-lines with-lines with-headway network-of network-with
+headway-known x known h k e p =
+    ap (λ (n : Network). record { stationcount = n .stationcount; stations = n .stations; headway = k; linecount = n .linecount; lines = n .lines }) e ∙ rw p
+
+pub stations-many : (file : List ℕ) (at k : ℕ) (ss : List StationRow) (next : ℕ) → read (stations-format k) file at ≡ accepted ss next → length ss ≡ k
+unfolding stations-format
+stations-many file at k ss next o = entries-many station-entry station-bar k (0 ∷ []) file at ss next o

@@ -1,0 +1,4 @@
+pub mod DraftLaws
+pub mod ReadingLaws
+pub mod WritingLaws
+pub mod RoundTrip

@@ -1,0 +1,59 @@
+-- `network_files::draft::headway_draft` meets its contract: the field decides, and an accepted one is followed by the
+-- rest. Assumes nothing.
+use Prim.Native.Nat.{ℕ, _<_, _≤_}
+use mathlib.Core.Path.{_≡_, refl, sym, _∙_, ap}
+use mathlib.Core.List.{List, [], _∷_}
+use native.Mathlib.Omega.{arith}
+use denote.Ref.{now}
+use borrow.Author.Needs.{needs}
+use Rattle.timetable.specs.Formats.{Format, Outcome, accepted, refused, read}
+use Rattle.timetable.specs.NetworkFile.{lines-part, count-part, headway-part, stations-part, network-format, with-headway}
+use Rattle.fields.specs.between.Answers.{padded}
+use Rattle.network_files.specs.Answers.{draft-read}
+use Rattle.fields.proofs.FieldLaws.{field-value, field-refused}
+use Rattle.fields.proofs.EntryLaws.{small, field-bounded, field-on, field-stop}
+use Rattle.network_files.proofs.DraftLaws.{headway-known}
+use Rattle.network_files.proofs.draft.headway_draft.Statement.{statement}
+use Rattle.network_files.proofs.draft.headway_draft.Tie as tie
+
+field-requires : tie.Need-field-requires
+field-requires c κs = search needs
+
+enum-known-headway : tie.Need-enum-known-headway
+enum-known-headway c = search needs
+
+refused-draft-requires : tie.Need-refused-draft-requires
+refused-draft-requires c κs = search needs
+
+enum-known-headway-2 : tie.Need-enum-known-headway-2
+enum-known-headway-2 c = search needs
+
+narrow-requires : tie.Need-narrow-requires
+narrow-requires c κs = search needs
+
+count-draft-requires : tie.Need-count-draft-requires
+count-draft-requires c κs = search needs
+
+returns : tie.Need-returns
+unfolding headway-part
+returns c x k =
+    let s = c .before .before .before .before .before .before .args in
+    let g = c .before .before .headway .given in
+    let o = field-refused _ (g .0 .0) (g .0 .1 .0) (sym (c .before .before .before .before .field .ensures) ∙ g .1) in
+    c .refused-draft .ensures ∙ sym (ap draft-read (field-stop 1 30 (λ h. count-part (with-headway x h)) (now (s .file)) (s .at) (g .0 .0) (g .0 .1 .0) o))
+
+returns-2 : tie.Need-returns-2
+unfolding headway-part
+returns-2 c x k =
+    let s = c .before .before .before .before .before .before .before .args in
+    let g = c .before .before .before .headway2 .given in
+    let o = field-value _ (g .0 .0) (g .0 .1 .0) (sym (c .before .before .before .before .before .field .ensures) ∙ g .1) in
+    let b = field-bounded 1 30 (now (s .file)) (s .at) (g .0 .0) (g .0 .1 .0) o in
+    let n = small _ _ (c .before .narrow .ensures) (omega (arith, b .1)) in
+    c .count-draft .ensures (with-headway x (g .0 .0)) (headway-known x (s .known) (g .0 .0) (c .before .narrow .result) k n) ∙ sym (ap draft-read (field-on 1 30 (λ h. count-part (with-headway x h)) (now (s .file)) (s .at) (g .0 .0) (g .0 .1 .0) o))
+
+pub headway-draft-spec : {M : Type 1} → statement M
+headway-draft-spec =
+    tie.close
+    (tie.spec field-requires enum-known-headway refused-draft-requires enum-known-headway-2 narrow-requires
+    count-draft-requires returns returns-2)

@@ -1,0 +1,16 @@
+-- `network_files::draft::line_spans` meets its contract by computation. Assumes nothing.
+use mathlib.Core.Path.{refl}
+use borrow.Author.Needs.{needs}
+use Rattle.fields.specs.between.Answers.{ranges-of}
+use Rattle.network_files.proofs.draft.line_spans.Statement.{statement}
+use Rattle.network_files.proofs.draft.line_spans.Tie as tie
+
+add-t9 : tie.Need-add-t9
+add-t9 c = search needs
+
+returns : tie.Need-returns
+unfolding ranges-of
+returns c = refl
+
+pub line-spans-spec : {M : Type 1} → statement M
+line-spans-spec = tie.close (tie.spec add-t9 returns)

@@ -1,0 +1,12 @@
+-- `network_files::draft::no_fault` meets its contract by computation. Assumes nothing.
+use mathlib.Core.Path.{refl}
+use Rattle.timetable.specs.NetworkFile.{unjoined-fault}
+use Rattle.network_files.proofs.draft.no_fault.Statement.{statement}
+use Rattle.network_files.proofs.draft.no_fault.Tie as tie
+
+returns : tie.Need-returns
+unfolding unjoined-fault
+returns c = refl
+
+pub no-fault-spec : {M : Type 1} → statement M
+no-fault-spec = tie.close (tie.spec returns)

@@ -1,0 +1,16 @@
+-- `network_files::draft::station_spans` meets its contract by computation. Assumes nothing.
+use mathlib.Core.Path.{refl}
+use borrow.Author.Needs.{needs}
+use Rattle.fields.specs.between.Answers.{ranges-of}
+use Rattle.network_files.proofs.draft.station_spans.Statement.{statement}
+use Rattle.network_files.proofs.draft.station_spans.Tie as tie
+
+add-t7 : tie.Need-add-t7
+add-t7 c = search needs
+
+returns : tie.Need-returns
+unfolding ranges-of
+returns c = refl
+
+pub station-spans-spec : {M : Type 1} → statement M
+station-spans-spec = tie.close (tie.spec add-t7 returns)

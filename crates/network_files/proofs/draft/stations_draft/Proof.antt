@@ -1,0 +1,52 @@
+-- `network_files::draft::stations_draft` meets its contract: the stations decide, and accepted ones are followed by the
+-- rest. Assumes nothing.
+use Prim.Native.Nat.{ℕ, _<_, _≤_}
+use mathlib.Core.Path.{_≡_, refl, sym, _∙_, ap}
+use mathlib.Core.List.{List, [], _∷_}
+use denote.Ref.{now}
+use borrow.Author.Needs.{needs}
+use Rattle.network.specs.declared.StationRow.{StationRow}
+use Rattle.timetable.specs.Formats.{Format, Outcome, accepted, refused, read}
+use Rattle.timetable.specs.NetworkFile.{stations-format, headway-part, stations-part, only-stations}
+use Rattle.fields.specs.between.Answers.{padded}
+use Rattle.network_files.specs.Answers.{draft-read}
+use Rattle.fields.proofs.EntryLaws.{then-on, then-stop}
+use Rattle.network_files.proofs.DraftLaws.{stations-value, stations-refusal, stations-many, stations-known}
+use Rattle.network_files.proofs.draft.stations_draft.Statement.{statement}
+use Rattle.network_files.proofs.draft.stations_draft.Tie as tie
+
+stations-requires : tie.Need-stations-requires
+stations-requires c κs = c .before .pre
+
+blank-network-requires : tie.Need-blank-network-requires
+blank-network-requires c κs = search needs
+
+headway-draft-requires : tie.Need-headway-draft-requires
+headway-draft-requires c κs = search needs
+
+returns : tie.Need-returns
+unfolding stations-part padded
+returns c =
+    let s = c .before .before .before .before .before .before .args in
+    let r = c .before .before .before .before .stations in
+    let (ss, o, u) = stations-value _ (r .result) (r .ensures) (c .before .before .before .if1 .taken) in
+    let m = stations-many (now (s .file)) (s .at) (s .count) ss (r .result .place) o in
+    c .headway-draft .ensures (only-stations ss) (stations-known ss (s .count) (r .result .rows) _ m u (c .before .blank-network .ensures))
+    ∙ sym (ap draft-read (then-on (stations-format (s .count)) (λ ss. headway-part (only-stations ss)) (now (s .file)) (s .at) ss (r .result .place) o))
+
+refused-draft-requires : tie.Need-refused-draft-requires
+refused-draft-requires c κs = search needs
+
+returns-2 : tie.Need-returns-2
+unfolding stations-part
+returns-2 c =
+    let s = c .before .before .before .before .args in
+    let r = c .before .before .stations in
+    let o = stations-refusal _ (r .result) (r .ensures) (c .before .if1 .left) in
+    c .refused-draft .ensures ∙ sym (ap draft-read (then-stop (stations-format (s .count)) (λ ss. headway-part (only-stations ss)) (now (s .file)) (s .at) (r .result .refusal) (r .result .place) o))
+
+pub stations-draft-spec : {M : Type 1} → statement M
+stations-draft-spec =
+    tie.close
+    (tie.spec stations-requires blank-network-requires headway-draft-requires returns refused-draft-requires
+    returns-2)

@@ -1,0 +1,66 @@
+-- What the calls on network files answer, for each outcome of reading. Assumes nothing.
+use Prim.Native.Nat.{ℕ}
+use mathlib.Core.Bool.{Bool, true, false, not}
+use mathlib.Core.List.{List, [], map}
+use mathlib.Core.Option.{none}
+use lib.Dec.{eqb}
+use Rattle.base.specs.Choice.{if_then_else_}
+use Rattle.base.specs.Lists.{first}
+use Rattle.network.specs.declared.StationRow.{StationRow}
+use Rattle.network.specs.declared.LineRow.{LineRow}
+use Rattle.network.specs.declared.Network.{Network}
+use Rattle.network.specs.Networks.{ends-listed}
+use Rattle.timetable.specs.Formats.{Outcome, accepted, refused, number, place-of, value-or, Placed}
+use Rattle.timetable.specs.declared.Fault.{Fault}
+use Rattle.timetable.specs.NetworkFile.{Listed, with-lines, blank-station, blank-line, blank-network, network-of, unjoined-fault, network-fault}
+use Rattle.fields.specs.between.Answers.{padded}
+use Rattle.network_files.specs.declared.draft.StationRead.{StationRead}
+use Rattle.network_files.specs.declared.draft.StationsRead.{StationsRead}
+use Rattle.network_files.specs.declared.draft.LineRead.{LineRead}
+use Rattle.network_files.specs.declared.draft.LinesRead.{LinesRead}
+use Rattle.network_files.specs.declared.draft.Draft.{Draft}
+use Rattle.network_files.specs.declared.reading.NetworkRead.{NetworkRead}
+
+unfoldable pub station-read : Outcome StationRow → StationRead
+station-read (accepted r next) = StationRead.Row r next
+station-read (refused k p) = StationRead.Refused k p
+
+unfoldable pub stations-read : Outcome (List StationRow) → StationsRead
+stations-read (accepted rs next) = record { accepted = true; refusal = 0; place = next; rows = padded 16 blank-station rs }
+stations-read (refused k p) = record { accepted = false; refusal = k; place = p; rows = padded 16 blank-station [] }
+
+unfoldable pub line-read : Outcome LineRow → LineRead
+line-read (accepted r next) = LineRead.Row r next
+line-read (refused k p) = LineRead.Refused k p
+
+-- one line more: an earlier fault stays
+unfoldable pub fault-next : Network → LineRow → ℕ → Fault → Fault
+fault-next n r at f = if eqb (f .number) 0 then (if ends-listed n r then f else record { number = 4; place = at }) else f
+
+unfoldable pub lines-read : Network → Outcome (List (Placed LineRow)) → LinesRead
+lines-read n (accepted ls next) = record {
+  accepted = true;
+  refusal = 0;
+  place = next;
+  rows = padded 32 blank-line (map (λ l. l .entry) ls);
+  fault = unjoined-fault (first (λ l. not (ends-listed n (l .entry))) ls);
+}
+lines-read n (refused k p) = record { accepted = false; refusal = k; place = p; rows = padded 32 blank-line []; fault = unjoined-fault none }
+
+-- the network of what is listed before the lines
+unfoldable pub before-lines : Listed → Network
+before-lines x = network-of (with-lines x [])
+
+unfoldable pub draft-read : Outcome Listed → Draft
+draft-read (accepted x next) = record { accepted = true; refusal = 0; place = next; network = network-of x; fault = network-fault x }
+draft-read (refused k p) = record { accepted = false; refusal = k; place = p; network = blank-network; fault = unjoined-fault none }
+
+-- document 01's number and values of a network file: 0 with the network and the place behind it, or the refusal and its
+-- place
+unfoldable pub network-answer : Outcome Network → NetworkRead
+network-answer o = record { refusal = number o; place = place-of o; network = value-or blank-network o }
+
+-- The key ring of this module: `unfolding opened` opens every definition above.
+unfoldable pub opened : Unit {0}
+unfolding station-read stations-read line-read fault-next lines-read before-lines draft-read network-answer
+opened = tt

@@ -1,0 +1,389 @@
+// A network as it stands at the head of a file. Its lines are looked at for 4 on the way, but any faulty number of the
+// file comes before that.
+ghost use mathlib.Core.Path.{_≡_};
+ghost use mathlib.Core.List.{[], _∷_};
+ghost use mathlib.Core.Option.{none};
+ghost use Prim.Native.Nat.{ℕ, _+_, _<_, _≤_};
+ghost use lib.ListN.{getD};
+ghost use Rattle.network.specs.Networks.{ends-listed};
+ghost use Rattle.timetable.specs.Formats.{Range, _to_, refused, read};
+ghost use Rattle.timetable.specs.NetworkFile.{station-of, station-entry, stations-format, line-of, line-fields, lines-format, blank-station, blank-line};
+ghost use Rattle.timetable.specs.NetworkFile.{Listed, lines-part, count-part, headway-part, stations-part, network-format, blank-network, unjoined-fault};
+ghost use Rattle.fields.specs.between.Answers.{ranges-of};
+ghost use Rattle.network_files.specs.Answers.{station-read, stations-read, line-read, fault-next, lines-read, before-lines, draft-read};
+use fields::field::FieldRead;
+use fields::field::Span;
+use fields::field::Spans;
+use fields::field::field;
+use fields::field::narrow;
+use fields::field::row;
+use network::LineRow;
+use network::Network;
+use network::StationRow;
+use railway::sorts::Area;
+use railway::sorts::Line;
+use railway::sorts::Station;
+use timetable::Fault;
+
+pub enum StationRead {
+    Row(StationRow, usize),
+    Refused(u8, usize),
+}
+
+pub struct StationsRead {
+    pub accepted: bool,
+    pub refusal: u8,
+    pub place: usize,
+    pub rows: [StationRow; 16],
+}
+
+pub enum LineRead {
+    Row(LineRow, usize),
+    Refused(u8, usize),
+}
+
+pub struct LinesRead {
+    pub accepted: bool,
+    pub refusal: u8,
+    pub place: usize,
+    pub rows: [LineRow; 32],
+    pub fault: Fault,
+}
+
+// The network, what only the whole of it shows, and the place behind it; or a refusal's number and place beside a blank
+// network.
+pub struct Draft {
+    pub accepted: bool,
+    pub refusal: u8,
+    pub place: usize,
+    pub network: Network,
+    pub fault: Fault,
+}
+
+// Rows that are not used.
+pub fn empty_station() -> StationRow
+    ensures { λ r. ⌜ r ≡ blank-station ⌝ }
+{
+    StationRow {
+        station: Station(0),
+        area: Area(0),
+        tracks: 0,
+    }
+}
+
+pub fn empty_line() -> LineRow
+    ensures { λ r. ⌜ r ≡ blank-line ⌝ }
+{
+    LineRow {
+        line: Line(0),
+        first: Station(0),
+        second: Station(0),
+        kind: 0,
+        least: 0,
+        capacity: 0,
+    }
+}
+
+// The network that stands beside a refusal.
+pub fn blank_network() -> Network
+    ensures { λ r. ⌜ r ≡ blank-network ⌝ }
+{
+    Network {
+        stationcount: 0,
+        stations: [empty_station(); 16],
+        headway: 0,
+        linecount: 0,
+        lines: [empty_line(); 32],
+    }
+}
+
+fn no_fault() -> Fault
+    ensures { λ r. ⌜ r ≡ unjoined-fault none ⌝ }
+{
+    Fault {
+        number: 0,
+        place: 0,
+    }
+}
+
+fn station_from(v: [u16; 12]) -> StationRow
+    ensures { λ r. ⌜ (getD v 0 0 < 256 → getD v 1 0 < 256 → getD v 2 0 < 256 → r ≡ station-of v) ⌝ }
+{
+    StationRow {
+        station: Station(narrow(v[0])),
+        area: Area(narrow(v[1])),
+        tracks: narrow(v[2]),
+    }
+}
+
+// "(number, area, count of tracks 1..8)", the number above the one before.
+fn station_spans(before: u8) -> Spans
+    ensures { λ r. ⌜ ranges-of r ≡ (before + 1) to 16 ∷ 1 to 6 ∷ 1 to 8 ∷ [] ⌝ }
+{
+    let none = Span { lo: 0, hi: 0 };
+    let number = Span {
+        lo: before as u32 + 1,
+        hi: 16,
+    };
+    let area = Span { lo: 1, hi: 6 };
+    let tracks = Span { lo: 1, hi: 8 };
+    Spans {
+        count: 3,
+        spans: [number, area, tracks, none, none, none, none, none],
+    }
+}
+
+fn station_row(file: &[u8], at: usize, before: u8) -> StationRead
+    ensures { λ r. ⌜ r ≡ station-read (read (station-entry (before ∷ [])) (now (file .entry)) at) ⌝ }
+{
+    let read = row(file, at, station_spans(before));
+    if read.accepted {
+        let values = read.values;
+        return StationRead::Row(station_from(values), read.place);
+    }
+    StationRead::Refused(read.refusal, read.place)
+}
+
+fn refused_stations(refusal: u8, place: usize) -> StationsRead
+    ensures { λ r. ⌜ r ≡ stations-read (refused refusal place) ⌝ }
+{
+    StationsRead {
+        accepted: false,
+        refusal: refusal,
+        place: place,
+        rows: [empty_station(); 16],
+    }
+}
+
+fn stations(file: &[u8], at: usize, count: u8) -> StationsRead
+    requires { ⌜ count ≤ 16 ⌝ }
+    ensures { λ r. ⌜ r ≡ stations-read (read (stations-format count) (now (file .entry)) at) ⌝ }
+{
+    let n = count as usize;
+    let mut rows: [StationRow; 16] = [empty_station(); 16];
+    let mut place = at;
+    let mut before: u8 = 0;
+    let mut i: usize = 0;
+    while i < n {
+        let found = station_row(file, place, before);
+        match found {
+            StationRead::Refused(k, p) => {
+                return refused_stations(k, p);
+            }
+            StationRead::Row(row, next) => {
+                rows[i] = row;
+                before = row.station.0;
+                place = next;
+            }
+        }
+        i += 1;
+    }
+    StationsRead {
+        accepted: true,
+        refusal: 0,
+        place: place,
+        rows: rows,
+    }
+}
+
+fn line_from(v: [u16; 12]) -> LineRow
+    ensures { λ r. ⌜ (((i : ℕ) → i < 6 → getD v i 0 < 256) → r ≡ line-of v) ⌝ }
+{
+    LineRow {
+        line: Line(narrow(v[0])),
+        first: Station(narrow(v[1])),
+        second: Station(narrow(v[2])),
+        kind: narrow(v[3]),
+        least: narrow(v[4]),
+        capacity: narrow(v[5]),
+    }
+}
+
+// "(number, first station, second station, kind, least running time, capacity 1..9)", the number above the one before.
+fn line_spans(before: u8) -> Spans
+    ensures { λ r. ⌜ ranges-of r ≡ (before + 1) to 32 ∷ 1 to 16 ∷ 1 to 16 ∷ 1 to 3 ∷ 1 to 240 ∷ 1 to 9 ∷ [] ⌝ }
+{
+    let none = Span { lo: 0, hi: 0 };
+    let number = Span {
+        lo: before as u32 + 1,
+        hi: 32,
+    };
+    let end = Span { lo: 1, hi: 16 };
+    let kind = Span { lo: 1, hi: 3 };
+    let least = Span { lo: 1, hi: 240 };
+    let capacity = Span { lo: 1, hi: 9 };
+    Spans {
+        count: 6,
+        spans: [number, end, end, kind, least, capacity, none, none],
+    }
+}
+
+fn line_row(file: &[u8], at: usize, before: u8) -> LineRead
+    ensures { λ r. ⌜ r ≡ line-read (read (line-fields (before ∷ [])) (now (file .entry)) at) ⌝ }
+{
+    let read = row(file, at, line_spans(before));
+    if read.accepted {
+        let values = read.values;
+        return LineRead::Row(line_from(values), read.place);
+    }
+    LineRead::Refused(read.refusal, read.place)
+}
+
+// "4 a line's ends aren't two different listed stations"
+fn joined(known: Network, row: LineRow) -> bool
+    ensures { λ r. ⌜ r ≡ ends-listed known row ⌝ }
+{
+    if known.listed(row.first) {
+        if known.listed(row.second) {
+            return row.first.0 != row.second.0;
+        }
+    }
+    false
+}
+
+fn next_fault(known: Network, row: LineRow, at: usize, fault: Fault) -> Fault
+    ensures { λ r. ⌜ r ≡ fault-next known row at fault ⌝ }
+{
+    if fault.number != 0 {
+        return fault;
+    }
+    if joined(known, row) {
+        return fault;
+    }
+    Fault {
+        number: 4,
+        place: at,
+    }
+}
+
+fn refused_lines(known: Network, refusal: u8, place: usize) -> LinesRead
+    ensures { λ r. ⌜ r ≡ lines-read known (refused refusal place) ⌝ }
+{
+    LinesRead {
+        accepted: false,
+        refusal: refusal,
+        place: place,
+        rows: [empty_line(); 32],
+        fault: no_fault(),
+    }
+}
+
+// The lines, and the first of them that is not joined by the known stations.
+fn lines(file: &[u8], at: usize, count: u8, known: Network) -> LinesRead
+    requires { ⌜ count ≤ 32 ⌝ }
+    ensures { λ r. ⌜ r ≡ lines-read known (read (lines-format count) (now (file .entry)) at) ⌝ }
+{
+    let n = count as usize;
+    let mut rows: [LineRow; 32] = [empty_line(); 32];
+    let mut fault = no_fault();
+    let mut place = at;
+    let mut before: u8 = 0;
+    let mut i: usize = 0;
+    while i < n {
+        let found = line_row(file, place, before);
+        match found {
+            LineRead::Refused(k, p) => {
+                return refused_lines(known, k, p);
+            }
+            LineRead::Row(row, next) => {
+                rows[i] = row;
+                fault = next_fault(known, row, place, fault);
+                before = row.line.0;
+                place = next;
+            }
+        }
+        i += 1;
+    }
+    LinesRead {
+        accepted: true,
+        refusal: 0,
+        place: place,
+        rows: rows,
+        fault: fault,
+    }
+}
+
+fn refused_draft(refusal: u8, place: usize) -> Draft
+    ensures { λ r. ⌜ r ≡ draft-read (refused refusal place) ⌝ }
+{
+    Draft {
+        accepted: false,
+        refusal: refusal,
+        place: place,
+        network: blank_network(),
+        fault: no_fault(),
+    }
+}
+
+// The lines behind the stations and the headway that are known.
+fn lines_draft(file: &[u8], at: usize, count: u8, known: Network) -> Draft
+    requires { ⌜ count ≤ 32 ⌝ }
+    ensures { λ r. ⌜ ((x : Listed) → known ≡ before-lines x → r ≡ draft-read (read (lines-part x count) (now (file .entry)) at)) ⌝ }
+{
+    let read = lines(file, at, count, known);
+    if read.accepted {
+        let rows = read.rows;
+        let mut network = known;
+        network.linecount = count;
+        network.lines = rows;
+        let fault = read.fault;
+        return Draft {
+            accepted: true,
+            refusal: 0,
+            place: read.place,
+            network: network,
+            fault: fault,
+        };
+    }
+    refused_draft(read.refusal, read.place)
+}
+
+fn count_draft(file: &[u8], at: usize, known: Network) -> Draft
+    ensures { λ r. ⌜ ((x : Listed) → known ≡ before-lines x → r ≡ draft-read (read (count-part x) (now (file .entry)) at)) ⌝ }
+{
+    let count = field(file, at, 0, 32);
+    match count {
+        FieldRead::Refused(k, p) => refused_draft(k, p),
+        FieldRead::Value(n, next) => lines_draft(file, next, narrow(n), known),
+    }
+}
+
+fn headway_draft(file: &[u8], at: usize, known: Network) -> Draft
+    ensures { λ r. ⌜ ((x : Listed) → known ≡ before-lines x → r ≡ draft-read (read (headway-part x) (now (file .entry)) at)) ⌝ }
+{
+    let headway = field(file, at, 1, 30);
+    match headway {
+        FieldRead::Refused(k, p) => refused_draft(k, p),
+        FieldRead::Value(n, next) => {
+            let mut more = known;
+            more.headway = narrow(n);
+            count_draft(file, next, more)
+        }
+    }
+}
+
+fn stations_draft(file: &[u8], at: usize, count: u8) -> Draft
+    requires { ⌜ count ≤ 16 ⌝ }
+    ensures { λ r. ⌜ r ≡ draft-read (read (stations-part count) (now (file .entry)) at) ⌝ }
+{
+    let read = stations(file, at, count);
+    if read.accepted {
+        let rows = read.rows;
+        let mut known = blank_network();
+        known.stationcount = count;
+        known.stations = rows;
+        return headway_draft(file, read.place, known);
+    }
+    refused_draft(read.refusal, read.place)
+}
+
+// The network at the head of the file.
+pub fn read_draft(file: &[u8]) -> Draft
+    ensures { λ r. ⌜ r ≡ draft-read (read network-format (now (file .entry)) 0) ⌝ }
+{
+    let count = field(file, 0, 1, 16);
+    match count {
+        FieldRead::Refused(k, p) => refused_draft(k, p),
+        FieldRead::Value(n, next) => stations_draft(file, next, narrow(n)),
+    }
+}

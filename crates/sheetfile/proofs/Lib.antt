@@ -1,9 +1,0 @@
-pub mod BarLaws
-pub mod VisitLaws
-pub mod RelationLaws
-pub mod EnterLaws
-pub mod LoopLaws
-pub mod SheetEntries
-pub mod CallLaws
-pub mod InspectLaws
-pub mod PlaceLaws

@@ -1,0 +1,4 @@
+pub mod Types
+pub mod Calls
+pub mod Inspect
+pub mod between

@@ -1,0 +1,3 @@
+pub mod TimetableLaws
+pub mod CountLaws
+pub mod WritingCall

@@ -1,3 +1,0 @@
-pub mod Types
-pub mod Writing
-pub mod Parts
