@@ -1,0 +1,230 @@
+-- Networks and the input of `shift` read back, and only the written file reads to them. A network whose unused rows are
+-- blank is that of its rows in use; the rows that walk the format are those of a good network once every line joins two
+-- listed stations. Assumes nothing.
+use Prim.Native.Nat.{ℕ, _+_, _-_, _≤_}
+use mathlib.Core.Path.{_≡_, refl, sym, _∙_, ap, ap₂, subst}
+use mathlib.Core.List.{List, _∷_, _++_, map, flatMap}
+use mathlib.Core.Option.{Option, none, some}
+use native.Mathlib.Omega.{arith}
+use lib.Dec.{T, ltb, leb→le, lt→ltb}
+use lib.ListN.{length, replicate}
+use lib.Seq.{take-append-seam}
+use Rattle.base.specs.Lists.{every, first, rising}
+use Rattle.base.proofs.Tests.{T-true, both, parts, every-weaker, every-map}
+use Rattle.base.proofs.Sorted.{smaller, rising-map, two-map}
+use Rattle.numbers.specs.Numbers.{width}
+use Rattle.railway.specs.Edits.{edit-ok}
+use Rattle.network.specs.Networks.{station-rows, line-rows, stations-of, station-row-ok, line-row-ok, stations-rise, lines-rise, stations-in-range, lines-in-range}
+use Rattle.network.specs.Networks.{network-in-range, ends-listed, lines-joined, network-refusal}
+use Rattle.network.proofs.NetworkLaws.{NetworkFacts, network-facts}
+use Rattle.timetable.specs.Formats.{Outcome, accepted, behind, _and-then_, done, read-file, bytes-of, Placed}
+use Rattle.timetable.specs.NetworkFile.{station-numbers, line-numbers, Listed, network-format, blank-station, blank-line, network-with, network-of, unjoined, network-fault, unless-fault}
+use Rattle.timetable.specs.NetworkFile.{read-network, network-numbers}
+use Rattle.timetable.specs.EditsFile.{edits-format, edits-numbers, Shift, Input, shift-format, read-shift}
+use Rattle.roundtrips.specs.Types.{Edit, StationRow, LineRow, Network}
+use Rattle.roundtrips.proofs.Walks.{walks}
+use Rattle.roundtrips.specs.RoundTrips.{UnusedBlank, NetworkRead, NetworkRoundTrip, ShiftRead, ShiftRoundTrip}
+use Rattle.roundtrips.proofs.ListLaws.{first-none, none-first}
+use Rattle.timetable.proofs.OutcomeLaws.{behind-taken, fault-free, fault-taken, joined-free, free-joined}
+use Rattle.roundtrips.proofs.WalkLaws.{span, walks-then, then-walks, walks-made, made-walks, file-read, file-walks}
+use Rattle.roundtrips.proofs.RowLaws.{in-test, test-in, most-test, test-most, values-entries}
+use Rattle.roundtrips.proofs.NetworkWalks.{station-number, line-number, line-places, rows-of, rows-numbers, RowsIn, lines-at, walks-network, network-walks}
+use Rattle.roundtrips.proofs.EditTrips.{walks-edits-format, edits-format-walks}
+
+-- the rows of a network made of rows
+module _ (ss : List StationRow) (h : ℕ) (ls : List LineRow) where
+  pub rows-stations : station-rows (network-with ss h ls) ≡ ss
+  unfolding station-rows network-with
+  rows-stations = take-append-seam ss (replicate (16 - length ss) blank-station)
+
+  pub rows-lines : line-rows (network-with ss h ls) ≡ ls
+  unfolding line-rows network-with
+  rows-lines = take-append-seam ls (replicate (32 - length ls) blank-line)
+
+  pub numbers-with : network-numbers (network-with ss h ls) ≡ rows-numbers ss h ls
+  unfolding network-numbers network-with
+  numbers-with =
+      ap₂ (λ (a : List StationRow) (b : List LineRow). length ss ∷ (flatMap station-numbers a ++ (h ∷ length ls ∷ flatMap line-numbers b))) rows-stations rows-lines
+
+  pub blank-with : UnusedBlank (network-with ss h ls)
+  unfolding network-with
+  blank-with = ap₂ (λ (a : List StationRow) (b : List LineRow). network-with a h b) rows-stations rows-lines
+
+  pub range-with : RowsIn ss h ls → T (network-in-range (network-with ss h ls))
+  unfolding network-in-range stations-in-range lines-in-range stations-rise lines-rise network-with
+  range-with r =
+      let s₁ = in-test 1 16 (length ss) (r .station-count) in
+      let s₂ : T (every station-row-ok (station-rows (network-with ss h ls))) = rw rows-stations (r .stations .good) in
+      let s₃ : T (rising (map (λ r. r .station .0) (station-rows (network-with ss h ls)))) = rw (rows-stations, rising-map station-number ss) (r .stations .order) in
+      let h₁ = in-test 1 30 h (r .headway) in
+      let l₁ = most-test 32 (length ls) (r .line-count) in
+      let l₂ : T (every line-row-ok (line-rows (network-with ss h ls))) = rw rows-lines (r .lines .good) in
+      let l₃ : T (rising (map (λ r. r .line .0) (line-rows (network-with ss h ls)))) = rw (rows-lines, rising-map line-number ls) (r .lines .order) in
+      search both
+
+-- a listing whose lines are joined is a good network's
+
+refusal-none : (n : Network) → T (network-in-range n) → T (lines-joined n) → network-refusal n ≡ 0
+unfolding network-refusal
+refusal-none n r j = rw (T-true (network-in-range n) r, T-true (lines-joined n) j)
+
+module _ (x : Listed) where
+  pub joined : unjoined x ≡ none → T (lines-joined (network-of x))
+  unfolding unjoined lines-joined network-of
+  joined e =
+      rw (rows-lines (x .stations) (x .headway) (rows-of (x .lines)), every-map (ends-listed (network-of x)) (λ (l : Placed LineRow). l .entry) (x .lines))
+      (first-none (λ (l : Placed LineRow). ends-listed (network-of x) (l .entry)) (x .lines) e)
+
+  pub joined-none : T (every (ends-listed (network-of x)) (rows-of (x .lines))) → unjoined x ≡ none
+  unfolding unjoined
+  joined-none t =
+      none-first (λ (l : Placed LineRow). ends-listed (network-of x) (l .entry)) (x .lines)
+      (rw (every-map (ends-listed (network-of x)) (λ (l : Placed LineRow). l .entry) (x .lines)) at t)
+
+  pub listed-good : RowsIn (x .stations) (x .headway) (rows-of (x .lines)) → unjoined x ≡ none → network-refusal (network-of x) ≡ 0
+  unfolding network-of
+  listed-good r e = refusal-none (network-of x) (range-with (x .stations) (x .headway) (rows-of (x .lines)) r) (joined e)
+
+  pub of-numbers : network-numbers (network-of x) ≡ rows-numbers (x .stations) (x .headway) (rows-of (x .lines))
+  unfolding network-of
+  of-numbers = numbers-with (x .stations) (x .headway) (rows-of (x .lines))
+
+  pub of-blank : UnusedBlank (network-of x)
+  unfolding network-of
+  of-blank = blank-with (x .stations) (x .headway) (rows-of (x .lines))
+
+-- the rows of a good network
+
+module _ (n : Network) (g : network-refusal n ≡ 0) (u : UnusedBlank n) where
+  facts : NetworkFacts n
+  facts = network-facts n g
+
+  station-many : length (station-rows n) ≡ n .stationcount
+  unfolding network-with
+  station-many = ap (λ (m : Network). m .stationcount) u
+
+  line-many : length (line-rows n) ≡ n .linecount
+  unfolding network-with
+  line-many = ap (λ (m : Network). m .linecount) u
+
+  pub rows-in : RowsIn (station-rows n) (n .headway) (line-rows n)
+  unfolding stations-of station-row-ok line-row-ok
+  rows-in = record {
+    station-count = rw station-many (test-in 1 16 (n .stationcount) (omega arith) (facts .station-count));
+    stations = record {
+      good = facts .station-rows-ok;
+      above = every-weaker station-row-ok (λ r. ltb 0 (station-number r))
+          (λ r t. lt→ltb 0 (station-number r) (leb→le 1 (station-number r) (search parts))) (station-rows n) (facts .station-rows-ok);
+      order = rw (two-map (smaller (λ s. s .0)) (λ r. r .station) (station-rows n)) at (facts .stations-rise);
+    };
+    headway = test-in 1 30 (n .headway) (omega arith) (facts .headway);
+    line-count = rw line-many (test-most 32 (n .linecount) (omega arith) (facts .line-count));
+    lines = record {
+      good = facts .line-rows-ok;
+      above = every-weaker line-row-ok (λ r. ltb 0 (line-number r))
+          (λ r t. lt→ltb 0 (line-number r) (leb→le 1 (line-number r) (search parts))) (line-rows n) (facts .line-rows-ok);
+      order = facts .lines-rise;
+    };
+  }
+
+  pub rows-written : network-numbers n ≡ rows-numbers (station-rows n) (n .headway) (line-rows n)
+  rows-written = ap network-numbers (sym u) ∙ numbers-with (station-rows n) (n .headway) (line-rows n)
+
+  -- what the format gives, the lines from a place on
+  abbrev pub listing : ℕ → Listed
+  listing p = record { stations = station-rows n; headway = n .headway; lines = line-places p (line-rows n) }
+
+  pub listing-network : (p : ℕ) → network-of (listing p) ≡ n
+  unfolding network-of
+  listing-network p = ap (network-with (station-rows n) (n .headway)) (values-entries line-numbers p (line-rows n)) ∙ u
+
+  pub listing-joined : (p : ℕ) → unjoined (listing p) ≡ none
+  listing-joined p =
+      joined-none (listing p)
+      (subst (λ (ls : List LineRow). T (every (ends-listed (network-of (listing p))) ls)) (sym (values-entries line-numbers p (line-rows n)))
+      (subst (λ (m : Network). T (every (ends-listed m) (line-rows n))) (sym (listing-network p)) (facts .ends-listed)))
+
+  pub walks-listing : (p : ℕ) → walks network-format p (network-numbers n) (listing (lines-at p (station-rows n) (n .headway) (line-rows n)))
+  walks-listing p = rw rows-written (walks-network p (station-rows n) (n .headway) (line-rows n) rows-in)
+
+-- the network file
+
+pub network-trip : NetworkRoundTrip
+unfolding read-network behind
+network-trip = record {
+  back = λ n g u.
+      let q = lines-at 0 (station-rows n) (n .headway) (line-rows n) in
+      let e = file-read network-format (network-numbers n) (listing n g u q) (walks-listing n g u 0) in
+      ap (λ (o : Outcome Listed). behind o (λ x next. unless-fault (network-fault x) (accepted (network-of x) next))) e
+      ∙ fault-free (network-fault (listing n g u q)) (accepted (network-of (listing n g u q)) (span (network-numbers n))) (joined-free (listing n g u q) (listing-joined n g u q))
+      ∙ ap (λ (m : Network). accepted m (span (network-numbers n))) (listing-network n g u q);
+  only = λ file n next s e.
+      let (x, p, r, v) = behind-taken (read-file network-format file) (λ x next. unless-fault (network-fault x) (accepted (network-of x) next)) n next e in
+      let (j, t) = fault-taken (network-fault x) (accepted (network-of x) p) n next v in
+      let y : network-of x ≡ n = cc in
+      let z : p ≡ next = cc in
+      let w = file-walks network-format file x p s r in
+      let (k, i) = network-walks 0 (w .numbers) x (w .walk) in
+      subst (λ (n : Network). NetworkRead file n next) y (record {
+        file-is = w .bytes ∙ ap bytes-of (k ∙ sym (of-numbers x));
+        end = sym z ∙ w .end ∙ ap length (sym (w .bytes));
+        good = listed-good x i (free-joined x j);
+        unused = of-blank x;
+      });
+}
+
+-- the input of `shift`
+
+-- the value of the format of `shift`
+abbrev input : Listed → Placed (List Edit) → Input
+input x es = record { listed = x; edits = es }
+
+abbrev shift-of : Input → Shift
+shift-of x = record { network = network-of (x .listed); edits = x .edits }
+
+pub walks-shift : (n : Network) (g : network-refusal n ≡ 0) (u : UnusedBlank n) (es : List Edit) → length es ≤ 1000 → T (every edit-ok es)
+    → walks shift-format 0 (network-numbers n ++ edits-numbers es)
+    (input (listing n g u (lines-at 0 (station-rows n) (n .headway) (line-rows n))) (record { place = 0 + span (network-numbers n) + width (length es); entry = es }))
+unfolding shift-format
+walks-shift n g u es h t =
+    let x = listing n g u (lines-at 0 (station-rows n) (n .headway) (line-rows n)) in
+    walks-then network-format (λ x. edits-format and-then (λ es. done (input x es))) 0 (network-numbers n) (edits-numbers es) x _ (walks-listing n g u 0)
+    (walks-made (input x) edits-format (0 + span (network-numbers n)) (edits-numbers es) _ (walks-edits-format (0 + span (network-numbers n)) es h t))
+
+pub shift-trip : ShiftRoundTrip
+unfolding read-shift behind shift-format
+shift-trip = record {
+  back = λ n es g u h t.
+      let q = lines-at 0 (station-rows n) (n .headway) (line-rows n) in
+      let v = input (listing n g u q) (record { place = 0 + span (network-numbers n) + width (length es); entry = es }) in
+      let e = file-read shift-format (network-numbers n ++ edits-numbers es) v (walks-shift n g u es h t) in
+      let z : 0 + span (network-numbers n) + width (length es) ≡ span (network-numbers n) + width (length es) = omega arith in
+      ap (λ (o : Outcome Input). behind o (λ x next. unless-fault (network-fault (x .listed)) (accepted (shift-of x) next))) e
+      ∙ fault-free (network-fault (listing n g u q)) (accepted (shift-of v) (span (network-numbers n ++ edits-numbers es))) (joined-free (listing n g u q) (listing-joined n g u q))
+      ∙ ap₂ (λ (m : Network) (k : ℕ). accepted (record { network = m; edits = record { place = k; entry = es } }) (span (network-numbers n ++ edits-numbers es))) (listing-network n g u q) z;
+  only = λ file y next s e.
+      let (x, p, r, v) = behind-taken (read-file shift-format file) (λ x next. unless-fault (network-fault (x .listed)) (accepted (shift-of x) next)) y next e in
+      let (j, t) = fault-taken (network-fault (x .listed)) (accepted (shift-of x) p) y next v in
+      let f : shift-of x ≡ y = cc in
+      let z : p ≡ next = cc in
+      let w = file-walks shift-format file x p s r in
+      subst (λ (y : Shift). ShiftRead file y next) f (taken file x next (w .numbers) (w .walk) (w .bytes) (sym z ∙ w .end) (free-joined (x .listed) j));
+}
+  where
+    taken : (file : List ℕ) (x : Input) (next : ℕ) (ns : List ℕ) → walks shift-format 0 ns x → file ≡ bytes-of ns → next ≡ span ns → unjoined (x .listed) ≡ none
+        → ShiftRead file (shift-of x) next
+    taken file x next ns w b e j =
+        let s = then-walks network-format (λ x. edits-format and-then (λ es. done (input x es))) 0 ns x w in
+        let (es, v, q) = made-walks (input (s .value)) edits-format (0 + span (s .before)) (s .behind) x (s .second) in
+        let (k, i) = network-walks 0 (s .before) (s .value) (s .first) in
+        let (l, h, t, m) = edits-format-walks (0 + span (s .before)) (s .behind) es v in
+        let y : s .before ≡ network-numbers (network-of (s .value)) = k ∙ sym (of-numbers (s .value)) in
+        subst (λ (x : Input). ShiftRead file (shift-of x) next) q (record {
+          file-is = b ∙ ap bytes-of (s .whole ∙ ap₂ _++_ y l);
+          end = e ∙ ap length (sym b);
+          good = listed-good (s .value) i (subst (λ (x : Input). unjoined (x .listed) ≡ none) (sym q) j);
+          unused = of-blank (s .value);
+          few = h;
+          edits-good = t;
+          first = omega (arith, m, ap span y);
+        })

@@ -1,0 +1,138 @@
+-- Timetables read back, and only the written file reads to them. What is read is put in station by station, so it is
+-- written again as it was read. Assumes nothing.
+use Prim.Native.Nat.{ℕ, _+_}
+use mathlib.Core.Path.{_≡_, refl, sym, _∙_, ap, ap₂, subst}
+use mathlib.Core.Bool.{Bool, true, false, not}
+use mathlib.Core.List.{List, flatMap}
+use native.Mathlib.Omega.{arith}
+use lib.Dec.{T, eqb}
+use lib.ListN.{length}
+use borrow.Author.Tests.{ne-eqb}
+use Rattle.base.specs.Choice.{if_then_else_, _if_else_}
+use Rattle.base.specs.Lists.{each-two}
+use Rattle.base.proofs.Tests.{true-T}
+use Rattle.numbers.specs.Numbers.{width}
+use Rattle.network.specs.Networks.{network-in-range, lines-joined, network-refusal}
+use Rattle.timetable.specs.Formats.{Outcome, accepted, refused, behind, read-file, bytes-of}
+use Rattle.timetable.specs.EditsFile.{station-relation-numbers}
+use Rattle.timetable.specs.Machine.{Timetable, nothing-placed}
+use Rattle.timetable.specs.Good.{Whole}
+use Rattle.timetable.specs.TimetableFile.{StationVisit, visit-numbers, Entries, timetable-format, visit-refusal, relation-refusal}
+use Rattle.timetable.specs.TimetableFile.{enter-visit, enter-relation, entered, timetable-of}
+use Rattle.timetable.specs.TimetableFile.{read-timetable, timetable-numbers}
+use Rattle.roundtrips.specs.Types.{StationRelation, Network}
+use Rattle.roundtrips.specs.RoundTrips.{Bytes, TimetableRead, TimetableRoundTrip}
+use Rattle.timetable.proofs.OutcomeLaws.{clash, behind-taken}
+use Rattle.roundtrips.proofs.WalkLaws.{span, file-read, file-walks}
+use Rattle.roundtrips.proofs.RowLaws.{values-entries}
+use Rattle.roundtrips.proofs.OrderLaws.{before, visit-key, relation-key}
+use Rattle.roundtrips.proofs.TimetableWalks.{all-visits, all-relations, entries-of, VisitsIn, RelationsIn, file-numbers, file-entries, walks-timetable, timetable-walks}
+use Rattle.roundtrips.proofs.EnterLaws.{Clear, enters-all, clears-all}
+use Rattle.roundtrips.proofs.EnteredTables.{visit-station, with-visits, visit-known, visits-entering, no-visits}
+use Rattle.roundtrips.proofs.EnteredTables.{relation-station, with-relations, relation-known, relations-entering, no-relations}
+use Rattle.roundtrips.proofs.WrittenTables.{visits-in, visits-clear, relations-in, relations-clear, written-back}
+use Rattle.roundtrips.proofs.ReadTables.{visits-written, relations-written, made-whole}
+
+-- what the entries make
+
+abbrev VisitsClear : Network → List StationVisit → Type 0
+VisitsClear n vs = Clear visit-station (before visit-key) (visit-refusal n) enter-visit with-visits (visit-known n) 24 (visits-entering n) vs
+
+abbrev RelationsClear : Network → Timetable → List StationRelation → Type 0
+RelationsClear n m rs = Clear relation-station (before relation-key) (relation-refusal n) enter-relation (with-relations m) (relation-known n) 6 (relations-entering n m) rs
+
+module _ (n : Network) (x : Entries) (next : ℕ) where
+  pub entries-made : T (each-two (before visit-key) (entries-of (x .visits))) → T (each-two (before relation-key) (entries-of (x .relations)))
+      → VisitsClear n (entries-of (x .visits)) → RelationsClear n (with-visits (entries-of (x .visits))) (entries-of (x .relations))
+      → timetable-of n x next ≡ accepted (with-relations (with-visits (entries-of (x .visits))) (entries-of (x .relations))) next
+  unfolding timetable-of behind
+  entries-made o r c d =
+      let vs = entries-of (x .visits) in
+      ap (λ (o : Outcome Timetable). behind o (λ m next. entered (relation-refusal n) enter-relation (x .relations) m next))
+      (ap (λ (m : Timetable). entered (visit-refusal n) enter-visit (x .visits) m next) (sym no-visits)
+      ∙ clears-all visit-station (before visit-key) (visit-refusal n) enter-visit with-visits (visit-known n) 24 (visits-entering n) (x .visits) next o c)
+      ∙ ap (λ (m : Timetable). entered (relation-refusal n) enter-relation (x .relations) m next) (sym (no-relations vs))
+      ∙ clears-all relation-station (before relation-key) (relation-refusal n) enter-relation (with-relations (with-visits vs)) (relation-known n) 6
+      (relations-entering n (with-visits vs)) (x .relations) next r d
+
+  pub made-of : (m : Timetable) (last : ℕ) → T (each-two (before visit-key) (entries-of (x .visits))) → T (each-two (before relation-key) (entries-of (x .relations)))
+      → timetable-of n x next ≡ accepted m last
+      → (m ≡ with-relations (with-visits (entries-of (x .visits))) (entries-of (x .relations))) × (next ≡ last)
+      × VisitsClear n (entries-of (x .visits)) × RelationsClear n (with-visits (entries-of (x .visits))) (entries-of (x .relations))
+  unfolding timetable-of
+  made-of m last o r e =
+      let vs = entries-of (x .visits) in
+      let (k, p, u, v) = behind-taken (entered (visit-refusal n) enter-visit (x .visits) nothing-placed next)
+      (λ m next. entered (relation-refusal n) enter-relation (x .relations) m next) m last e in
+      let (a, b, c) = enters-all visit-station (before visit-key) (visit-refusal n) enter-visit with-visits (visit-known n) 24 (visits-entering n) (x .visits) next k p o
+      (ap (λ (m : Timetable). entered (visit-refusal n) enter-visit (x .visits) m next) no-visits ∙ u) in
+      let (f, g, d) = enters-all relation-station (before relation-key) (relation-refusal n) enter-relation (with-relations (with-visits vs)) (relation-known n) 6
+      (relations-entering n (with-visits vs)) (x .relations) p m last r
+      (ap (λ (m : Timetable). entered (relation-refusal n) enter-relation (x .relations) m p) (no-relations vs ∙ sym a) ∙ v) in
+      (f, b ∙ g, c, d)
+
+-- a network that is not refused with 3 or 4
+neither : (n : Network) → eqb (network-refusal n) 3 ≡ false → eqb (network-refusal n) 4 ≡ false → network-refusal n ≡ 0
+unfolding network-refusal
+neither n = go (network-in-range n) (lines-joined n)
+  where
+    go : (a b : Bool) → eqb (3 if not a else 4 if not b else 0) 3 ≡ false → eqb (3 if not a else 4 if not b else 0) 4 ≡ false → (3 if not a else 4 if not b else 0) ≡ 0
+    go true true e f = refl
+    go true false e f = absurd (true-T false (sym f))
+    go false b e f = absurd (true-T false (sym e))
+
+-- the entries of a whole timetable, read, make it
+written-read : (n : Network) (g : network-refusal n ≡ 0) (m : Timetable) → Whole n m → (next : ℕ)
+    → timetable-of n (file-entries 0 (all-visits n m) (all-relations n m)) next ≡ accepted m next
+written-read n g m w next =
+    let vs = all-visits n m in
+    let rs = all-relations n m in
+    let x = file-entries 0 vs rs in
+    let p : vs ≡ entries-of (x .visits) = sym (values-entries visit-numbers (0 + width (length vs)) vs) in
+    let q : rs ≡ entries-of (x .relations) = sym (values-entries station-relation-numbers (0 + width (length vs) + span (flatMap visit-numbers vs) + width (length rs)) rs) in
+    entries-made n x next (subst (λ (l : List StationVisit). T (each-two (before visit-key) l)) p (visits-in n g m w .order))
+    (subst (λ (l : List StationRelation). T (each-two (before relation-key) l)) q (relations-in n g m w .order))
+    (subst (VisitsClear n) p (visits-clear n g m w))
+    (subst (RelationsClear n (with-visits (entries-of (x .visits)))) q (relations-clear n g m w (with-visits (entries-of (x .visits)))))
+    ∙ ap (λ (m : Timetable). accepted m next)
+    (ap₂ (λ (vs : List StationVisit) (rs : List StationRelation). with-relations (with-visits vs) rs) (sym p) (sym q) ∙ written-back n g m w)
+
+-- what an accepted file gives
+taken : (n : Network) (file : List ℕ) (x : Entries) (p : ℕ) (m : Timetable) (next : ℕ) → network-refusal n ≡ 0 → (ns : List ℕ) → file ≡ bytes-of ns → p ≡ span ns
+    → (ns ≡ file-numbers (entries-of (x .visits)) (entries-of (x .relations))) × VisitsIn (entries-of (x .visits)) × RelationsIn (entries-of (x .relations))
+    → timetable-of n x p ≡ accepted m next → TimetableRead n file m next
+unfolding timetable-numbers
+taken n file x p m next g ns b e (k, i, j) v =
+    let vs = entries-of (x .visits) in
+    let rs = entries-of (x .relations) in
+    let (y, z, c, d) = made-of n x p m next (i .order) (j .order) v in
+    subst (λ (m : Timetable). TimetableRead n file m next) (sym y) (record {
+      file-is = b ∙ ap bytes-of (k ∙ sym (ap₂ file-numbers (visits-written n g vs rs i j c d) (relations-written n g vs rs i j c d)));
+      end = sym z ∙ e ∙ ap length (sym b);
+      network-good = g;
+      whole = made-whole n g vs rs i j c d;
+    })
+
+pub timetable-trip : TimetableRoundTrip
+unfolding read-timetable behind timetable-numbers
+timetable-trip = record {
+  back = λ n m g w.
+      let vs = all-visits n m in
+      let rs = all-relations n m in
+      let e = file-read timetable-format (file-numbers vs rs) (file-entries 0 vs rs) (walks-timetable 0 vs rs (visits-in n g m w) (relations-in n g m w)) in
+      rw (ne-eqb (network-refusal n) 3 (λ q. omega arith), ne-eqb (network-refusal n) 4 (λ q. omega arith))
+      (ap (λ (o : Outcome Entries). behind o (λ x next. timetable-of n x next)) e ∙ written-read n g m w (span (file-numbers vs rs)));
+  only = λ n file m next s e. go n file m next s (eqb (network-refusal n) 3) refl (eqb (network-refusal n) 4) refl e;
+}
+  where
+    go : (n : Network) (file : List ℕ) (m : Timetable) (next : ℕ) → Bytes file → (a : Bool) → eqb (network-refusal n) 3 ≡ a → (b : Bool) → eqb (network-refusal n) 4 ≡ b
+        → (if a then refused 3 0 else behind (read-file timetable-format file) (λ x next. if b then refused 4 0 else timetable-of n x next)) ≡ accepted m next
+        → TimetableRead n file m next
+    go n file m next s true u b v e = clash m next 3 0 e
+    go n file m next s false u true v e =
+        let (x, p, r, q) = behind-taken (read-file timetable-format file) (λ x next. refused 4 0) m next e in
+        clash m next 4 0 q
+    go n file m next s false u false v e =
+        let (x, p, r, q) = behind-taken (read-file timetable-format file) (λ x next. timetable-of n x next) m next e in
+        let w = file-walks timetable-format file x p s r in
+        taken n file x p m next (neither n u v) (w .numbers) (w .bytes) (w .end) (timetable-walks 0 (w .numbers) x (w .walk)) q

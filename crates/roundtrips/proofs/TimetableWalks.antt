@@ -1,0 +1,129 @@
+-- The timetable's format, walked: its numbers are the two counts and those of visits and relations in range, rising.
+-- Assumes nothing.
+use Prim.Native.Nat.{ℕ, _+_}
+use mathlib.Core.Path.{_≡_, refl, sym, _∙_, ap, ap₂, subst}
+use mathlib.Core.List.{List, [], _∷_, _++_, map, flatMap}
+use lib.Dec.{T}
+use lib.ListN.{length, length-map}
+use Rattle.base.specs.Lists.{every, each-two}
+use Rattle.numbers.specs.Numbers.{width}
+use Rattle.railway.specs.Edits.{station-relation-ok}
+use Rattle.network.specs.Networks.{stations-of}
+use Rattle.timetable.specs.Formats.{done, field, _and-then_, Placed}
+use Rattle.timetable.specs.EditsFile.{station-relation-entry, station-relation-numbers}
+use Rattle.timetable.specs.Machine.{Timetable}
+use Rattle.timetable.specs.TimetableFile.{StationVisit, visit-entry, visit-numbers, visit-bar, relation-bar, Entries, visits-format, relations-format}
+use Rattle.timetable.specs.TimetableFile.{timetable-format, visits-at, relations-at}
+use Rattle.roundtrips.specs.Types.{StationRelation, Network}
+use Rattle.roundtrips.proofs.Walks.{InRange, walks}
+use Rattle.roundtrips.proofs.WalkLaws.{span, walks-then, then-walks, walks-made, made-walks}
+use Rattle.roundtrips.proofs.RowLaws.{values, Entry, walks-places, places-walk}
+use Rattle.roundtrips.proofs.RelationWalks.{StationRelationFits, walks-station-relation, station-relation-walks}
+use Rattle.roundtrips.proofs.VisitWalks.{visit-ok, VisitFits, visit-law}
+use Rattle.roundtrips.proofs.OrderLaws.{before, visit-key, visits-chain, chain-visits, relation-key, relations-chain, chain-relations}
+
+-- entries with their places, and without
+
+abbrev pub set-out : {A : Type 0} → (A → List ℕ) → ℕ → List A → List (Placed A)
+set-out numbers p xs = values numbers (λ p x. record { place = p; entry = x }) p xs
+
+abbrev pub entries-of : {A : Type 0} → List (Placed A) → List A
+entries-of vs = map (λ (v : Placed _). v .entry) vs
+
+-- in range and rising
+pub record VisitsIn (vs : List StationVisit) : Type 0 where
+  pub many : InRange 0 384 (length vs)
+  pub good : T (every visit-ok vs)
+  pub order : T (each-two (before visit-key) vs)
+
+pub record RelationsIn (rs : List StationRelation) : Type 0 where
+  pub many : InRange 0 96 (length rs)
+  pub good : T (every station-relation-ok rs)
+  pub order : T (each-two (before relation-key) rs)
+
+relation-law : Entry station-relation-entry station-relation-numbers StationRelationFits
+relation-law = record { walk = walks-station-relation; back = station-relation-walks }
+
+walks-visits : (p : ℕ) (vs : List StationVisit) → VisitsIn vs → walks (visits-format (length vs)) p (flatMap visit-numbers vs) (set-out visit-numbers p vs)
+unfolding visits-format visit-bar
+walks-visits p vs i = walks-places visit-entry visit-numbers visit-key VisitFits visit-law vs [] p (visits-chain vs (i .good) (i .order))
+
+walks-relations : (p : ℕ) (rs : List StationRelation) → RelationsIn rs
+    → walks (relations-format (length rs)) p (flatMap station-relation-numbers rs) (set-out station-relation-numbers p rs)
+unfolding relations-format relation-bar
+walks-relations p rs i =
+    walks-places station-relation-entry station-relation-numbers station-relation-numbers StationRelationFits relation-law rs [] p (relations-chain rs (i .good) (i .order))
+
+-- the numbers of a file
+abbrev pub file-numbers : List StationVisit → List StationRelation → List ℕ
+file-numbers vs rs = length vs ∷ (flatMap visit-numbers vs ++ (length rs ∷ flatMap station-relation-numbers rs))
+
+-- all visits of a timetable, and all relations, as they are written
+abbrev pub all-visits : Network → Timetable → List StationVisit
+all-visits n m = flatMap (visits-at m) (stations-of n)
+
+abbrev pub all-relations : Network → Timetable → List StationRelation
+all-relations n m = flatMap (relations-at m) (stations-of n)
+
+-- what they give, from a place on
+abbrev pub file-entries : ℕ → List StationVisit → List StationRelation → Entries
+file-entries p vs rs = record {
+  visits = set-out visit-numbers (p + width (length vs)) vs;
+  relations = set-out station-relation-numbers (p + width (length vs) + span (flatMap visit-numbers vs) + width (length rs)) rs;
+}
+
+pub walks-timetable : (p : ℕ) (vs : List StationVisit) (rs : List StationRelation) → VisitsIn vs → RelationsIn rs
+    → walks timetable-format p (file-numbers vs rs) (file-entries p vs rs)
+unfolding walks timetable-format
+walks-timetable p vs rs i j = (
+  i .many,
+  walks-then (visits-format (length vs)) (λ vs. field 0 96 (λ m. relations-format m and-then (λ rs. done (record { visits = vs; relations = rs }))))
+      (p + width (length vs)) (flatMap visit-numbers vs) (length rs ∷ flatMap station-relation-numbers rs) (set-out visit-numbers (p + width (length vs)) vs) _
+      (walks-visits (p + width (length vs)) vs i) (
+        j .many,
+        walks-made (λ rs. record { visits = set-out visit-numbers (p + width (length vs)) vs; relations = rs }) (relations-format (length rs)) _
+            (flatMap station-relation-numbers rs) _
+            (walks-relations _ rs j),
+      ),
+)
+
+visits-walk : (k p : ℕ) (ns : List ℕ) (vs : List (Placed StationVisit)) → walks (visits-format k) p ns vs → InRange 0 384 k
+    → (ns ≡ flatMap visit-numbers (entries-of vs)) × VisitsIn (entries-of vs) × (length (entries-of vs) ≡ k)
+unfolding visits-format visit-bar
+visits-walk k p ns vs w r =
+    let (x, c, l) = places-walk visit-entry visit-numbers visit-key VisitFits visit-law k [] p ns vs w in
+    let (t, o) = chain-visits (entries-of vs) c in
+    let z : length (entries-of vs) ≡ k = length-map vs (λ v. v .entry) ∙ l in
+    (x, record { many = rw z r; good = t; order = o }, z)
+
+relations-walk : (k p : ℕ) (ns : List ℕ) (rs : List (Placed StationRelation)) → walks (relations-format k) p ns rs → InRange 0 96 k
+    → (ns ≡ flatMap station-relation-numbers (entries-of rs)) × RelationsIn (entries-of rs) × (length (entries-of rs) ≡ k)
+unfolding relations-format relation-bar
+relations-walk k p ns rs w r =
+    let (x, c, l) = places-walk station-relation-entry station-relation-numbers station-relation-numbers StationRelationFits relation-law k [] p ns rs w in
+    let (t, o) = chain-relations (entries-of rs) c in
+    let z : length (entries-of rs) ≡ k = length-map rs (λ v. v .entry) ∙ l in
+    (x, record { many = rw z r; good = t; order = o }, z)
+
+pub timetable-walks : (p : ℕ) (ns : List ℕ) (x : Entries) → walks timetable-format p ns x
+    → (ns ≡ file-numbers (entries-of (x .visits)) (entries-of (x .relations))) × VisitsIn (entries-of (x .visits)) × RelationsIn (entries-of (x .relations))
+unfolding walks timetable-format
+timetable-walks p [] x w = absurd w
+timetable-walks p (k ∷ ns) x (a, w) =
+    let s = then-walks (visits-format k) (λ vs. field 0 96 (λ m. relations-format m and-then (λ rs. done (record { visits = vs; relations = rs })))) (p + width k) ns x w in
+    let (e, i, l) = visits-walk k (p + width k) (s .before) (s .value) (s .first) a in
+    let (q, u, j) = later (s .value) (p + width k + span (s .before)) (s .behind) (s .second) in (
+      ap₂ (λ (k : ℕ) (l : List ℕ). k ∷ l) (sym l ∙ ap (λ (vs : List (Placed StationVisit)). length (entries-of vs)) q)
+          (s .whole ∙ ap₂ _++_ (e ∙ ap (λ (vs : List (Placed StationVisit)). flatMap visit-numbers (entries-of vs)) q) u),
+      subst (λ (vs : List (Placed StationVisit)). VisitsIn (entries-of vs)) q i,
+      j,
+    )
+  where
+    later : (vs : List (Placed StationVisit)) (p : ℕ) (ns : List ℕ)
+        → walks (field 0 96 (λ m. relations-format m and-then (λ rs. done (record { visits = vs; relations = rs })))) p ns x
+        → (vs ≡ x .visits) × (ns ≡ length (entries-of (x .relations)) ∷ flatMap station-relation-numbers (entries-of (x .relations))) × RelationsIn (entries-of (x .relations))
+    later vs p [] w = absurd w
+    later vs p (m ∷ ns) (b, w) =
+        let (rs, v, e) = made-walks (λ rs. record { visits = vs; relations = rs }) (relations-format m) (p + width m) ns x w in
+        let (y, j, l) = relations-walk m (p + width m) ns rs v b in
+        rw (← e) (refl, ap₂ (λ (m : ℕ) (l : List ℕ). m ∷ l) (sym l) y, j)

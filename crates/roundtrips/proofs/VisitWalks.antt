@@ -1,0 +1,226 @@
+-- A visit's entry, walked: its first seven numbers are a row, then come the links, each a single 0 for none. Assumes
+-- nothing.
+use Prim.Native.Nat.{ℕ, zero, suc, _+_}
+use mathlib.Core.Path.{_≡_, refl, sym, _∙_, ap, ap₂, subst}
+use mathlib.Core.Bool.{Bool, true, false, _&&_}
+use mathlib.Core.List.{List, [], _∷_, _++_}
+use native.Mathlib.Omega.{arith}
+use lib.Dec.{T, eqb}
+use lib.ListN.{getD}
+use borrow.Author.Tests.{eqb-true, eqb-false, ne-eqb}
+use Rattle.base.specs.Choice.{if_then_else_, _if_else_}
+use Rattle.base.specs.Lists.{within}
+use Rattle.base.proofs.Tests.{both, parts}
+use Rattle.numbers.specs.Numbers.{width}
+use Rattle.railway.specs.Ranges.{station-ok, train-ok, track-ok, line-ok, minute-ok, run-ok}
+use Rattle.timetable.specs.Formats.{done, field, _and-then_, row}
+use Rattle.timetable.specs.TimetableFile.{StationVisit, visit-ranges, status-number, in-link-entry, out-link-entry, in-link-numbers, out-link-numbers}
+use Rattle.timetable.specs.TimetableFile.{station-visit-of, visit-entry, visit-numbers}
+use Rattle.roundtrips.specs.Types.{InLink, OutLink}
+use Rattle.roundtrips.proofs.Walks.{InRange, walks}
+use Rattle.roundtrips.proofs.WalkLaws.{span, walks-then, then-walks, walks-made, made-walks}
+use Rattle.roundtrips.proofs.RowLaws.{Over, in-test, test-in, most-test, test-most, RowIn, walks-row, row-walks, by-index, row-exact, row-at, Entry}
+
+-- links
+
+unfoldable pub in-link-ok : InLink → Bool
+in-link-ok InLink.Nothing = true
+in-link-ok (InLink.From i) = station-ok (i .station) && line-ok (i .line)
+
+unfoldable pub out-link-ok : OutLink → Bool
+out-link-ok OutLink.Nothing = true
+out-link-ok (OutLink.To o) = station-ok (o .station) && (line-ok (o .line) && run-ok (o .run))
+
+-- a number above 0, from 0 on
+from-zero : (hi n : ℕ) → InRange 1 hi n → InRange 0 hi n
+from-zero hi n r = record { low = omega arith; high = r .high; short = r .short }
+
+from-one : (hi n : ℕ) → InRange 0 hi n → eqb n 0 ≡ false → InRange 1 hi n
+from-one hi n r e = record { low = omega (arith, eqb-false n 0 e); high = r .high; short = r .short }
+
+pub walks-in : (p : ℕ) (i : InLink) → T (in-link-ok i) → walks in-link-entry p (in-link-numbers i) i
+unfolding walks in-link-entry in-link-numbers in-link-ok
+walks-in p InLink.Nothing t = (record { low = omega arith; high = omega arith; short = omega arith }, refl)
+walks-in p (InLink.From i) t =
+    let s : InRange 1 16 (i .station .0) = test-in 1 16 (i .station .0) (omega arith) (search parts) in (
+      from-zero 16 (i .station .0) s,
+      rw (ne-eqb (i .station .0) 0 (λ e. omega (arith, s .low))) (test-in 1 32 (i .line .0) (omega arith) (search parts), refl),
+    )
+
+pub in-walks : (p : ℕ) (ns : List ℕ) (i : InLink) → walks in-link-entry p ns i → (ns ≡ in-link-numbers i) × T (in-link-ok i)
+unfolding walks in-link-entry in-link-numbers in-link-ok
+in-walks p [] i w = absurd w
+in-walks p (s ∷ ns) i (r, w) = go (eqb s 0) refl ns w
+  where
+    go : (b : Bool) → eqb s 0 ≡ b → (ns : List ℕ)
+        → walks (if b then done InLink.Nothing else field 1 32 (λ l. done (InLink.From (record { station = record { 0 = s }; line = record { 0 = l } })))) (p + width s) ns i
+        → (s ∷ ns ≡ in-link-numbers i) × T (in-link-ok i)
+    go true e [] w = rw (← w) (ap (λ (k : ℕ). k ∷ []) (eqb-true s 0 e), tt)
+    go true e (n ∷ ns) w = absurd w
+    go false e [] w = absurd w
+    go false e (l ∷ []) (q, w) = rw (← w) (refl, both (within 1 16 s) (within 1 32 l) (in-test 1 16 s (from-one 16 s r e)) (in-test 1 32 l q))
+    go false e (l ∷ n ∷ ns) (q, w) = absurd w
+
+pub walks-out : (p : ℕ) (o : OutLink) → T (out-link-ok o) → walks out-link-entry p (out-link-numbers o) o
+unfolding walks out-link-entry out-link-numbers out-link-ok
+walks-out p OutLink.Nothing t = (record { low = omega arith; high = omega arith; short = omega arith }, refl)
+walks-out p (OutLink.To o) t =
+    let s : InRange 1 16 (o .station .0) = test-in 1 16 (o .station .0) (omega arith) (search parts) in (
+      from-zero 16 (o .station .0) s,
+      rw (ne-eqb (o .station .0) 0 (λ e. omega (arith, s .low)))
+          (test-in 1 32 (o .line .0) (omega arith) (search parts), (test-in 1 240 (o .run) (omega arith) (search parts), refl)),
+    )
+
+pub out-walks : (p : ℕ) (ns : List ℕ) (o : OutLink) → walks out-link-entry p ns o → (ns ≡ out-link-numbers o) × T (out-link-ok o)
+unfolding walks out-link-entry out-link-numbers out-link-ok
+out-walks p [] o w = absurd w
+out-walks p (s ∷ ns) o (r, w) = go (eqb s 0) refl ns w
+  where
+    go : (b : Bool) → eqb s 0 ≡ b → (ns : List ℕ)
+        → walks (if b then done OutLink.Nothing
+        else field 1 32 (λ l. field 1 240 (λ m. done (OutLink.To (record { station = record { 0 = s }; line = record { 0 = l }; run = m }))))) (p + width s) ns o
+        → (s ∷ ns ≡ out-link-numbers o) × T (out-link-ok o)
+    go true e [] w = rw (← w) (ap (λ (k : ℕ). k ∷ []) (eqb-true s 0 e), tt)
+    go true e (n ∷ ns) w = absurd w
+    go false e [] w = absurd w
+    go false e (l ∷ []) (q, w) = absurd w
+    go false e (l ∷ m ∷ []) (q, (u, w)) =
+        let t₁ = in-test 1 16 s (from-one 16 s r e) in
+        let t₂ = in-test 1 32 l q in
+        let t₃ = in-test 1 240 m u in
+        rw (← w) (refl, search both)
+    go false e (l ∷ m ∷ n ∷ ns) (q, (u, w)) = absurd w
+
+-- the row
+
+-- "s, t, track, arrival, status, departure, status"
+abbrev pub visit-row : StationVisit → List ℕ
+visit-row e =
+    e .station .0 ∷ e .train .0 ∷ e .visit .track .0
+    ∷ e .visit .arrival .0 ∷ status-number (e .visit .arrived)
+    ∷ e .visit .departure .0 ∷ status-number (e .visit .departed) ∷ []
+
+unfoldable pub visit-ok : StationVisit → Bool
+visit-ok e =
+    (station-ok (e .station) && train-ok (e .train))
+    && ((track-ok (e .visit .track) && (minute-ok (e .visit .arrival) && minute-ok (e .visit .departure)))
+    && (in-link-ok (e .visit .inward) && out-link-ok (e .visit .outward)))
+
+status-in : (b : Bool) → InRange 0 1 (status-number b)
+unfolding status-number
+status-in true = record { low = omega arith; high = omega arith; short = omega arith }
+status-in false = record { low = omega arith; high = omega arith; short = omega arith }
+
+status-back : (b : Bool) → eqb (status-number b) 1 ≡ b
+unfolding status-number
+status-back true = refl
+status-back false = refl
+
+back-status : (n : ℕ) → InRange 0 1 n → status-number (eqb n 1) ≡ n
+unfolding status-number
+back-status zero r = refl
+back-status (suc zero) r = refl
+back-status (suc (suc n)) r = absurd (omega (arith, r .high))
+
+row-in : (e : StationVisit) → T (visit-ok e) → RowIn visit-ranges (visit-row e)
+unfolding RowIn visit-ranges visit-ok
+row-in e t = (
+  test-in 1 16 (e .station .0) (omega arith) (search parts),
+  (
+    test-in 1 9999 (e .train .0) (omega arith) (search parts),
+    (
+      test-in 1 8 (e .visit .track .0) (omega arith) (search parts),
+      (
+        test-most 2879 (e .visit .arrival .0) (omega arith) (search parts),
+        (
+          status-in (e .visit .arrived),
+          (
+            test-most 2879 (e .visit .departure .0) (omega arith) (search parts),
+            (status-in (e .visit .departed), tt),
+          ),
+        ),
+      ),
+    ),
+  ),
+)
+
+row-back : (e : StationVisit) → station-visit-of (visit-row e) (e .visit .inward) (e .visit .outward) ≡ e
+unfolding station-visit-of
+row-back e =
+    ap₂ (λ (a d : Bool). record {
+      station = e .station;
+      train = e .train;
+      visit = record {
+        track = e .visit .track;
+        arrival = e .visit .arrival;
+        arrived = a;
+        departure = e .visit .departure;
+        departed = d;
+        inward = e .visit .inward;
+        outward = e .visit .outward;
+      };
+    }) (status-back (e .visit .arrived)) (status-back (e .visit .departed))
+
+-- the numbers of a row, and links, make a visit in range that is written with them
+module _ (ns : List ℕ) (r : RowIn visit-ranges ns) (i : InLink) (o : OutLink) where
+  row-written : ns ≡ visit-row (station-visit-of ns i o)
+  unfolding station-visit-of visit-ranges by-index
+  row-written =
+      row-exact visit-ranges ns r
+      ∙ ap₂ (λ (a d : ℕ). getD ns 0 0 ∷ getD ns 1 0 ∷ getD ns 2 0 ∷ getD ns 3 0 ∷ a ∷ getD ns 5 0 ∷ d ∷ [])
+      (sym (back-status (getD ns 4 0) (row-at visit-ranges ns r 4 (omega arith))))
+      (sym (back-status (getD ns 6 0) (row-at visit-ranges ns r 6 (omega arith))))
+
+  row-good : T (in-link-ok i) → T (out-link-ok o) → T (visit-ok (station-visit-of ns i o))
+  unfolding station-visit-of visit-ranges visit-ok
+  row-good u v =
+      let t₁ = in-test 1 16 (getD ns 0 0) (row-at visit-ranges ns r 0 (omega arith)) in
+      let t₂ = in-test 1 9999 (getD ns 1 0) (row-at visit-ranges ns r 1 (omega arith)) in
+      let t₃ = in-test 1 8 (getD ns 2 0) (row-at visit-ranges ns r 2 (omega arith)) in
+      let t₄ = most-test 2879 (getD ns 3 0) (row-at visit-ranges ns r 3 (omega arith)) in
+      let t₅ = most-test 2879 (getD ns 5 0) (row-at visit-ranges ns r 5 (omega arith)) in
+      search both
+
+-- the entry
+
+-- in range, and its row above the bar
+abbrev pub VisitFits : List ℕ → StationVisit → Type 0
+VisitFits bar e = T (visit-ok e) × Over bar (visit-row e)
+
+pub walks-visit : (bar : List ℕ) (p : ℕ) (e : StationVisit) → VisitFits bar e → walks (visit-entry bar) p (visit-numbers e) e
+unfolding visit-entry visit-numbers visit-ok
+walks-visit bar p e (t, o) =
+    let i = e .visit .inward in
+    let u = e .visit .outward in
+    let q = p + span (visit-row e) in
+    subst (walks (visit-entry bar) p (visit-numbers e)) (row-back e)
+    (walks-then (row visit-ranges bar) (λ ns. in-link-entry and-then (λ i. out-link-entry and-then (λ o. done (station-visit-of ns i o))))
+    p (visit-row e) (in-link-numbers i ++ out-link-numbers u) (visit-row e) _ (walks-row visit-ranges bar p (visit-row e) (row-in e t) o)
+    (walks-then in-link-entry (λ i. out-link-entry and-then (λ o. done (station-visit-of (visit-row e) i o)))
+    q (in-link-numbers i) (out-link-numbers u) i _ (walks-in q i (search parts))
+    (walks-made (station-visit-of (visit-row e) i) out-link-entry (q + span (in-link-numbers i)) (out-link-numbers u) u
+    (walks-out (q + span (in-link-numbers i)) u (search parts)))))
+
+-- the numbers of the three parts, put together
+visit-parts : (bar xs ms ys zs : List ℕ) (i : InLink) (o : OutLink) → xs ≡ ms → RowIn visit-ranges ms → Over bar ms → ys ≡ in-link-numbers i → T (in-link-ok i)
+    → zs ≡ out-link-numbers o → T (out-link-ok o) → (xs ++ (ys ++ zs) ≡ visit-numbers (station-visit-of ms i o)) × VisitFits bar (station-visit-of ms i o)
+unfolding visit-numbers station-visit-of
+visit-parts bar xs ms ys zs i o x y z a b c d =
+    let m : ms ≡ visit-row (station-visit-of ms i o) = row-written ms y i o in
+    (ap₂ _++_ (x ∙ m) (ap₂ _++_ a c), (row-good ms y i o b d, subst (Over bar) m z))
+
+pub visit-walks : (bar : List ℕ) (p : ℕ) (ns : List ℕ) (e : StationVisit) → walks (visit-entry bar) p ns e → (ns ≡ visit-numbers e) × VisitFits bar e
+unfolding visit-entry
+visit-walks bar p ns e w =
+    let s = then-walks (row visit-ranges bar) (λ ns. in-link-entry and-then (λ i. out-link-entry and-then (λ o. done (station-visit-of ns i o)))) p ns e w in
+    let r = then-walks in-link-entry (λ i. out-link-entry and-then (λ o. done (station-visit-of (s .value) i o))) (p + span (s .before)) (s .behind) e (s .second) in
+    let (o, v, q) = made-walks (station-visit-of (s .value) (r .value)) out-link-entry (p + span (s .before) + span (r .before)) (r .behind) e (r .second) in
+    let (x, y, z) = row-walks visit-ranges bar p (s .before) (s .value) (s .first) in
+    let (a, b) = in-walks (p + span (s .before)) (r .before) (r .value) (r .first) in
+    let (c, d) = out-walks (p + span (s .before) + span (r .before)) (r .behind) o v in
+    let (k, f) = visit-parts bar (s .before) (s .value) (r .before) (r .behind) (r .value) o x y z a b c d in
+    let l : ns ≡ s .before ++ (r .before ++ r .behind) = s .whole ∙ ap (λ (l : List ℕ). s .before ++ l) (r .whole) in
+    (l ∙ k ∙ ap visit-numbers q, subst (VisitFits bar) q f)
+
+pub visit-law : Entry visit-entry visit-numbers VisitFits
+visit-law = record { walk = walks-visit; back = visit-walks }

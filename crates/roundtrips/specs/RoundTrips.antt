@@ -1,0 +1,113 @@
+-- What is promised of files: what is written reads back to the same, and nothing but the written file reads to it.
+-- Document 01, "Files"; docs/DECISIONS.md, "Files": "A written file is the only file that reads to that timetable, as
+-- every number has one shortest form and every order is strict." The proofs are in proofs/; nothing here is proved. A
+-- reader needs the definitions of the crate timetable: Formats (reading, and the bytes of numbers), NetworkFile,
+-- EditsFile, TimetableFile.
+--
+-- The letters: file the bytes of a file, at and next places in it, n a network, e an edit, es a list of edits, m a
+-- timetable. `T b` says that the test b passes. `bytes-of (x-numbers x)` is the file that is written for x. A record
+-- collects what is promised together. Assumes nothing.
+use Prim.Native.Nat.{ℕ, _+_, _≤_, _<_}
+use mathlib.Core.Path.{_≡_}
+use mathlib.Core.List.{List, _++_}
+use lib.Dec.{T}
+use lib.ListN.{length, getD, drop}
+use Rattle.base.specs.Lists.{every}
+use Rattle.numbers.specs.Numbers.{width}
+use Rattle.railway.specs.Edits.{edit-ok}
+use Rattle.network.specs.Networks.{station-rows, line-rows, network-refusal}
+use Rattle.timetable.specs.Formats.{accepted, read, bytes-of, Placed}
+use Rattle.timetable.specs.NetworkFile.{network-with, read-network, network-numbers}
+use Rattle.timetable.specs.EditsFile.{edit-entry, edit-numbers, read-edits, edits-numbers, Shift, read-shift}
+use Rattle.timetable.specs.Machine.{Timetable}
+use Rattle.timetable.specs.Good.{Whole}
+use Rattle.timetable.specs.TimetableFile.{read-timetable, timetable-numbers}
+use Rattle.roundtrips.specs.Types.{Edit, Network}
+
+-- a file is bytes
+abbrev pub Bytes : List ℕ → Type 0
+Bytes file = (i : ℕ) → getD file i 0 < 256
+
+-- what is written is a file, whatever the numbers
+abbrev pub WrittenIsBytes : Type 0
+WrittenIsBytes = (ns : List ℕ) → Bytes (bytes-of ns)
+
+-- networks
+
+-- the rows that are not used are blank: of a network in memory they may hold anything, of one that was read they are
+-- blank
+abbrev pub UnusedBlank : Network → Type 0
+UnusedBlank n = network-with (station-rows n) (n .headway) (line-rows n) ≡ n
+
+-- a network that was read: "A good network is one that 3 and 4 don't refuse."
+pub record NetworkRead (file : List ℕ) (n : Network) (next : ℕ) : Type 0 where
+  pub file-is : file ≡ bytes-of (network-numbers n)
+  pub end : next ≡ length file
+  pub good : network-refusal n ≡ 0
+  pub unused : UnusedBlank n
+
+pub record NetworkRoundTrip : Type 0 where
+  pub back : (n : Network) → network-refusal n ≡ 0 → UnusedBlank n → read-network (bytes-of (network-numbers n)) ≡ accepted n (length (bytes-of (network-numbers n)))
+  pub only : (file : List ℕ) (n : Network) (next : ℕ) → Bytes file → read-network file ≡ accepted n next → NetworkRead file n next
+
+-- edits
+
+-- an edit that was read at a place: in range, and its bytes are those that it is written with
+pub record EditRead (file : List ℕ) (at : ℕ) (e : Edit) (next : ℕ) : Type 0 where
+  pub good : T (edit-ok e)
+  pub bytes : drop at file ≡ bytes-of (edit-numbers e) ++ drop next file
+  pub end : next ≡ at + length (bytes-of (edit-numbers e))
+
+-- every edit in range, written at a place of a file with anything behind it, is read there; and what is read there was
+-- written so
+pub record EditRoundTrip : Type 0 where
+  pub back : (e : Edit) (file : List ℕ) (at : ℕ) (rest : List ℕ) → T (edit-ok e) → drop at file ≡ bytes-of (edit-numbers e) ++ rest
+      → read edit-entry file at ≡ accepted e (at + length (bytes-of (edit-numbers e)))
+  pub only : (file : List ℕ) (at : ℕ) (e : Edit) (next : ℕ) → Bytes file → read edit-entry file at ≡ accepted e next → EditRead file at e next
+
+-- "Edits: count (0..1000)"
+pub record EditsRead (file : List ℕ) (es : Placed (List Edit)) (next : ℕ) : Type 0 where
+  pub file-is : file ≡ bytes-of (edits-numbers (es .entry))
+  pub end : next ≡ length file
+  pub few : length (es .entry) ≤ 1000
+  pub good : T (every edit-ok (es .entry))
+  -- the first edit stands behind the count
+  pub first : es .place ≡ width (length (es .entry))
+
+pub record EditsRoundTrip : Type 0 where
+  pub back : (es : List Edit) → length es ≤ 1000 → T (every edit-ok es)
+      → read-edits (bytes-of (edits-numbers es)) ≡ accepted (record { place = width (length es); entry = es }) (length (bytes-of (edits-numbers es)))
+  pub only : (file : List ℕ) (es : Placed (List Edit)) (next : ℕ) → Bytes file → read-edits file ≡ accepted es next → EditsRead file es next
+
+-- "network, then edits"
+pub record ShiftRead (file : List ℕ) (x : Shift) (next : ℕ) : Type 0 where
+  pub file-is : file ≡ bytes-of (network-numbers (x .network) ++ edits-numbers (x .edits .entry))
+  pub end : next ≡ length file
+  pub good : network-refusal (x .network) ≡ 0
+  pub unused : UnusedBlank (x .network)
+  pub few : length (x .edits .entry) ≤ 1000
+  pub edits-good : T (every edit-ok (x .edits .entry))
+  -- the first edit stands behind the network and the count
+  pub first : x .edits .place ≡ length (bytes-of (network-numbers (x .network))) + width (length (x .edits .entry))
+
+pub record ShiftRoundTrip : Type 0 where
+  pub back : (n : Network) (es : List Edit) → network-refusal n ≡ 0 → UnusedBlank n → length es ≤ 1000 → T (every edit-ok es)
+      → read-shift (bytes-of (network-numbers n ++ edits-numbers es))
+      ≡ accepted (record { network = n; edits = record { place = length (bytes-of (network-numbers n)) + width (length es); entry = es } })
+      (length (bytes-of (network-numbers n ++ edits-numbers es)))
+  pub only : (file : List ℕ) (x : Shift) (next : ℕ) → Bytes file → read-shift file ≡ accepted x next → ShiftRead file x next
+
+-- timetables
+
+-- a timetable that was read, under a network that is good: "A whole timetable is a good sheet over all stations."
+pub record TimetableRead (n : Network) (file : List ℕ) (m : Timetable) (next : ℕ) : Type 0 where
+  pub file-is : file ≡ bytes-of (timetable-numbers n m)
+  pub end : next ≡ length file
+  pub network-good : network-refusal n ≡ 0
+  pub whole : Whole n m
+
+-- "A written file is the only file that reads to that timetable."
+pub record TimetableRoundTrip : Type 0 where
+  pub back : (n : Network) (m : Timetable) → network-refusal n ≡ 0 → Whole n m
+      → read-timetable n (bytes-of (timetable-numbers n m)) ≡ accepted m (length (bytes-of (timetable-numbers n m)))
+  pub only : (n : Network) (file : List ℕ) (m : Timetable) (next : ℕ) → Bytes file → read-timetable n file ≡ accepted m next → TimetableRead n file m next
