@@ -1,49 +1,39 @@
--- The lists that the builder puts, gone through from an index on: one entry or relation, then the rest. And the page of a station in a sheet. Assumes nothing.
-use Prim.Native.Nat.{ℕ, _+_, _*_, _-_, _<_, _≤_, min}
+-- The lists that the builder puts, gone through from an index on: one entry or relation, then the rest. And the page of
+-- a station in a sheet. Assumes nothing.
+use Prim.Native.Nat.{ℕ, suc, _+_, _*_, _-_, _<_, _≤_, min}
 use mathlib.Core.Path.{_≡_, refl, sym, ap, _∙_}
 use mathlib.Core.Bool.{Bool, true, false, not, _||_}
 use mathlib.Core.List.{List, [], _∷_, _++_, map, flatMap, append-nil}
-use native.Mathlib.Nat.{add-sub-cancel-left}
 use native.Mathlib.Omega.{arith}
 use lib.Dec.{eqb}
 use lib.ListN.{length, take, drop, getD, length-take, drop-of-length-le}
 use lib.Seq.{getD-take}
 use borrow.Author.Tests.{eq-eqb, ne-eqb}
 use Rattle.base.specs.Choice.{if_then_else_}
-use Rattle.base.proofs.Tests.{true-T}
 use Rattle.base.proofs.Lengths.{drop-next}
-use Rattle.railway.specs.Ranges.{station-ok}
-use Rattle.railway.specs.Networks.{station-rows, stations-of}
-use Rattle.railway.proofs.RowLaws.{used-rows}
-use Rattle.railway.specs.declared.network.StationRow.{StationRow}
+use Rattle.network.specs.Networks.{station-rows, stations-of}
+use Rattle.network.proofs.RowLaws.{used-rows}
+use Rattle.network.specs.declared.StationRow.{StationRow}
 use Rattle.timetable.specs.Visits.{with-out, outs}
 use Rattle.timetable.specs.Tables.{Entry, Table}
 use Rattle.timetable.specs.Machine.{Timetable}
 use Rattle.timetable.specs.Rules.{met}
-use Rattle.sheet.specs.Changes.{table-in}
-use Rattle.sheet.specs.Sheets.{decode-sheet, page-at}
-use Rattle.sheet.proofs.ShelfLaws.{table-of-page, table-of-none}
-use Rattle.sheet.proofs.SheetLaws.{page-size, decoded-page, decoded-none}
-use Rattle.rules.specs.Parts.{entry, entry-at, relation-at}
-use Rattle.rules.proofs.EntryLaws.{entries-next, relations-next}
+use Rattle.page.specs.between.Changes.{table-in}
+use Rattle.sheet.specs.Sheets.{decode-sheet, station-part}
+use Rattle.sheet.proofs.StationLaws.{station-table}
+use Rattle.rules.specs.between.Parts.{entry}
+use Rattle.page.specs.between.Entries.{entry-at, relation-at}
+use Rattle.page.proofs.EntryLaws.{entries-next, relations-next}
 use Rattle.railway.specs.declared.visit.OutLink.{OutLink}
 use Rattle.findings.specs.Types.{Station, Train, Outward, Visit, Relation, Network}
-use Rattle.findings.specs.declared.scope.Scope.{Scope}
-use Rattle.findings.specs.Builder.{told, takes, clash, against, unmet-numbers, broken, facing, step, walk, own-numbers, far-numbers, station-numbers, all-numbers}
+use Rattle.scope.specs.declared.Scope.{Scope}
+use Rattle.findings.specs.between.Builder.{rule-count, told, is-far, clash, against, unmet-numbers, broken, second-of, facing, step, walk, rule-numbers, numbers-from, station-numbers, all-numbers}
+use Rattle.scope.specs.Scopes.{takes}
 
 -- the page of a station
 
-module _ (sheet : List ℕ) (s : Station) where
-  pub page-there : (z : ℕ) → z ≡ s .0 → length sheet ≡ 8192 → station-ok s ≡ true
-      → table-in (take (512 * (z - 1) + 512 - 512 * (z - 1)) (drop (512 * (z - 1)) sheet)) ≡ decode-sheet sheet s
-  unfolding page-at
-  page-there z e long ok =
-      let t = true-T (station-ok s) ok in
-      rw (e, add-sub-cancel-left (512 * (s .0 - 1)) 512)
-      (table-of-page (page-at sheet s) (page-size sheet s long t) ∙ sym (decoded-page sheet s t))
-
-  pub page-none : station-ok s ≡ false → table-in [] ≡ decode-sheet sheet s
-  page-none ok = table-of-none [] (λ e. omega arith) ∙ sym (decoded-none sheet s ok)
+pub page-read : (sheet r : List ℕ) (s : Station) → length sheet ≡ 8192 → r ≡ station-part sheet s → table-in r ≡ decode-sheet sheet s
+page-read sheet r s long e = ap table-in e ∙ station-table sheet s long
 
 -- entries
 
@@ -116,9 +106,10 @@ module _ (n : Network) (scope : Scope) (m : Timetable) (here : Table) (s : Stati
     unfolding step
     step-facing p q = sym (rw (← paired, p, eq-eqb rule 10 q, ← same))
 
-    pub step-one : b ≡ false → ¬ (rule ≡ 10) → (found : Bool) → found ≡ broken n scope m here s rule x → told found s rule (x .train .0) 0 ≡ step n scope m here s rule e us
+    pub step-one : b ≡ false → ¬ (rule ≡ 10) → (found : Bool) → found ≡ broken n scope m here s rule x → (second : ℕ) → second ≡ second-of rule x
+        → told found s rule (x .train .0) second ≡ step n scope m here s rule e us
     unfolding step
-    step-one p q found f = sym (rw (← paired, p, ne-eqb rule 10 q, ← same, ← f))
+    step-one p q found f second g = sym (rw (← paired, p, ne-eqb rule 10 q, ← same, ← f, ← g))
 
   pub walk-next : (rule : ℕ) (page : List ℕ) (i k : ℕ) → k ≡ length (table-in page .visits) → i < k
       → walk n scope m here s rule (drop i (table-in page .visits))
@@ -130,16 +121,40 @@ module _ (n : Network) (scope : Scope) (m : Timetable) (here : Table) (s : Stati
   unfolding walk
   walk-none rule us e = ap (walk n scope m here s rule) e
 
--- a station
+  -- a rule at the station
 
-module _ (n : Network) (scope : Scope) (m : Timetable) (s : Station) (here : Table) (same : here ≡ m s) (b : Bool) (taken : b ≡ takes n scope s s) where
-  pub station-whole : b ≡ true → own-numbers n scope m here s ++ far-numbers n scope m here s ≡ station-numbers n scope m s
-  unfolding station-numbers
-  station-whole p = sym (rw (← taken, p, ← same))
+  module _ (rule : ℕ) (b : Bool) (asked : b ≡ (is-far rule || takes n scope s s)) where
+    pub rule-unmet : b ≡ true → rule ≡ 4 → unmet-numbers here s 1 (here .relations) ≡ rule-numbers n scope m here s rule
+    unfolding rule-numbers
+    rule-unmet p q = sym (rw (← asked, p, eq-eqb rule 4 q))
 
-  pub station-far : b ≡ false → far-numbers n scope m here s ≡ station-numbers n scope m s
+    pub rule-walk : b ≡ true → ¬ (rule ≡ 4) → walk n scope m here s rule (here .visits) ≡ rule-numbers n scope m here s rule
+    unfolding rule-numbers
+    rule-walk p q = sym (rw (← asked, p, ne-eqb rule 4 q))
+
+    pub rule-none : b ≡ false → [] ≡ rule-numbers n scope m here s rule
+    unfolding rule-numbers
+    rule-none p = sym (rw (← asked, p))
+
+  -- the rules that are left, from a number on
+  abbrev pub rules-left : ℕ → List ℕ
+  rules-left rule = numbers-from n scope m here s rule (suc rule-count - rule)
+
+  pub rules-next : (rule : ℕ) → rule ≤ rule-count → rules-left rule ≡ rule-numbers n scope m here s rule ++ rules-left (rule + 1)
+  unfolding numbers-from
+  rules-next rule h =
+      let more : suc rule-count - rule ≡ suc (suc rule-count - (rule + 1)) = omega arith in
+      ap (numbers-from n scope m here s rule) more
+
+  pub rules-over : (rule : ℕ) → rule-count < rule → rules-left rule ≡ []
+  unfolding numbers-from
+  rules-over rule h =
+      let none : suc rule-count - rule ≡ 0 = omega arith in
+      ap (numbers-from n scope m here s rule) none
+
+  pub station-is : here ≡ m s → rules-left 1 ≡ station-numbers n scope m s
   unfolding station-numbers
-  station-far p = sym (rw (← taken, p, ← same))
+  station-is same = ap (λ (x : Table). numbers-from n scope m x s 1 rule-count) same
 
 -- rows in use, gone through from an index on
 module _ {A : Type 0} (f : A → List ℕ) (rows : List A) (k : ℕ) (fits : k ≤ length rows) (i : ℕ) where

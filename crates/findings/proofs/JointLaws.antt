@@ -1,4 +1,5 @@
--- Two sheets put together: page by page, as a loop fills them, and what the whole holds: the gathered parts of the two areas. Assumes nothing.
+-- Two sheets put together: page by page, as a loop fills them, and what the whole holds: the gathered parts of the two
+-- areas. Assumes nothing.
 use Prim.Native.Nat.{ℕ, _+_, _*_, _-_, _<_}
 use mathlib.Core.Path.{_≡_, refl, sym, ap, _∙_, fun-ext}
 use mathlib.Core.Bool.{Bool, true, false, _||_}
@@ -10,22 +11,21 @@ use borrow.Author.Tests.{eqb-true, lt-ltb}
 use Rattle.base.specs.Choice.{if_then_else_}
 use Rattle.base.proofs.Tests.{by-value, true-T}
 use Rattle.railway.specs.Ranges.{station-ok}
-use Rattle.railway.specs.Networks.{area-of}
+use Rattle.network.specs.Networks.{area-of}
 use Rattle.timetable.specs.Tables.{Table, empty}
 use Rattle.timetable.specs.Machine.{Timetable}
 use Rattle.timetable.specs.Groups.{merge, gather}
-use Rattle.timetable.specs.Findings.{pair-findings}
-use Rattle.theory.specs.Statements.{pair-list}
+use Rattle.timetable.specs.Findings.{numbers-of, pair-findings, pair-list}
 use Rattle.records.specs.Bytes.{zeros}
-use Rattle.sheet.specs.Pages.{decode-page}
+use Rattle.page.specs.Pages.{decode-page}
 use Rattle.sheet.specs.Sheets.{page-at, decode-sheet}
-use Rattle.sheet.proofs.PageLaws.{blank-back}
+use Rattle.page.proofs.PageLaws.{blank-back}
 use Rattle.sheet.proofs.SheetLaws.{page-size, page-row, page-in, row-size, decoded-page, decoded-none}
 use Rattle.findings.specs.Types.{Station, Area, Network}
-use Rattle.findings.specs.declared.scope.Scope.{Scope}
-use Rattle.findings.specs.Lists.{numbers-of, two-parts, two-list}
-use Rattle.findings.specs.Joined.{joined-page, joined}
-use Rattle.findings.specs.Builder.{all-numbers}
+use Rattle.scope.specs.declared.Scope.{Scope}
+use Rattle.findings.specs.Lists.{two-parts, two-list}
+use Rattle.findings.specs.between.Joined.{joined-page, joined}
+use Rattle.findings.specs.between.Builder.{all-numbers}
 use Rattle.findings.proofs.ListLaws.{pair-numbers}
 
 module _ (n : Network) (a b : Area) (first second : List ℕ) (long : length first ≡ 8192) (tall : length second ≡ 8192) where

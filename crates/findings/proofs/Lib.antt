@@ -1,8 +1,9 @@
 pub mod PutLaws
 pub mod BuildLaws
+pub mod MostLaws
 pub mod ListLaws
 pub mod JointLaws
-pub mod CallLaws
-pub mod ShareLaws
 pub mod TurnLaws
 pub mod BoundLaws
+pub mod DividedLists
+pub mod ListCalls

@@ -1,4 +1,5 @@
--- What the builder puts are the lists of document 01: the numbers of the findings that a scope takes, rule by rule, are what each walk puts. Assumes nothing.
+-- What the builder puts are the lists of document 01: the numbers of the findings that a scope takes, rule by rule, are
+-- what each walk puts. Assumes nothing.
 use Prim.Native.Nat.{ℕ, _+_}
 use mathlib.Core.Path.{_≡_, refl, sym, ap, ap₂, _∙_, fun-ext}
 use mathlib.Core.Bool.{Bool, true, false, not, _&&_}
@@ -7,19 +8,18 @@ use Rattle.base.specs.Choice.{if_then_else_}
 use Rattle.base.specs.Lists.{keep}
 use Rattle.base.proofs.Tests.{every-true}
 use Rattle.base.proofs.Counts.{keep-append, keep-every}
-use Rattle.railway.specs.Networks.{stations-of, area-of}
+use Rattle.network.specs.Networks.{stations-of, area-of}
 use Rattle.railway.specs.declared.visit.InLink.{InLink}
 use Rattle.railway.specs.declared.visit.OutLink.{OutLink}
 use Rattle.timetable.specs.Visits.{ins, outs, comes, leaves, with-in, with-out}
 use Rattle.timetable.specs.Tables.{Entry, Table}
 use Rattle.timetable.specs.Machine.{Timetable}
 use Rattle.timetable.specs.Rules.{breaks-1, breaks-2, breaks-3, met, breaks-5, breaks-6, out-answered, in-answered, breaks-9, breaks-10}
-use Rattle.timetable.specs.Findings.{finding, Spanning, one, by-one, by-two, unmet, own, by-out, by-in, rule-7, rule-8, rule-9, rule-10, across, spanning, picked, findings, inside, group-findings, between, pair-findings}
-use Rattle.theory.specs.Statements.{numbers}
+use Rattle.timetable.specs.Findings.{finding, numbers, numbers-of, Spanning, one, by-one, by-two, by-rank, by-out, by-in, of-out, of-in, of-facing, unused, rules, found-by, found-by-all, at-station, spanning, picked, findings, inside, group-findings, between, pair-findings}
 use Rattle.findings.specs.Types.{Station, Area, Inward, Outward, Visit, Relation, Network}
-use Rattle.findings.specs.declared.scope.Scope.{Scope}
-use Rattle.findings.specs.Lists.{numbers-of}
-use Rattle.findings.specs.Builder.{takes, told, clash, against, unmet-numbers, out-broken, in-broken, far-broken, broken, facing, step, walk, own-numbers, far-numbers, station-numbers, all-numbers}
+use Rattle.scope.specs.declared.Scope.{Scope}
+use Rattle.findings.specs.between.Builder.{rule-count, told, is-far, clash, against, unmet-numbers, out-broken, in-broken, far-broken, broken, second-of, facing, step, walk, rule-numbers, numbers-from, station-numbers, all-numbers}
+use Rattle.scope.specs.Scopes.{takes}
 
 -- lists in a row
 
@@ -126,13 +126,13 @@ module _ (p : Station → Station → Bool) where
 
   -- findings at s of s itself: all are taken, or none
 
-  shown-by-one : (rule : ℕ) (f : Entry → Bool) (s : Station) (es : List Entry)
-      → shown (by-one rule f s es) ≡ gate (p s s) (flatMap (λ t. told (f t) s rule (t .train .0) 0) es)
+  shown-by-one : (rule : ℕ) (f : Entry → Bool) (second : Entry → ℕ) (s : Station) (es : List Entry)
+      → shown (by-one rule f second s es) ≡ gate (p s s) (flatMap (λ t. told (f t) s rule (t .train .0) (second t)) es)
   unfolding by-one
-  shown-by-one rule f s es =
-      shown-flat (λ t. one (f t) s (finding s rule (t .train .0) 0)) es
-      ∙ ap (λ (g : Entry → List ℕ). flatMap g es) (fun-ext (λ t. shown-one (f t) s s rule (t .train .0) 0))
-      ∙ told-gate (p s s) f s rule (λ t. t .train .0) (λ t. 0) es
+  shown-by-one rule f second s es =
+      shown-flat (λ t. one (f t) s (finding s rule (t .train .0) (second t))) es
+      ∙ ap (λ (g : Entry → List ℕ). flatMap g es) (fun-ext (λ t. shown-one (f t) s s rule (t .train .0) (second t)))
+      ∙ told-gate (p s s) f s rule (λ t. t .train .0) second es
 
   shown-by-two : (rule : ℕ) (f : Visit → Visit → Bool) (s : Station) (es : List Entry)
       → shown (by-two rule f s es) ≡ gate (p s s) (two-from rule (λ t u. f (t .visit) (u .visit)) s es)
@@ -147,11 +147,11 @@ module _ (p : Station → Station → Bool) where
       (shown-by-two rule f s us)
       ∙ gate-append (p s s) (flatMap (λ u. told (f (t .visit) (u .visit)) s rule (t .train .0) (u .train .0)) us) (two-from rule (λ t u. f (t .visit) (u .visit)) s us)
 
-  shown-unmet : (tab : Table) (s : Station) (k : ℕ) (qs : List Relation) → shown (unmet tab s k qs) ≡ gate (p s s) (unmet-numbers tab s k qs)
-  unfolding unmet unmet-numbers
+  shown-unmet : (tab : Table) (s : Station) (k : ℕ) (qs : List Relation) → shown (by-rank 4 (λ q. not (met tab q)) s k qs) ≡ gate (p s s) (unmet-numbers tab s k qs)
+  unfolding by-rank unmet-numbers
   shown-unmet tab s k [] = shown-none ∙ sym (gate-none (p s s))
   shown-unmet tab s k (q ∷ qs) =
-      shown-append (one (not (met tab q)) s (finding s 4 k 0)) (unmet tab s (k + 1) qs)
+      shown-append (one (not (met tab q)) s (finding s 4 k 0)) (by-rank 4 (λ q. not (met tab q)) s (k + 1) qs)
       ∙ ap₂ (λ (x y : List ℕ). x ++ y)
       (shown-one (not (met tab q)) s s 4 k 0 ∙ told-one (p s s) (not (met tab q)) s 4 k 0)
       (shown-unmet tab s (k + 1) qs)
@@ -202,43 +202,39 @@ module _ (n : Network) (scope : Scope) (m : Timetable) (here : Table) (s : Stati
   abbrev taken : Station → Station → Bool
   taken = takes n scope
 
-  gate-two : (w x : List Spanning) (y z : List ℕ) → shown taken w ≡ gate (taken s s) y → shown taken x ≡ gate (taken s s) z → shown taken (w ++ x) ≡ gate (taken s s) (y ++ z)
-  gate-two w x y z p q = shown-append taken w x ∙ ap₂ (λ (u v : List ℕ). u ++ v) p q ∙ gate-append (taken s s) y z
+  -- a rule of each kind: what is left to say of it is what a step of the walk is
 
-  by-gate : (x : List Spanning) (y z : List ℕ) → shown taken x ≡ gate (taken s s) y → y ≡ z → shown taken x ≡ gate (taken s s) z
-  by-gate x y z p q = p ∙ ap (gate (taken s s)) q
+  own-one : (rule : ℕ) (f : Entry → Bool) (second : Entry → ℕ)
+      → ((t : Entry) (us : List Entry) → step n scope m here s rule t us ≡ told (f t) s rule (t .train .0) (second t))
+      → shown taken (by-one rule f second s (here .visits)) ≡ gate (taken s s) (walk n scope m here s rule (here .visits))
+  own-one rule f second h = shown-by-one taken rule f second s (here .visits) ∙ ap (gate (taken s s)) (walk-one rule _ h (here .visits))
 
-  shown-own : shown taken (own n s here) ≡ gate (taken s s) (own-numbers n scope m here s)
-  unfolding own own-numbers step broken against clash
-  shown-own =
-      gate-two _ _ _ _ (by-gate _ _ _ (shown-by-one taken 1 (λ t. breaks-1 (t .visit)) s (here .visits)) (walk-one 1 _ (λ t us. refl) (here .visits)))
-      (gate-two _ _ _ _ (by-gate _ _ _ (shown-by-two taken 2 breaks-2 s (here .visits)) (walk-two 2 _ (λ t us. refl) (here .visits)))
-      (gate-two _ _ _ _ (by-gate _ _ _ (shown-by-two taken 3 (breaks-3 (n .headway)) s (here .visits)) (walk-two 3 _ (λ t us. refl) (here .visits)))
-      (gate-two _ _ _ _ (shown-unmet taken here s 1 (here .relations))
-      (gate-two _ _ _ _ (by-gate _ _ _ (shown-by-one taken 5 (λ t. breaks-5 n (t .visit)) s (here .visits)) (walk-one 5 _ (λ t us. refl) (here .visits)))
-      (by-gate _ _ _ (shown-by-one taken 6 (breaks-6 n (here .visits)) s (here .visits)) (walk-one 6 _ (λ t us. refl) (here .visits)))))))
+  own-two : (rule : ℕ) (f : Visit → Visit → Bool)
+      → ((t : Entry) (us : List Entry) → step n scope m here s rule t us ≡ flatMap (λ u. told (f (t .visit) (u .visit)) s rule (t .train .0) (u .train .0)) us)
+      → shown taken (by-two rule f s (here .visits)) ≡ gate (taken s s) (walk n scope m here s rule (here .visits))
+  own-two rule f h = shown-by-two taken rule f s (here .visits) ∙ ap (gate (taken s s)) (walk-two rule _ h (here .visits))
 
-  shown-7 : shown taken (by-out (rule-7 s) m (here .visits)) ≡ walk n scope m here s 7 (here .visits)
-  unfolding rule-7 step broken far-broken out-broken
-  shown-7 =
-      shown-out taken 7 (rule-7 s) (out-broken n scope m s 7) s m (λ t o. shown-one taken (not (out-answered s (t .train) o (m (o .station)))) (o .station) s 7 (t .train .0) 0) (here .visits)
-      ∙ walk-one 7 _ (λ t us. refl) (here .visits)
+  far-out : (rule : ℕ) (f : Table → Entry → Outward → Bool)
+      → ((t : Entry) (us : List Entry) → step n scope m here s rule t us ≡ told (leaves (λ o. taken s (o .station) && f (m (o .station)) t o) (t .visit)) s rule (t .train .0) 0)
+      → shown taken (found-by m s here rule (of-out f)) ≡ walk n scope m here s rule (here .visits)
+  unfolding found-by
+  far-out rule f h =
+      shown-out taken rule _ (λ t o. taken s (o .station) && f (m (o .station)) t o) s m (λ t o. shown-one taken (f (m (o .station)) t o) (o .station) s rule (t .train .0) 0) (here .visits)
+      ∙ walk-one rule _ h (here .visits)
 
-  shown-8 : shown taken (by-in (rule-8 s) m (here .visits)) ≡ walk n scope m here s 8 (here .visits)
-  unfolding rule-8 step broken far-broken in-broken
-  shown-8 =
-      shown-in taken 8 (rule-8 s) (λ t i. in-broken n scope m s (t .train) i) s m (λ t i. shown-one taken (not (in-answered s (t .train) i (m (i .station)))) (i .station) s 8 (t .train .0) 0) (here .visits)
-      ∙ walk-one 8 _ (λ t us. refl) (here .visits)
-
-  shown-9 : shown taken (by-out (rule-9 s) m (here .visits)) ≡ walk n scope m here s 9 (here .visits)
-  unfolding rule-9 step broken far-broken out-broken
-  shown-9 =
-      shown-out taken 9 (rule-9 s) (out-broken n scope m s 9) s m (λ t o. shown-one taken (breaks-9 s t o (m (o .station))) (o .station) s 9 (t .train .0) 0) (here .visits)
-      ∙ walk-one 9 _ (λ t us. refl) (here .visits)
+  far-in : (rule : ℕ) (f : Table → Entry → Inward → Bool)
+      → ((t : Entry) (us : List Entry) → step n scope m here s rule t us ≡ told (comes (λ i. taken s (i .station) && f (m (i .station)) t i) (t .visit)) s rule (t .train .0) 0)
+      → shown taken (found-by m s here rule (of-in f)) ≡ walk n scope m here s rule (here .visits)
+  unfolding found-by
+  far-in rule f h =
+      shown-in taken rule _ (λ t i. taken s (i .station) && f (m (i .station)) t i) s m (λ t i. shown-one taken (f (m (i .station)) t i) (i .station) s rule (t .train .0) 0) (here .visits)
+      ∙ walk-one rule _ h (here .visits)
 
   -- rule 10: by the link of t
-  facing-is : (t : Entry) → flatMap (λ o. shown taken (rule-10 n s here (m (o .station)) t o)) (outs (t .visit)) ≡ facing n scope m here s t
-  unfolding rule-10 facing against clash outs leaves with-out flatMap
+  facing-is : (t : Entry)
+      → flatMap (λ o. shown taken (flatMap (λ u. one (breaks-10 n s here t o u) (o .station) (finding s 10 (t .train .0) (u .train .0))) (m (o .station) .visits))) (outs (t .visit))
+      ≡ facing n scope m here s t
+  unfolding facing against clash outs leaves with-out flatMap
   facing-is t =
       ap (λ (k : Outward → List ℕ). flatMap k (outs (t .visit)))
       (fun-ext (λ o.
@@ -253,29 +249,38 @@ module _ (n : Network) (scope : Scope) (m : Timetable) (here : Table) (s : Stati
       go OutLink.Nothing = refl
       go (OutLink.To o) = refl
 
-  shown-10 : shown taken (by-out (rule-10 n s here) m (here .visits)) ≡ walk n scope m here s 10 (here .visits)
-  unfolding by-out step
-  shown-10 =
-      shown-flat taken (λ t. flatMap (λ o. rule-10 n s here (m (o .station)) t o) (outs (t .visit))) (here .visits)
-      ∙ ap (λ (k : Entry → List ℕ). flatMap k (here .visits)) (fun-ext (λ t. shown-flat taken (λ o. rule-10 n s here (m (o .station)) t o) (outs (t .visit)) ∙ facing-is t))
+  far-facing : shown taken (found-by m s here 10 (of-facing (breaks-10 n s here))) ≡ walk n scope m here s 10 (here .visits)
+  unfolding found-by by-out step
+  far-facing =
+      shown-flat taken _ (here .visits)
+      ∙ ap (λ (k : Entry → List ℕ). flatMap k (here .visits)) (fun-ext (λ t. shown-flat taken _ (outs (t .visit)) ∙ facing-is t))
       ∙ walk-one 10 _ (λ t us. refl) (here .visits)
 
-  shown-across : shown taken (across n m s here) ≡ far-numbers n scope m here s
-  unfolding across far-numbers
-  shown-across =
-      shown-append taken _ _ ∙ ap₂ (λ (x y : List ℕ). x ++ y) shown-7
-      (shown-append taken _ _ ∙ ap₂ (λ (x y : List ℕ). x ++ y) shown-8
-      (shown-append taken _ _ ∙ ap₂ (λ (x y : List ℕ). x ++ y) shown-9 shown-10))
+  -- one rule, and those behind it
+  row : (x y : List Spanning) (u v : List ℕ) → shown taken x ≡ u → shown taken y ≡ v → shown taken (x ++ y) ≡ u ++ v
+  row x y u v p q = shown-append taken x y ∙ ap₂ (λ (w z : List ℕ). w ++ z) p q
+
+  -- THE RULES, one row each
+  shown-station : shown taken (at-station n m s here) ≡ numbers-from n scope m here s 1 rule-count
+  unfolding at-station rules found-by-all numbers-from rule-numbers is-far step broken second-of far-broken out-broken in-broken against clash found-by
+  shown-station =
+      row _ _ _ _ (own-one 1 (λ t. breaks-1 (t .visit)) unused (λ t us. refl))
+      (row _ _ _ _ (own-two 2 breaks-2 (λ t us. refl))
+      (row _ _ _ _ (own-two 3 (breaks-3 (n .headway)) (λ t us. refl))
+      (row _ _ _ _ (shown-unmet taken here s 1 (here .relations))
+      (row _ _ _ _ (own-one 5 (λ t. breaks-5 n (t .visit)) unused (λ t us. refl))
+      (row _ _ _ _ (own-one 6 (breaks-6 n (here .visits)) unused (λ t us. refl))
+      (row _ _ _ _ (far-out 7 (λ there t o. not (out-answered s (t .train) o there)) (λ t us. refl))
+      (row _ _ _ _ (far-in 8 (λ there t i. not (in-answered s (t .train) i there)) (λ t us. refl))
+      (row _ _ _ _ (far-out 9 (λ there t o. breaks-9 s t o there) (λ t us. refl))
+      (row _ _ _ _ far-facing (shown-none taken))))))))))
 
 module _ (n : Network) (scope : Scope) (m : Timetable) where
   shown-all : shown (takes n scope) (spanning n m) ≡ all-numbers n scope m
   unfolding spanning all-numbers station-numbers
   shown-all =
-      shown-flat (takes n scope) (λ s. own n s (m s) ++ across n m s (m s)) (stations-of n)
-      ∙ ap (λ (g : Station → List ℕ). flatMap g (stations-of n))
-      (fun-ext (λ s.
-      shown-append (takes n scope) (own n s (m s)) (across n m s (m s))
-      ∙ ap₂ (λ (x y : List ℕ). x ++ y) (shown-own n scope m (m s) s) (shown-across n scope m (m s) s)))
+      shown-flat (takes n scope) (λ s. at-station n m s (m s)) (stations-of n)
+      ∙ ap (λ (g : Station → List ℕ). flatMap g (stations-of n)) (fun-ext (λ s. shown-station n scope m (m s) s))
 
 -- the lists
 

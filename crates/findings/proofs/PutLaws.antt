@@ -1,5 +1,5 @@
--- Numbers put into a buffer: what is put in two parts is put at once, so that a loop may be left to say what is still to be put. On a buffer that is long enough the
--- numbers stand at its front and the rest is kept. Assumes nothing.
+-- Numbers put into a buffer: what is put in two parts is put at once, so that a loop may be left to say what is still
+-- to be put. On a buffer that is long enough the numbers stand at its front and the rest is kept. Assumes nothing.
 use Prim.Native.Nat.{ℕ, zero, suc, _+_, _≤_}
 use mathlib.Core.Path.{_≡_, refl, sym, ap, ap₂, _∙_}
 use mathlib.Core.Bool.{Bool, true, false}
@@ -10,7 +10,7 @@ use lib.ListN.{length, set, drop, length-set, length-append}
 use Rattle.timetable.specs.Outputs.{put}
 use Rattle.timetable.proofs.PutLaws.{put-length, put-append}
 use Rattle.findings.specs.Types.{Station}
-use Rattle.findings.specs.Builder.{Puts, told}
+use Rattle.findings.specs.between.Builder.{Puts, told}
 
 pub set-past : (l : List ℕ) (i x : ℕ) → length l ≤ i → set l i x ≡ l
 set-past [] i x h = refl

@@ -1,4 +1,5 @@
--- "A pair's (unordered)": the call on two areas gives the same list, and the same refusal, with the two exchanged. Assumes nothing.
+-- "A pair's (unordered)": the call on two areas gives the same list, and the same refusal, with the two exchanged.
+-- Assumes nothing.
 use Prim.Native.Nat.{ℕ}
 use mathlib.Core.Path.{_≡_, refl, sym, ap, ap₂, _∙_, fun-ext}
 use mathlib.Core.Bool.{Bool, true, false, not, _&&_, _||_}
@@ -6,18 +7,18 @@ use mathlib.Core.List.{List}
 use lib.Dec.{eqb, ltb}
 use lib.ListN.{length}
 use borrow.Author.Tests.{eqb-true}
-use Rattle.base.specs.Choice.{if_then_else_, _if_else_}
+use Rattle.base.specs.Choice.{if_then_else_}
 use Rattle.base.proofs.Tests.{eqb-turned}
 use Rattle.railway.specs.Ranges.{area-ok}
-use Rattle.railway.specs.Networks.{network-refusal, area-of}
+use Rattle.network.specs.Networks.{area-of}
 use Rattle.timetable.specs.Tables.{empty}
 use Rattle.timetable.specs.Machine.{Timetable}
+use Rattle.timetable.specs.Refusals.{call-refusal}
 use Rattle.timetable.specs.Groups.{Grouping, in-group, merge, gather}
-use Rattle.timetable.specs.Findings.{Spanning, picked, spanning, between, pair-findings}
-use Rattle.theory.specs.Statements.{pair-list}
+use Rattle.timetable.specs.Findings.{numbers-of, Spanning, picked, spanning, between, pair-findings, pair-list}
 use Rattle.sheet.specs.Sheets.{decode-sheet}
 use Rattle.findings.specs.Types.{Station, Area, Network}
-use Rattle.findings.specs.Lists.{numbers-of, two-parts, two-list, list-refusal, good-part, two-areas, two-list-refusal}
+use Rattle.findings.specs.Lists.{two-parts, two-list, list-early, good-part, two-areas, two-list-refusal}
 
 and-turned : (x y : Bool) → (x && y) ≡ (y && x)
 and-turned true true = refl
@@ -74,7 +75,7 @@ module _ (n : Network) (first second : List ℕ) (a b : Area) where
   pub two-refusal-turned : two-list-refusal n first second a b ≡ two-list-refusal n second first b a
   unfolding two-list-refusal
   two-refusal-turned =
-      ap₂ (λ (x y : Bool). list-refusal x (3 if not y else network-refusal n) (good-part n a first && good-part n b second))
+      ap₂ (λ (x y : Bool). call-refusal x (list-early n y) (good-part n a first && good-part n b second) 0)
       (and-turned (eqb (length first) 8192) (eqb (length second) 8192)) areas-turned
-      ∙ ap (λ (x : Bool). list-refusal (eqb (length second) 8192 && eqb (length first) 8192) (3 if not (two-areas b a) else network-refusal n) x)
+      ∙ ap (λ (x : Bool). call-refusal (eqb (length second) 8192 && eqb (length first) 8192) (list-early n (two-areas b a)) x 0)
       (and-turned (good-part n a first) (good-part n b second))

@@ -1,4 +1,3 @@
 pub mod Types
 pub mod Lists
-pub mod Builder
-pub mod Joined
+pub mod between

@@ -1,29 +1,34 @@
-// The numbers of a list of findings, in their order: stations rising, rules rising, first and second rising. Each function puts its numbers into the lent buffer
-// from a place on and answers the place behind them; on a buffer that is too short it only counts. A page has at most 24 visits and 6 relations, so that a visit has at
-// most 96 numbers under one rule, a rule 2,304, a station 20,760 and a list 332,160: that no sum overflows is kept by these bounds.
+// The numbers of a list of findings, in their order: stations rising, rules rising, first and second rising. Each
+// function puts its numbers into the lent buffer from a place on and answers the place behind them; on a buffer that is
+// too short it only counts. That no sum overflows is kept by the bounds of specs/between/Builder.antt.
 ghost use mathlib.Core.Path.{_≡_};
 ghost use mathlib.Core.Bool.{_||_};
-ghost use Prim.Native.Nat.{_+_, _≤_, min};
+ghost use Prim.Native.Nat.{_+_, _*_, _≤_, min};
 ghost use lib.Dec.{eqb};
 ghost use lib.ListN.{length, drop};
-ghost use Rattle.sheet.specs.Changes.{table-in};
+ghost use Rattle.page.specs.between.Changes.{table-in};
 ghost use Rattle.sheet.specs.Sheets.{decode-sheet};
-ghost use Rattle.rules.specs.Parts.{entry, entry-at};
-ghost use Rattle.findings.specs.Builder.{Puts, against, facing, step, walk, unmet-numbers, own-numbers, far-numbers, station-numbers, all-numbers};
+ghost use Rattle.rules.specs.between.Parts.{entry};
+ghost use Rattle.page.specs.between.Entries.{entry-at};
+ghost use Rattle.findings.specs.between.Builder.{visit-most, visits-most, relations-most, station-most, list-most};
+ghost use Rattle.findings.specs.between.Builder.{Puts, is-far, against, facing, step, walk, unmet-numbers, rule-numbers, station-numbers, all-numbers};
+ghost use Rattle.scope.specs.Scopes.{takes};
 use crate::put;
-use crate::scope;
-use crate::scope::Scope;
 use crate::tests;
-use railway::network::Network;
+use network::Network;
+use page::entries;
+use page_rules::relations;
 use railway::sorts::Station;
 use railway::sorts::Train;
 use railway::visit::OutLink;
 use railway::visit::Visit;
 use records::bytes;
 use records::record;
-use rules::entries;
-use rules::relations;
-use sheet::page;
+use scope::Scope;
+use sheet::station_page;
+
+// The rules are numbered from 1 on: rule-count of specs/between/Builder.antt.
+pub const RULES: u16 = 10;
 
 // t with each train of a page from an index on.
 fn tell_against(
@@ -38,8 +43,8 @@ fn tell_against(
     t: Train,
     v: Visit,
 ) -> usize
-    requires { ⌜ at ≤ 1900000 ⌝ }
-    ensures { λ r. ⌜ Puts at (against n (table-in (now (here .entry))) s rule (entry t v) (drop from (table-in (now (there .entry)) .visits))) (now (out .entry)) r (now (out .exit)) 96 ⌝ }
+    requires { ⌜ at ≤ 2 * list-most ⌝ }
+    ensures { λ r. ⌜ Puts at (against n (table-in (now (here .entry))) s rule (entry t v) (drop from (table-in (now (there .entry)) .visits))) (now (out .entry)) r (now (out .exit)) visit-most ⌝ }
 {
     let k = page::visit_count(there);
     let mut to = at;
@@ -67,8 +72,8 @@ fn tell_facing(
     t: Train,
     v: Visit,
 ) -> usize
-    requires { ⌜ (length (now sheet) ≡ 8192) × (at ≤ 1900000) ⌝ }
-    ensures { λ r. ⌜ Puts at (facing n scope (decode-sheet (now (sheet .entry))) (table-in (now (here .entry))) s (entry t v)) (now (out .entry)) r (now (out .exit)) 96 ⌝ }
+    requires { ⌜ (length (now sheet) ≡ 8192) × (at ≤ 2 * list-most) ⌝ }
+    ensures { λ r. ⌜ Puts at (facing n scope (decode-sheet (now (sheet .entry))) (table-in (now (here .entry))) s (entry t v)) (now (out .entry)) r (now (out .exit)) visit-most ⌝ }
 {
     let link = v.outward;
     match link {
@@ -78,7 +83,7 @@ fn tell_facing(
                 return tell_against(
                     out,
                     at,
-                    tests::page_of(sheet, o.station),
+                    station_page::page_of(sheet, o.station),
                     0,
                     here,
                     n,
@@ -116,8 +121,8 @@ fn tell_one(
     rule: u16,
     i: usize,
 ) -> usize
-    requires { ⌜ (length (now sheet) ≡ 8192) × (at ≤ 1900000) × (i ≤ 24) ⌝ }
-    ensures { λ r. ⌜ Puts at (step n scope (decode-sheet (now (sheet .entry))) (table-in (now (here .entry))) s rule (entry-at i (now (here .entry))) (drop (i + 1) (table-in (now (here .entry)) .visits))) (now (out .entry)) r (now (out .exit)) 96 ⌝ }
+    requires { ⌜ (length (now sheet) ≡ 8192) × (at ≤ 2 * list-most) × (i ≤ 24) ⌝ }
+    ensures { λ r. ⌜ Puts at (step n scope (decode-sheet (now (sheet .entry))) (table-in (now (here .entry))) s rule (entry-at i (now (here .entry))) (drop (i + 1) (table-in (now (here .entry)) .visits))) (now (out .entry)) r (now (out .exit)) visit-most ⌝ }
 {
     let r = entries::entry_record(here, i);
     let t = record::train_in(r);
@@ -129,11 +134,12 @@ fn tell_one(
         return tell_facing(out, at, sheet, here, n, scope, s, t, v);
     }
     let found = tests::is_broken(sheet, here, n, scope, s, rule, t, v);
-    put::tell(out, at, found, s, rule, t.0, 0)
+    let second = tests::second_of(rule, t, v);
+    put::tell(out, at, found, s, rule, t.0, second)
 }
 
 // All visits of the station.
-fn tell_rule(
+fn tell_visits(
     out: &mut [u16],
     at: usize,
     sheet: &[u8],
@@ -143,8 +149,8 @@ fn tell_rule(
     s: Station,
     rule: u16,
 ) -> usize
-    requires { ⌜ (length (now sheet) ≡ 8192) × (at ≤ 1800000) ⌝ }
-    ensures { λ r. ⌜ Puts at (walk n scope (decode-sheet (now (sheet .entry))) (table-in (now (here .entry))) s rule (table-in (now (here .entry)) .visits)) (now (out .entry)) r (now (out .exit)) 2304 ⌝ }
+    requires { ⌜ (length (now sheet) ≡ 8192) × (at ≤ list-most) ⌝ }
+    ensures { λ r. ⌜ Puts at (walk n scope (decode-sheet (now (sheet .entry))) (table-in (now (here .entry))) s rule (table-in (now (here .entry)) .visits)) (now (out .entry)) r (now (out .exit)) visits-most ⌝ }
 {
     let k = page::visit_count(here);
     let mut to = at;
@@ -158,8 +164,8 @@ fn tell_rule(
 
 // 4: the relations of the station, by their rank.
 fn tell_unmet(out: &mut [u16], at: usize, here: &[u8], s: Station) -> usize
-    requires { ⌜ at ≤ 1900000 ⌝ }
-    ensures { λ r. ⌜ Puts at (unmet-numbers (table-in (now (here .entry))) s 1 (table-in (now (here .entry)) .relations)) (now (out .entry)) r (now (out .exit)) 24 ⌝ }
+    requires { ⌜ at ≤ list-most ⌝ }
+    ensures { λ r. ⌜ Puts at (unmet-numbers (table-in (now (here .entry))) s 1 (table-in (now (here .entry)) .relations)) (now (out .entry)) r (now (out .exit)) relations-most ⌝ }
 {
     let k = page::relation_count(here);
     let mut to = at;
@@ -175,31 +181,27 @@ fn tell_unmet(out: &mut [u16], at: usize, here: &[u8], s: Station) -> usize
     to
 }
 
-// A station
-
-// Rules 1 to 6.
-fn tell_own(
-    out: &mut [u16],
-    at: usize,
-    sheet: &[u8],
-    here: &[u8],
-    n: Network,
-    scope: Scope,
-    s: Station,
-) -> usize
-    requires { ⌜ (length (now sheet) ≡ 8192) × (at ≤ 1700000) ⌝ }
-    ensures { λ r. ⌜ Puts at (own-numbers n scope (decode-sheet (now (sheet .entry))) (table-in (now (here .entry))) s) (now (out .entry)) r (now (out .exit)) 11544 ⌝ }
-{
-    let a = tell_rule(out, at, sheet, here, n, scope, s, 1);
-    let b = tell_rule(out, a, sheet, here, n, scope, s, 2);
-    let c = tell_rule(out, b, sheet, here, n, scope, s, 3);
-    let d = tell_unmet(out, c, here, s);
-    let e = tell_rule(out, d, sheet, here, n, scope, s, 5);
-    tell_rule(out, e, sheet, here, n, scope, s, 6)
-}
-
 // Rules 7 to 10.
-fn tell_far(
+fn is_far(rule: u16) -> bool
+    ensures { λ r. ⌜ r ≡ is-far rule ⌝ }
+{
+    if rule < 7 {
+        return false;
+    }
+    rule <= 10
+}
+
+// Whether the list may take what the rule finds at the station.
+fn is_asked(n: Network, scope: Scope, s: Station, rule: u16) -> bool
+    ensures { λ r. ⌜ r ≡ (is-far rule || takes n scope s s) ⌝ }
+{
+    if is_far(rule) {
+        return true;
+    }
+    scope::is_taken(n, scope, s, s)
+}
+
+fn tell_rule(
     out: &mut [u16],
     at: usize,
     sheet: &[u8],
@@ -207,16 +209,21 @@ fn tell_far(
     n: Network,
     scope: Scope,
     s: Station,
+    rule: u16,
 ) -> usize
-    requires { ⌜ (length (now sheet) ≡ 8192) × (at ≤ 1700000) ⌝ }
-    ensures { λ r. ⌜ Puts at (far-numbers n scope (decode-sheet (now (sheet .entry))) (table-in (now (here .entry))) s) (now (out .entry)) r (now (out .exit)) 9216 ⌝ }
+    requires { ⌜ (length (now sheet) ≡ 8192) × (at ≤ list-most) ⌝ }
+    ensures { λ r. ⌜ Puts at (rule-numbers n scope (decode-sheet (now (sheet .entry))) (table-in (now (here .entry))) s rule) (now (out .entry)) r (now (out .exit)) visits-most ⌝ }
 {
-    let a = tell_rule(out, at, sheet, here, n, scope, s, 7);
-    let b = tell_rule(out, a, sheet, here, n, scope, s, 8);
-    let c = tell_rule(out, b, sheet, here, n, scope, s, 9);
-    tell_rule(out, c, sheet, here, n, scope, s, 10)
+    if is_asked(n, scope, s, rule) {
+        if rule == 4 {
+            return tell_unmet(out, at, here, s);
+        }
+        return tell_visits(out, at, sheet, here, n, scope, s, rule);
+    }
+    at
 }
 
+// All rules, by their numbers.
 fn tell_station(
     out: &mut [u16],
     at: usize,
@@ -225,15 +232,17 @@ fn tell_station(
     scope: Scope,
     s: Station,
 ) -> usize
-    requires { ⌜ (length (now sheet) ≡ 8192) × (at ≤ 1600000) ⌝ }
-    ensures { λ r. ⌜ Puts at (station-numbers n scope (decode-sheet (now (sheet .entry))) s) (now (out .entry)) r (now (out .exit)) 20760 ⌝ }
+    requires { ⌜ (length (now sheet) ≡ 8192) × (at + station-most ≤ list-most) ⌝ }
+    ensures { λ r. ⌜ Puts at (station-numbers n scope (decode-sheet (now (sheet .entry))) s) (now (out .entry)) r (now (out .exit)) station-most ⌝ }
 {
-    let here = tests::page_of(sheet, s);
-    if scope::is_taken(n, scope, s, s) {
-        let to = tell_own(out, at, sheet, here, n, scope, s);
-        return tell_far(out, to, sheet, here, n, scope, s);
+    let here = station_page::page_of(sheet, s);
+    let mut to = at;
+    let mut rule: u16 = 1;
+    while rule <= RULES {
+        to = tell_rule(out, to, sheet, here, n, scope, s, rule);
+        rule += 1;
     }
-    tell_far(out, at, sheet, here, n, scope, s)
+    to
 }
 
 // As many rows as are in use, at most those that there are.
@@ -249,7 +258,7 @@ fn in_use(n: Network) -> usize
 // All stations, from the buffer's start.
 pub fn tell_all(out: &mut [u16], sheet: &[u8], n: Network, scope: Scope) -> usize
     requires { ⌜ length (now sheet) ≡ 8192 ⌝ }
-    ensures { λ r. ⌜ Puts 0 (all-numbers n scope (decode-sheet (now (sheet .entry)))) (now (out .entry)) r (now (out .exit)) 332160 ⌝ }
+    ensures { λ r. ⌜ Puts 0 (all-numbers n scope (decode-sheet (now (sheet .entry)))) (now (out .entry)) r (now (out .exit)) list-most ⌝ }
 {
     let rows = n.stations;
     let k = in_use(n);

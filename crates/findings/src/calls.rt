@@ -1,30 +1,35 @@
 // The calls that list findings. Refusals in document 01's order: 5, 3, 4, 6, 13.
 ghost use mathlib.Core.Path.{_≡_};
-ghost use mathlib.Core.Bool.{not, _&&_};
+ghost use mathlib.Core.Bool.{_&&_};
 ghost use lib.ListN.{length};
-ghost use Rattle.base.specs.Choice.{_if_else_};
 ghost use Rattle.railway.specs.Ranges.{area-ok};
-ghost use Rattle.railway.specs.Networks.{network-refusal};
-ghost use Rattle.sheet.specs.Passes.{sheet-passes};
-ghost use Rattle.findings.specs.declared.scope.Scope.{Scope};
+ghost use Rattle.sheet.specs.between.Passes.{sheet-passes};
+ghost use Rattle.sheet.specs.declared.test.Extent.{Extent};
+ghost use Rattle.scope.specs.declared.Scope.{Scope};
 ghost use Rattle.sheet.specs.Sheets.{decode-sheet};
-ghost use Rattle.timetable.specs.Outputs.{output, output-after};
-ghost use Rattle.findings.specs.Builder.{all-numbers};
-ghost use Rattle.findings.specs.Lists.{sheet-list, area-list, two-list, sheet-list-refusal, area-list-refusal, two-areas, two-list-refusal};
-ghost use Rattle.findings.specs.Joined.{joined};
+ghost use Rattle.findings.specs.between.Builder.{all-numbers};
+ghost use Rattle.findings.specs.Lists.{Answers, sheet-list, area-list, two-list, list-early, sheet-list-refusal, area-list-refusal, two-areas, two-list-refusal};
+ghost use Rattle.findings.specs.between.Joined.{joined};
+use crate::MOST;
 use crate::build;
 use crate::joint;
-use crate::scope::Scope;
-use railway::network::Network;
+use network::Network;
 use railway::sorts::Area;
+use scope::Scope;
 use sheet::test;
+use sheet::test::Extent;
 use timetable::Output;
 
-// Counts first, so that a buffer that is too short is left as it was.
+// Counts first, so that a buffer that is too short is left as it was; one that has room for any list is written at
+// once.
 fn write_list(out: &mut [u16], sheet: &[u8], n: Network, scope: Scope) -> Output
     requires { ⌜ length (now sheet) ≡ 8192 ⌝ }
-    ensures { λ r. ⌜ (r ≡ output 0 (all-numbers n scope (decode-sheet (now (sheet .entry)))) (now (out .entry))) × (now (out .exit) ≡ output-after 0 (all-numbers n scope (decode-sheet (now (sheet .entry)))) (now (out .entry))) ⌝ }
+    ensures { λ r. ⌜ Answers 0 (all-numbers n scope (decode-sheet (now (sheet .entry)))) (now (out .entry)) r (now (out .exit)) ⌝ }
 {
+    if MOST <= out.len() {
+        let count = build::tell_all(out, sheet, n, scope);
+        return Output::Written(count);
+    }
     let mut none = [0u16; 1];
     let needed = build::tell_all(&mut none, sheet, n, scope);
     if out.len() < needed {
@@ -36,7 +41,7 @@ fn write_list(out: &mut [u16], sheet: &[u8], n: Network, scope: Scope) -> Output
 
 // "A whole timetable's findings: all rules at all stations."
 pub fn sheet_findings(sheet: &[u8], n: Network, out: &mut [u16]) -> Output
-    ensures { λ r. ⌜ (r ≡ output (sheet-list-refusal n (now (sheet .entry))) (sheet-list n (now (sheet .entry))) (now (out .entry))) × (now (out .exit) ≡ output-after (sheet-list-refusal n (now (sheet .entry))) (sheet-list n (now (sheet .entry))) (now (out .entry))) ⌝ }
+    ensures { λ r. ⌜ Answers (sheet-list-refusal n (now (sheet .entry))) (sheet-list n (now (sheet .entry))) (now (out .entry)) r (now (out .exit)) ⌝ }
 {
     if sheet.len() != 8192 {
         return Output::Refused(5);
@@ -45,7 +50,7 @@ pub fn sheet_findings(sheet: &[u8], n: Network, out: &mut [u16]) -> Output
     if early != 0 {
         return Output::Refused(early);
     }
-    if test::good_sheet(sheet, n, 0) {
+    if test::good_sheet(sheet, n, Extent::Whole) {
         return write_list(out, sheet, n, Scope::Whole);
     }
     Output::Refused(6)
@@ -53,7 +58,7 @@ pub fn sheet_findings(sheet: &[u8], n: Network, out: &mut [u16]) -> Output
 
 // 3 of the area or the network, 4, or 0.
 fn area_refusal(n: Network, a: Area) -> u8
-    ensures { λ r. ⌜ r ≡ (3 if not (area-ok a) else network-refusal n) ⌝ }
+    ensures { λ r. ⌜ r ≡ list-early n (area-ok a) ⌝ }
 {
     if a.valid() {
         return n.refusal();
@@ -63,7 +68,7 @@ fn area_refusal(n: Network, a: Area) -> u8
 
 // "An area's findings, at its stations: rules 1 to 6, and 7 to 10 where the far station is its own too."
 pub fn area_findings(sheet: &[u8], n: Network, a: Area, out: &mut [u16]) -> Output
-    ensures { λ r. ⌜ (r ≡ output (area-list-refusal n (now (sheet .entry)) a) (area-list n (now (sheet .entry)) a) (now (out .entry))) × (now (out .exit) ≡ output-after (area-list-refusal n (now (sheet .entry)) a) (area-list n (now (sheet .entry)) a) (now (out .entry))) ⌝ }
+    ensures { λ r. ⌜ Answers (area-list-refusal n (now (sheet .entry)) a) (area-list n (now (sheet .entry)) a) (now (out .entry)) r (now (out .exit)) ⌝ }
 {
     if sheet.len() != 8192 {
         return Output::Refused(5);
@@ -72,7 +77,7 @@ pub fn area_findings(sheet: &[u8], n: Network, a: Area, out: &mut [u16]) -> Outp
     if early != 0 {
         return Output::Refused(early);
     }
-    if test::good_sheet(sheet, n, a.0) {
+    if test::good_sheet(sheet, n, Extent::Of(a)) {
         return write_list(out, sheet, n, Scope::Within(a));
     }
     Output::Refused(6)
@@ -91,7 +96,7 @@ fn are_two(a: Area, b: Area) -> bool
 
 // 3 of the areas or the network, 4, or 0.
 fn pair_refusal(n: Network, a: Area, b: Area) -> u8
-    ensures { λ r. ⌜ r ≡ (3 if not (two-areas a b) else network-refusal n) ⌝ }
+    ensures { λ r. ⌜ r ≡ list-early n (two-areas a b) ⌝ }
 {
     if are_two(a, b) {
         return n.refusal();
@@ -101,10 +106,10 @@ fn pair_refusal(n: Network, a: Area, b: Area) -> u8
 
 // Both sheets are good, each over the stations of its area.
 fn both_good(first: &[u8], second: &[u8], n: Network, a: Area, b: Area) -> bool
-    ensures { λ r. ⌜ r ≡ (sheet-passes n (a .0) (now (first .entry)) && sheet-passes n (b .0) (now (second .entry))) ⌝ }
+    ensures { λ r. ⌜ r ≡ (sheet-passes n (Extent.Of a) (now (first .entry)) && sheet-passes n (Extent.Of b) (now (second .entry))) ⌝ }
 {
-    if test::good_sheet(first, n, a.0) {
-        return test::good_sheet(second, n, b.0);
+    if test::good_sheet(first, n, Extent::Of(a)) {
+        return test::good_sheet(second, n, Extent::Of(b));
     }
     false
 }
@@ -112,7 +117,7 @@ fn both_good(first: &[u8], second: &[u8], n: Network, a: Area, b: Area) -> bool
 // The list of two sheets, which are put together in one.
 fn write_pair(out: &mut [u16], first: &[u8], second: &[u8], n: Network, a: Area, b: Area) -> Output
     requires { ⌜ (length (now first) ≡ 8192) × (length (now second) ≡ 8192) ⌝ }
-    ensures { λ r. ⌜ (r ≡ output 0 (all-numbers n (Scope.Between a b) (decode-sheet (joined n a b (now (first .entry)) (now (second .entry))))) (now (out .entry))) × (now (out .exit) ≡ output-after 0 (all-numbers n (Scope.Between a b) (decode-sheet (joined n a b (now (first .entry)) (now (second .entry))))) (now (out .entry))) ⌝ }
+    ensures { λ r. ⌜ Answers 0 (all-numbers n (Scope.Between a b) (decode-sheet (joined n a b (now (first .entry)) (now (second .entry))))) (now (out .entry)) r (now (out .exit)) ⌝ }
 {
     let mut sheet = [0u8; 8192];
     joint::join(&mut sheet, first, second, n, a, b);
@@ -128,7 +133,7 @@ pub fn pair_findings(
     b: Area,
     out: &mut [u16],
 ) -> Output
-    ensures { λ r. ⌜ (r ≡ output (two-list-refusal n (now (first .entry)) (now (second .entry)) a b) (two-list n (now (first .entry)) (now (second .entry)) a b) (now (out .entry))) × (now (out .exit) ≡ output-after (two-list-refusal n (now (first .entry)) (now (second .entry)) a b) (two-list n (now (first .entry)) (now (second .entry)) a b) (now (out .entry))) ⌝ }
+    ensures { λ r. ⌜ Answers (two-list-refusal n (now (first .entry)) (now (second .entry)) a b) (two-list n (now (first .entry)) (now (second .entry)) a b) (now (out .entry)) r (now (out .exit)) ⌝ }
 {
     if first.len() != 8192 {
         return Output::Refused(5);

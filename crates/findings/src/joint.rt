@@ -1,8 +1,8 @@
 // Two areas' sheets put together in one, page by page.
 ghost use mathlib.Core.Path.{_≡_};
 ghost use lib.ListN.{length};
-ghost use Rattle.findings.specs.Joined.{joined-page, joined};
-use railway::network::Network;
+ghost use Rattle.findings.specs.between.Joined.{joined-page, joined};
+use network::Network;
 use railway::sorts::Area;
 use railway::sorts::Station;
 use records::bytes;
@@ -12,7 +12,7 @@ fn join_page(page: &mut [u8], first: &[u8], second: &[u8], n: Network, a: Area, 
     requires { ⌜ (length (now page) ≡ 512) × (length (now first) ≡ 512) × (length (now second) ≡ 512) ⌝ }
     ensures { λ _. ⌜ now (page .exit) ≡ joined-page n a b k (now (first .entry)) (now (second .entry)) ⌝ }
 {
-    let g = n.area_of(k);
+    let g = n.group_of(k);
     if g == a.0 {
         bytes::copy(page, first);
         return;

@@ -1,8 +1,8 @@
 // Numbers put into the lent buffer from a place on. Those past its end are counted and not written.
 ghost use mathlib.Core.Path.{_≡_};
-ghost use Prim.Native.Nat.{_≤_};
+ghost use Prim.Native.Nat.{_*_, _≤_};
 ghost use lib.ListN.{set};
-ghost use Rattle.findings.specs.Builder.{told, Puts};
+ghost use Rattle.findings.specs.between.Builder.{told, Puts, list-most};
 use railway::sorts::Station;
 
 fn put_one(out: &mut [u16], at: usize, x: u16)
@@ -23,7 +23,7 @@ pub fn tell(
     first: u16,
     second: u16,
 ) -> usize
-    requires { ⌜ at ≤ 2000000 ⌝ }
+    requires { ⌜ at ≤ 3 * list-most ⌝ }
     ensures { λ r. ⌜ Puts at (told found s rule first second) (now (out .entry)) r (now (out .exit)) 4 ⌝ }
 {
     if found {

@@ -1,13 +1,14 @@
-// Which rules are broken by the visits of a sheet: the rules that tell of one train, and those that tell of two. `here` is the page of the station s.
+// Which rules are broken by the visits of a sheet: the rules that tell of one train, and those that tell of two. `here`
+// is the page of the station s.
 ghost use mathlib.Core.Path.{_≡_};
 ghost use lib.ListN.{length};
-ghost use Rattle.sheet.specs.Changes.{table-in};
+ghost use Rattle.page.specs.between.Changes.{table-in};
 ghost use Rattle.sheet.specs.Sheets.{decode-sheet};
-ghost use Rattle.rules.specs.Parts.{entry};
-ghost use Rattle.findings.specs.Builder.{broken, in-broken, out-broken, far-broken, clash};
-use crate::scope;
-use crate::scope::Scope;
-use railway::network::Network;
+ghost use Rattle.rules.specs.between.Parts.{entry};
+ghost use Rattle.findings.specs.between.Builder.{broken, second-of, in-broken, out-broken, far-broken, clash};
+use network::Network;
+use page_rules::lines;
+use page_rules::links;
 use railway::sorts::Station;
 use railway::sorts::Train;
 use railway::visit::InLink;
@@ -15,23 +16,9 @@ use railway::visit::Inward;
 use railway::visit::OutLink;
 use railway::visit::Outward;
 use railway::visit::Visit;
-use records::bytes;
-use rules::lines;
-use rules::links;
 use rules::stays;
-
-// The page of a station; an empty part where there is no such station.
-pub fn page_of(sheet: &[u8], s: Station) -> &[u8]
-    requires { ⌜ length (now sheet) ≡ 8192 ⌝ }
-    ensures { λ r. ⌜ table-in (now r) ≡ decode-sheet (now (sheet .entry)) s ⌝ }
-{
-    if s.valid() {
-        let at = 512 * (bytes::size(s.0) - 1);
-        let end = at + 512;
-        return &sheet[at..end];
-    }
-    &sheet[0..0]
-}
+use scope::Scope;
+use sheet::station_page;
 
 // Rules that tell of one train: 1, 5, 6, 7, 8, 9
 
@@ -49,7 +36,7 @@ fn is_out_broken(
     ensures { λ r. ⌜ r ≡ out-broken n scope (decode-sheet (now (sheet .entry))) s rule (entry t v) o ⌝ }
 {
     if scope::is_taken(n, scope, s, o.station) {
-        let there = page_of(sheet, o.station);
+        let there = station_page::page_of(sheet, o.station);
         if rule == 7 {
             return !links::is_out_answered(s, t, o, there);
         }
@@ -63,7 +50,7 @@ fn is_in_broken(sheet: &[u8], n: Network, scope: Scope, s: Station, t: Train, i:
     ensures { λ r. ⌜ r ≡ in-broken n scope (decode-sheet (now (sheet .entry))) s t i ⌝ }
 {
     if scope::is_taken(n, scope, s, i.station) {
-        let there = page_of(sheet, i.station);
+        let there = station_page::page_of(sheet, i.station);
         return !links::is_in_answered(s, t, i, there);
     }
     false
@@ -123,6 +110,13 @@ pub fn is_broken(
         return lines::breaks_6(n, here, t, v);
     }
     is_far_broken(sheet, n, scope, s, rule, t, v)
+}
+
+// The second number of what they find: unused.
+pub fn second_of(rule: u16, t: Train, v: Visit) -> u16
+    ensures { λ r. ⌜ r ≡ second-of rule (entry t v) ⌝ }
+{
+    0
 }
 
 // Rules that tell of two trains: 2, 3, 10

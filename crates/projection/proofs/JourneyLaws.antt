@@ -1,4 +1,5 @@
--- The rows from an arrival on and from a departure on, in each case that the code tells apart, as numbers. Assumes nothing.
+-- The rows from an arrival on and from a departure on, in each case that the code tells apart, as numbers. Assumes
+-- nothing.
 use Prim.Native.Nat.{ℕ, zero, suc, _+_, _*_, _-_}
 use mathlib.Core.Path.{_≡_, refl, sym, _∙_, ap}
 use mathlib.Core.Bool.{true, false}
@@ -7,7 +8,6 @@ use mathlib.Core.Option.{Option, none, some}
 use native.Mathlib.Omega.{arith}
 use lib.IntN.{ℤ}
 use lib.ListN.{length, take, drop, length-append}
-use Rattle.base.proofs.Tests.{true-T}
 use Rattle.base.specs.Choice.{if_then_else_}
 use Rattle.railway.specs.Ranges.{station-ok}
 use Rattle.timetable.specs.Tables.{Table, visit-of}
@@ -15,11 +15,9 @@ use Rattle.timetable.specs.Visits.{comes-from, with-out}
 use Rattle.timetable.specs.Rules.{out-answered}
 use Rattle.timetable.specs.Machine.{Timetable}
 use Rattle.timetable.specs.Projection.{expected-arrival, expected-departure, row, from-departure, from-arrival}
-use Rattle.sheet.specs.declared.page.VisitFound.{VisitFound}
-use Rattle.sheet.specs.Sheets.{page-at, decode-sheet}
-use Rattle.sheet.specs.Changes.{table-in, visit-answer}
-use Rattle.sheet.proofs.ShelfLaws.{table-of-page}
-use Rattle.sheet.proofs.SheetLaws.{page-size, decoded-page}
+use Rattle.sheet.specs.Sheets.{decode-sheet}
+use Rattle.page.specs.between.Changes.{table-in}
+use Rattle.sheet.proofs.StationLaws.{station-is, station-table}
 use Rattle.projection.specs.Types.{Station, Train, Outward, OutLink, Visit, Row}
 use Rattle.projection.specs.Numbers.{row-numbers, rows-numbers, arrival-numbers, departure-numbers}
 use Rattle.timetable.specs.Outputs.{put}
@@ -28,22 +26,7 @@ use Rattle.timetable.proofs.PutLaws.{put-append}
 -- the page of a station, as the part from its first byte on is read
 pub page-there : (sheet : List ℕ) (s : Station) (i : ℕ) → length sheet ≡ 8192 → i ≡ s .0 → station-ok s ≡ true
     → table-in (take (512 * (i - 1) + 512 - 512 * (i - 1)) (drop (512 * (i - 1)) sheet)) ≡ decode-sheet sheet s
-unfolding page-at
-page-there sheet s i size e ok =
-    let k : 512 * (i - 1) + 512 - 512 * (i - 1) ≡ 512 = omega arith in
-    rw (k, e) (table-of-page (page-at sheet s) (page-size sheet s size (true-T (station-ok s) ok)) ∙ sym (decoded-page sheet s (true-T (station-ok s) ok)))
-
--- what a look-up's answer says of the visit that was looked for
-
-pub found-some : (o : Option Visit) (r : VisitFound) (v : Visit) → r ≡ visit-answer o → r ≡ VisitFound.Is v → o ≡ some v
-unfolding visit-answer
-found-some none r v p q = let z : _≡_ {A = ℕ} 0 1 = cc in absurd (omega arith)
-found-some (some x) r v p q = cc
-
-pub found-none : (o : Option Visit) (r : VisitFound) → r ≡ visit-answer o → r ≡ VisitFound.Nothing → o ≡ none
-unfolding visit-answer
-found-none none r p q = refl
-found-none (some x) r p q = let z : _≡_ {A = ℕ} 0 1 = cc in absurd (omega arith)
+page-there sheet s i size e ok = ap table-in (station-is sheet s i e size ok) ∙ station-table sheet s size
 
 -- a link whose far visit is there, or is not
 module _ (s : Station) (t : Train) (o : Outward) (there : Table) where

@@ -1,5 +1,5 @@
--- Lateness as a signed machine number: an expected arrival less a standing one fits, and an arrival past what a Minute holds is counted on from the last one.
--- Assumes nothing.
+-- Lateness as a signed machine number: an expected arrival less a standing one fits, and an arrival past what a Minute
+-- holds is counted on from the last one. Assumes nothing.
 use Prim.Native.Nat.{ℕ, suc, _-_, _<_, _≤_}
 use mathlib.Core.Path.{_≡_, refl, _∙_, ap}
 use mathlib.Core.Bool.{Bool, true, false, cond}

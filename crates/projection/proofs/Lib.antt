@@ -1,4 +1,4 @@
 pub mod LateLaws
 pub mod RowLaws
 pub mod JourneyLaws
-pub mod CallLaws
+pub mod ProjectionCall

@@ -1,15 +1,17 @@
--- The call: its answer and the buffer afterwards, each by one equation. Document 01, "Projection and tally": "It refuses 5, 3, 4, 7, 6, 9, 13." Assumes nothing.
+-- The call: its answer and the buffer afterwards, each by one equation. Document 01, "Projection and tally": "It
+-- refuses 5, 3, 4, 7, 6, 9, 13." Assumes nothing.
 use Prim.Native.Nat.{ℕ}
-use mathlib.Core.Bool.{Bool, not, _&&_, _||_}
+use mathlib.Core.Bool.{Bool, not, _&&_}
 use mathlib.Core.List.{List}
 use lib.Dec.{eqb}
 use lib.IntN.{ℤ}
 use lib.ListN.{length}
-use Rattle.base.specs.Choice.{if_then_else_, _if_else_}
+use Rattle.base.specs.Choice.{_if_else_}
 use Rattle.railway.specs.Ranges.{station-ok, train-ok, minute-ok}
-use Rattle.railway.specs.Networks.{network-refusal, listed}
+use Rattle.network.specs.Networks.{network-refusal, listed}
 use Rattle.timetable.specs.Tables.{has-visit}
 use Rattle.timetable.specs.Projection.{projection}
+use Rattle.timetable.specs.Refusals.{early, call-refusal}
 use Rattle.timetable.specs.Outputs.{output, output-after}
 use Rattle.sheet.specs.Sheets.{decode-sheet, good-sheet}
 use Rattle.projection.specs.Types.{Station, Train, Minute, Network, Output}
@@ -21,11 +23,7 @@ values-fit s t a = station-ok s && (train-ok t && minute-ok a)
 
 -- before the sheet is looked at: 3 of the values or the network, 4, "7 station .. unknown", or 0
 unfoldable pub early-refusal : Network → Station → Train → Minute → ℕ
-early-refusal n s t a =
-    3 if not (values-fit s t a) || eqb (network-refusal n) 3
-    else 4 if not (eqb (network-refusal n) 0)
-    else 7 if not (listed n s)
-    else 0
+early-refusal n s t a = early (3 if not (values-fit s t a) else 0) (network-refusal n) (7 if not (listed n s) else 0)
 
 -- "9 visit .. missing"
 unfoldable pub visit-refusal : Station → Train → List ℕ → ℕ
@@ -33,9 +31,7 @@ visit-refusal s t sheet = 9 if not (has-visit t (decode-sheet sheet s)) else 0
 
 unfoldable pub project-refusal : Network → Station → Train → Minute → List ℕ → ℕ
 project-refusal n s t a sheet =
-    5 if not (eqb (length sheet) 8192)
-    else if eqb (early-refusal n s t a) 0 then 6 if not (good-sheet n (listed n) sheet) else visit-refusal s t sheet
-    else early-refusal n s t a
+    call-refusal (eqb (length sheet) 8192) (early-refusal n s t a) (good-sheet n (listed n) sheet) (visit-refusal s t sheet)
 
 -- the rows, as numbers
 unfoldable pub projected : Station → Train → Minute → List ℕ → List ℤ

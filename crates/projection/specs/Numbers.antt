@@ -1,4 +1,5 @@
--- The rows of a projection as numbers in a lent buffer, and the rows from an arrival or a departure on, as numbers of what a sheet holds. Assumes nothing.
+-- The rows of a projection as numbers in a lent buffer, and the rows from an arrival or a departure on, as numbers of
+-- what a sheet holds. Assumes nothing.
 use Prim.Native.Nat.{ℕ}
 use mathlib.Core.List.{List, [], _∷_, flatMap}
 use lib.IntN.{ℤ, pos}

@@ -1,16 +1,18 @@
-// The call: the rows of a train from one visit on, as numbers into a lent buffer. Document 01, "Projection and tally": "It refuses 5, 3, 4, 7, 6, 9, 13."
+// The call: the rows of a train from one visit on, as numbers into a lent buffer. Document 01, "Projection and tally":
+// "It refuses 5, 3, 4, 7, 6, 9, 13."
 ghost use mathlib.Core.Path.{_≡_};
 ghost use lib.ListN.{length};
 ghost use Rattle.timetable.specs.Outputs.{output, output-after};
 ghost use Rattle.projection.specs.Calls.{values-fit, early-refusal, visit-refusal, projected, project-answer, project-after};
 use crate::journey;
 use crate::times;
+use network::Network;
+use page::VisitFound;
 use railway::minute::Minute;
-use railway::network::Network;
 use railway::sorts::Station;
 use railway::sorts::Train;
-use sheet::page::VisitFound;
 use sheet::test;
+use sheet::test::Extent;
 use timetable::Output;
 
 fn are_valid(s: Station, t: Train, a: Minute) -> bool
@@ -44,7 +46,9 @@ fn early_refusal(n: Network, s: Station, t: Train, a: Minute) -> u8
 // The rows: counted first, then written where there is room.
 fn write_rows(sheet: &[u8], s: Station, t: Train, a: Minute, out: &mut [i32]) -> Output
     requires { ⌜ length (now sheet) ≡ 8192 ⌝ }
-    ensures { λ r. ⌜ (r ≡ output 0 (projected s t a (now (sheet .entry))) (now (out .entry))) × (now (out .exit) ≡ output-after 0 (projected s t a (now (sheet .entry))) (now (out .entry))) ⌝ }
+    ensures { λ r. ⌜
+        (r ≡ output 0 (projected s t a (now (sheet .entry))) (now (out .entry)))
+        × (now (out .exit) ≡ output-after 0 (projected s t a (now (sheet .entry))) (now (out .entry))) ⌝ }
 {
     let first = times::minutes(a);
     // What does not fit is dropped, so a pass over one spare number counts.
@@ -59,7 +63,9 @@ fn write_rows(sheet: &[u8], s: Station, t: Train, a: Minute, out: &mut [i32]) ->
 
 fn project_visit(sheet: &[u8], s: Station, t: Train, a: Minute, out: &mut [i32]) -> Output
     requires { ⌜ length (now sheet) ≡ 8192 ⌝ }
-    ensures { λ r. ⌜ (r ≡ output (visit-refusal s t (now (sheet .entry))) (projected s t a (now (sheet .entry))) (now (out .entry))) × (now (out .exit) ≡ output-after (visit-refusal s t (now (sheet .entry))) (projected s t a (now (sheet .entry))) (now (out .entry))) ⌝ }
+    ensures { λ r. ⌜
+        (r ≡ output (visit-refusal s t (now (sheet .entry))) (projected s t a (now (sheet .entry))) (now (out .entry)))
+        × (now (out .exit) ≡ output-after (visit-refusal s t (now (sheet .entry))) (projected s t a (now (sheet .entry))) (now (out .entry))) ⌝ }
 {
     let found = journey::visit_at(sheet, s, t);
     match found {
@@ -70,7 +76,9 @@ fn project_visit(sheet: &[u8], s: Station, t: Train, a: Minute, out: &mut [i32])
 
 // From s, t and an expected arrival a.
 pub fn project(sheet: &[u8], n: Network, s: Station, t: Train, a: Minute, out: &mut [i32]) -> Output
-    ensures { λ r. ⌜ (r ≡ project-answer n s t a (now (sheet .entry)) (now (out .entry))) × (now (out .exit) ≡ project-after n s t a (now (sheet .entry)) (now (out .entry))) ⌝ }
+    ensures { λ r. ⌜
+        (r ≡ project-answer n s t a (now (sheet .entry)) (now (out .entry)))
+        × (now (out .exit) ≡ project-after n s t a (now (sheet .entry)) (now (out .entry))) ⌝ }
 {
     if sheet.len() != 8192 {
         return Output::Refused(5);
@@ -79,7 +87,7 @@ pub fn project(sheet: &[u8], n: Network, s: Station, t: Train, a: Minute, out: &
     if early != 0 {
         return Output::Refused(early);
     }
-    if test::good_sheet(sheet, n, 0) {
+    if test::good_sheet(sheet, n, Extent::Whole) {
         return project_visit(sheet, s, t, a, out);
     }
     Output::Refused(6)

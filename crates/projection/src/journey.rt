@@ -1,23 +1,23 @@
-// The rows along a train's answered links, written one behind the other. Document 01, "Projection and tally": "expected departure from expected arrival, and the next
-// arrival from that departure, along answered links, at most 16 visits". Numbers past the buffer's end are dropped, so that a pass over a short buffer counts them.
+// The rows along a train's answered links, written one behind the other. Document 01, "Projection and tally": "expected
+// departure from expected arrival, and the next arrival from that departure, along answered links, at most 16 visits".
+// Numbers past the buffer's end are dropped, so that a pass over a short buffer counts them.
 ghost use mathlib.Core.Path.{_≡_};
 ghost use Prim.Native.Nat.{_+_, _*_, _≤_};
 ghost use lib.ListN.{length, set};
 ghost use Rattle.timetable.specs.Tables.{visit-of};
 ghost use Rattle.timetable.specs.Rules.{out-answered};
 ghost use Rattle.sheet.specs.Sheets.{decode-sheet};
-ghost use Rattle.sheet.specs.Changes.{visit-answer};
+ghost use Rattle.page.specs.between.Changes.{visit-answer};
 ghost use Rattle.timetable.specs.Outputs.{put};
 ghost use Rattle.projection.specs.Numbers.{row-numbers, arrival-numbers, departure-numbers};
 use crate::times;
+use page::VisitFound;
 use railway::sorts::Station;
 use railway::sorts::Train;
 use railway::visit::OutLink;
 use railway::visit::Outward;
 use railway::visit::Visit;
-use records::bytes;
-use sheet::page;
-use sheet::page::VisitFound;
+use sheet::station_page;
 use timetable::Row;
 
 // The train's visit at a station.
@@ -25,11 +25,7 @@ pub fn visit_at(sheet: &[u8], s: Station, t: Train) -> VisitFound
     requires { ⌜ length (now sheet) ≡ 8192 ⌝ }
     ensures { λ r. ⌜ r ≡ visit-answer (visit-of t (decode-sheet (now (sheet .entry)) s)) ⌝ }
 {
-    if s.valid() {
-        let at = 512 * (bytes::size(s.0) - 1);
-        return page::visit_of(&sheet[at..at + 512], t);
-    }
-    VisitFound::Nothing
+    page::visit_of(station_page::page_of(sheet, s), t)
 }
 
 // The out-link of the visit of t at s is answered: the far visit has s and the line as its in-link.
@@ -63,7 +59,8 @@ fn put_row(out: &mut [i32], at: usize, r: Row)
     put_number(out, at + 3, r.lateness);
 }
 
-// From an arrival on, at most `left` visits: its row, and the rows from its departure on. Answers how many numbers they are.
+// From an arrival on, at most `left` visits: its row, and the rows from its departure on. Answers how many numbers they
+// are.
 pub fn arrive(
     sheet: &[u8],
     t: Train,
@@ -74,7 +71,10 @@ pub fn arrive(
     at: usize,
 ) -> usize
     requires { ⌜ (length (now sheet) ≡ 8192) × (left ≤ 16) × (a + 256 * left ≤ 70000) × (at + 4 * left ≤ 64) ⌝ }
-    ensures { λ r. ⌜ (r ≡ length (arrival-numbers left (now (sheet .entry)) t s a)) × (now (out .exit) ≡ put at (arrival-numbers left (now (sheet .entry)) t s a) (now (out .entry))) × (r ≤ 4 * left) ⌝ }
+    ensures { λ r. ⌜
+        (r ≡ length (arrival-numbers left (now (sheet .entry)) t s a))
+        × (now (out .exit) ≡ put at (arrival-numbers left (now (sheet .entry)) t s a) (now (out .entry)))
+        × (r ≤ 4 * left) ⌝ }
 {
     if left == 0 {
         return 0;
@@ -102,7 +102,10 @@ fn depart(
     at: usize,
 ) -> usize
     requires { ⌜ (length (now sheet) ≡ 8192) × (left ≤ 15) × (d + 255 + 256 * left ≤ 70000) × (at + 4 * left ≤ 64) ⌝ }
-    ensures { λ r. ⌜ (r ≡ length (departure-numbers left (now (sheet .entry)) t s v d)) × (now (out .exit) ≡ put at (departure-numbers left (now (sheet .entry)) t s v d) (now (out .entry))) × (r ≤ 4 * left) ⌝ }
+    ensures { λ r. ⌜
+        (r ≡ length (departure-numbers left (now (sheet .entry)) t s v d))
+        × (now (out .exit) ≡ put at (departure-numbers left (now (sheet .entry)) t s v d) (now (out .entry)))
+        × (r ≤ 4 * left) ⌝ }
 {
     let link = v.outward;
     match link {

@@ -1,5 +1,6 @@
-// The expected times of one visit, by value. Document 01, "Projection and tally": "An occurred time stands (the first arrival too). Otherwise departure is the
-// arrival if the train doesn't stop, else the larger of planned departure and arrival + 1".
+// The expected times of one visit, by value. Document 01, "Projection and tally": "An occurred time stands (the first
+// arrival too). Otherwise departure is the arrival if the train doesn't stop, else the larger of planned departure and
+// arrival + 1".
 ghost use mathlib.Core.Path.{_≡_};
 ghost use Prim.Native.Nat.{_+_, _≤_, max};
 ghost use lib.IntN.{subℕ};
@@ -54,7 +55,8 @@ fn expected_departure(v: Visit, a: u32) -> u32
     a
 }
 
-// "lateness: expected less standing arrival, negative if early". An expected arrival past what a Minute holds, which no good sheet gives, is counted on from the last one.
+// "lateness: expected less standing arrival, negative if early". An expected arrival past what a Minute holds, which no
+// good sheet gives, is counted on from the last one.
 fn lateness(a: u32, standing: Minute) -> i32
     requires { ⌜ a ≤ 70000 ⌝ }
     ensures { λ r. ⌜ r ≡ subℕ a (standing .0) ⌝ }

@@ -1,12 +1,7 @@
--- The types of the crates below, under one module for this crate's own files.
+-- The types of the crates below and of this crate, under one module for this crate's own files.
 pub use Rattle.railway.specs.declared.sorts.Station.{Station}
 pub use Rattle.railway.specs.declared.sorts.Train.{Train}
 pub use Rattle.railway.specs.declared.sorts.Line.{Line}
-pub use Rattle.railway.specs.declared.visit.OutLink.{OutLink}
 pub use Rattle.railway.specs.declared.visit.Outward.{Outward}
 pub use Rattle.railway.specs.declared.visit.Visit.{Visit}
-pub use Rattle.railway.specs.declared.relation.Trains.{Trains}
-pub use Rattle.railway.specs.declared.relation.Relation.{Relation}
-pub use Rattle.railway.specs.declared.relation.Relation.the-variants.{Connection, Disconnection, Dependency}
-pub use Rattle.railway.specs.declared.network.LineRow.{LineRow}
-pub use Rattle.railway.specs.declared.network.Network.{Network}
+pub use Rattle.network.specs.declared.Network.{Network}

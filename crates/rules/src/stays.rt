@@ -3,10 +3,10 @@ ghost use mathlib.Core.Path.{_≡_};
 ghost use mathlib.Core.Bool.{_&&_};
 ghost use Rattle.timetable.specs.Visits.{stops};
 ghost use Rattle.timetable.specs.Rules.{breaks-1, comes-too-soon, breaks-2, on-one-line, breaks-3, connected, disconnected, depends, breaks-5};
-ghost use Rattle.rules.specs.Parts.{leaves-by, runs-below};
+ghost use Rattle.rules.specs.between.Parts.{leaves-by, runs-below, apart};
 use crate::clock;
-use railway::network::LineFound;
-use railway::network::Network;
+use network::LineFound;
+use network::Network;
 use railway::sorts::Line;
 use railway::visit::OutLink;
 use railway::visit::Outward;
@@ -135,6 +135,16 @@ pub fn is_disconnected(interval: u8, v: Visit, w: Visit) -> bool
         return both_arrived(v, w);
     }
     true
+}
+
+// The test of two visits: of a connection, else of a disconnection.
+pub fn is_apart(connection: bool, interval: u8, v: Visit, w: Visit) -> bool
+    ensures { λ r. ⌜ r ≡ apart connection interval v w ⌝ }
+{
+    if connection {
+        return is_connected(interval, v, w);
+    }
+    is_disconnected(interval, v, w)
 }
 
 // "both visit and stop; if the departer's departure is pending, it is the interval or more after the arriver's arrival"

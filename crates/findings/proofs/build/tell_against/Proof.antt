@@ -1,21 +1,23 @@
--- `findings::build::tell_against` meets its contract. The loop's invariant: what is left to put is t with the trains from index i on. Assumes nothing.
+-- `findings::build::tell_against` meets its contract. The loop's invariant: what is left to put is t with the trains
+-- from index i on. Assumes nothing.
 use native.Mathlib.Omega.{arith}
 use borrow.Author.Needs.{needs}
 use Prim.Native.Nat.{_+_, _*_, _-_, _≤_}
 use mathlib.Core.Path.{_≡_, refl, _∙_}
 use denote.Ref.{now}
 use lib.ListN.{length, drop}
-use Rattle.sheet.specs.Changes.{table-in}
-use Rattle.rules.specs.Parts.{entry}
-use Rattle.rules.proofs.EntryLaws.{entry-parts, entries-over}
-use Rattle.findings.specs.Builder.{against}
+use Rattle.page.specs.between.Changes.{table-in}
+use Rattle.rules.specs.between.Parts.{entry}
+use Rattle.page.proofs.EntryLaws.{entry-of, entry-parts, entries-over}
+use Rattle.findings.specs.between.Builder.{against}
+use Rattle.findings.specs.between.Builder.{visit-most}
 use Rattle.findings.proofs.PutLaws.{Left, left-start, left-on, left-end}
 use Rattle.findings.proofs.BuildLaws.{against-next, against-none}
 use Rattle.findings.proofs.build.tell_against.Statement.{statement}
 use Rattle.findings.proofs.build.tell_against.Tie as tie
 
 abbrev Inv-loop : tie.InvT-loop
-Inv-loop out₀ at there from here n s rule t v k to₀ i₀ out to i = (to ≤ at + 96) × (to ≤ at + 4 * i) × (length out ≡ length out₀) × Left at (against n (table-in here) s rule (entry t v) (drop from (table-in there .visits))) out₀ to (against n (table-in here) s rule (entry t v) (drop i (table-in there .visits))) out
+Inv-loop out₀ at there from here n s rule t v k to₀ i₀ out to i = (to ≤ at + visit-most) × (to ≤ at + 4 * i) × (length out ≡ length out₀) × Left at (against n (table-in here) s rule (entry t v) (drop from (table-in there .visits))) out₀ to (against n (table-in here) s rule (entry t v) (drop i (table-in there .visits))) out
 
 abbrev μ-loop : tie.MeasureT-loop
 μ-loop out₀ at there from here n s rule t v k to₀ i₀ out to i = k - i
@@ -52,7 +54,7 @@ loop-again c =
     let s = c .before .before .before .before .before .before .before .before .before .before .before .before .before .before .args in
     let l = c .before .before .before .before .before .before .before .before .before .loop in
     let k = c .before .before .before .before .before .before .before .before .before .before .visit-count in
-    let same = entry-parts _ _ _ (c .before .before .before .before .before .before .train-in .ensures) (c .before .before .before .before .before .visit-in .ensures) ∙ c .before .before .before .before .before .before .before .entry-record .ensures in
+    let same = entry-parts _ _ _ (c .before .before .before .before .before .before .train-in .ensures) (c .before .before .before .before .before .visit-in .ensures) ∙ entry-of _ _ _ (c .before .before .before .before .before .before .before .entry-record .ensures) in
     let next = against-next (s .n) (table-in (now (s .here))) (s .s) (s .rule) (entry (s .t) (s .v)) (now (s .there)) (l .i) (k .result) (k .ensures .0) (c .before .before .before .before .before .before .before .before .loop-test .taken) (c .before .before .before .before .before .before .train-in .result) (c .before .before .before .before .before .visit-in .result) (c .before .before .before .before .does-clash .result) same (c .before .before .before .before .does-clash .ensures) in
     (omega (arith, c .before .before .tell .ensures .2, k .ensures .1), omega (arith, c .before .before .tell .ensures .2), omega (arith, c .before .before .tell .kept .0), left-on (s .at) _ (now (s .out)) (l .to) (c .before .before .tell .result) 4 _ _ _ (l .out) _ next (l .inv .3) (c .before .before .tell .ensures))
 
@@ -64,23 +66,10 @@ returns c =
     let s = c .before .before .before .before .before .before .args in
     let l = c .before .loop in
     let k = c .before .before .visit-count in
-    left-end (s .at) _ (now (s .out)) (l .to) 96 _ (l .out) (against-none (s .n) (table-in (now (s .here))) (s .s) (s .rule) (entry (s .t) (s .v)) _ (entries-over (now (s .there)) (l .i) (k .result) (k .ensures .0) (c .loop-test .left))) (l .inv .3) (l .inv .0)
+    left-end (s .at) _ (now (s .out)) (l .to) visit-most _ (l .out) (against-none (s .n) (table-in (now (s .here))) (s .s) (s .rule) (entry (s .t) (s .v)) _ (entries-over (now (s .there)) (l .i) (k .result) (k .ensures .0) (c .loop-test .left))) (l .inv .3) (l .inv .0)
 
 pub tell-against-spec : {M : Type 1} → statement M
 tell-against-spec =
     tie.close
-    (tie.spec
-    Inv-loop
-    μ-loop
-    visit-count-requires
-    loop-holds
-    entry-record-requires
-    train-in-requires
-    visit-in-requires
-    does-clash-requires
-    tell-requires
-    add-i
-    loop-less
-    loop-again
-    same-length
-    returns)
+    (tie.spec Inv-loop μ-loop visit-count-requires loop-holds entry-record-requires train-in-requires
+    visit-in-requires does-clash-requires tell-requires add-i loop-less loop-again same-length returns)

@@ -1,4 +1,5 @@
--- `findings::build::tell_all` meets its contract. The loop's invariant: what is left to put is what the stations from row i on tell. Assumes nothing.
+-- `findings::build::tell_all` meets its contract. The loop's invariant: what is left to put is what the stations from
+-- row i on tell. Assumes nothing.
 use native.Mathlib.Omega.{arith}
 use borrow.Author.Needs.{needs}
 use Prim.Native.Nat.{_*_, _-_, _≤_}
@@ -7,14 +8,15 @@ use mathlib.Core.List.{flatMap}
 use denote.Ref.{now}
 use lib.ListN.{length, length-map, take, drop}
 use Rattle.sheet.specs.Sheets.{decode-sheet}
-use Rattle.findings.specs.Builder.{station-numbers}
+use Rattle.findings.specs.between.Builder.{station-numbers}
+use Rattle.findings.specs.between.Builder.{list-most, station-most}
 use Rattle.findings.proofs.PutLaws.{Left, left-start, left-on, left-end, puts-as}
 use Rattle.findings.proofs.BuildLaws.{nowhere, rows-next, rows-over, stations-are}
 use Rattle.findings.proofs.build.tell_all.Statement.{statement}
 use Rattle.findings.proofs.build.tell_all.Tie as tie
 
 abbrev Inv-loop : tie.InvT-loop
-Inv-loop out₀ sheet n scope rows k to₀ i₀ out to i = (i ≤ k) × (to ≤ 20760 * i) × (length out ≡ length out₀) × Left 0 (flatMap (λ r. station-numbers n scope (decode-sheet sheet) (r .station)) (take k rows)) out₀ to (flatMap (λ r. station-numbers n scope (decode-sheet sheet) (r .station)) (drop i (take k rows))) out
+Inv-loop out₀ sheet n scope rows k to₀ i₀ out to i = (i ≤ k) × (to ≤ station-most * i) × (length out ≡ length out₀) × Left 0 (flatMap (λ r. station-numbers n scope (decode-sheet sheet) (r .station)) (take k rows)) out₀ to (flatMap (λ r. station-numbers n scope (decode-sheet sheet) (r .station)) (drop i (take k rows))) out
 
 abbrev μ-loop : tie.MeasureT-loop
 μ-loop out₀ sheet n scope rows k to₀ i₀ out to i = k - i
@@ -47,7 +49,7 @@ loop-again c =
     let k = c .before .before .before .before .before .before .before .in-use in
     let many : length (s .n .stations) ≡ 16 = simp length-map at (c .before .before .before .before .before .before .before .before .before .before .before .good .1 .1 .0 .1 .1 .1 .0 .1 .0 .1) in
     let next = rows-next (λ r. station-numbers (s .n) (s .scope) (decode-sheet (now (s .sheet))) (r .station)) (s .n .stations) (k .result) (omega (arith, k .ensures)) (l .i) nowhere (c .before .before .before .before .before .loop-test .taken) in
-    (omega arith, omega (arith, c .before .before .tell-station .ensures .2), omega (arith, c .before .before .tell-station .kept .0), left-on 0 _ (now (s .out)) (l .to) (c .before .before .tell-station .result) 20760 _ _ _ (l .out) _ next (l .inv .3) (c .before .before .tell-station .ensures))
+    (omega arith, omega (arith, c .before .before .tell-station .ensures .2), omega (arith, c .before .before .tell-station .kept .0), left-on 0 _ (now (s .out)) (l .to) (c .before .before .tell-station .result) station-most _ _ _ (l .out) _ next (l .inv .3) (c .before .before .tell-station .ensures))
 
 same-length : tie.Need-same-length Inv-loop μ-loop
 same-length c = omega arith
@@ -58,22 +60,11 @@ returns c =
     let l = c .before .loop in
     let k = c .before .before .in-use in
     let many : length (s .n .stations) ≡ 16 = simp length-map at (c .before .before .before .before .before .before .good .1 .1 .0 .1 .1 .1 .0 .1 .0 .1) in
-    puts-as 0 (l .to) 332160 _ _ (now (s .out)) (l .out) (stations-are (s .n) (s .scope) (decode-sheet (now (s .sheet))) (k .result) many (k .ensures))
-    (left-end 0 _ (now (s .out)) (l .to) 332160 _ (l .out) (rows-over (λ r. station-numbers (s .n) (s .scope) (decode-sheet (now (s .sheet))) (r .station)) (s .n .stations) (k .result) (omega (arith, k .ensures)) (l .i) (c .loop-test .left)) (l .inv .3) (omega (arith, k .ensures)))
+    puts-as 0 (l .to) list-most _ _ (now (s .out)) (l .out) (stations-are (s .n) (s .scope) (decode-sheet (now (s .sheet))) (k .result) many (k .ensures))
+    (left-end 0 _ (now (s .out)) (l .to) list-most _ (l .out) (rows-over (λ r. station-numbers (s .n) (s .scope) (decode-sheet (now (s .sheet))) (r .station)) (s .n .stations) (k .result) (omega (arith, k .ensures)) (l .i) (c .loop-test .left)) (l .inv .3) (omega (arith, k .ensures)))
 
 pub tell-all-spec : {M : Type 1} → statement M
 tell-all-spec =
     tie.close
-    (tie.spec
-    Inv-loop
-    μ-loop
-    in-use-requires
-    loop-holds
-    mul-row
-    array-copy-out-row
-    tell-station-requires
-    add-i
-    loop-less
-    loop-again
-    same-length
-    returns)
+    (tie.spec Inv-loop μ-loop in-use-requires loop-holds mul-row array-copy-out-row tell-station-requires add-i
+    loop-less loop-again same-length returns)

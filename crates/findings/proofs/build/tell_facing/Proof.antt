@@ -1,10 +1,12 @@
--- `findings::build::tell_facing` meets its contract: by the visit's link, and by whether the list takes its far station. Assumes nothing.
+-- `findings::build::tell_facing` meets its contract: by the visit's link, and by whether the list takes its far
+-- station. Assumes nothing.
 use mathlib.Core.Path.{sym}
 use denote.Ref.{now}
-use Rattle.sheet.specs.Changes.{table-in}
+use Rattle.page.specs.between.Changes.{table-in}
 use Rattle.sheet.specs.Sheets.{decode-sheet}
+use Rattle.findings.specs.between.Builder.{visit-most}
 use Rattle.findings.proofs.PutLaws.{puts-as, puts-none}
-use Rattle.findings.proofs.BuildLaws.{facing-none, facing-at, facing-not}
+use Rattle.findings.proofs.BuildLaws.{page-read, facing-none, facing-at, facing-not}
 use borrow.Author.Needs.{needs}
 use Rattle.findings.proofs.build.tell_facing.Statement.{statement}
 use Rattle.findings.proofs.build.tell_facing.Tie as tie
@@ -30,32 +32,24 @@ same-length c = search needs
 returns : tie.Need-returns
 returns c =
     let s = c .before .before .before .before .before .before .before .before .before .before .before .before .before .args in
-    puts-as (s .at) (c .before .before .tell-against .result) 96 _ _ _ _
-    (facing-at (s .n) (s .scope) (decode-sheet (now (s .sheet))) (table-in (now (s .here))) (s .s) (s .t) (s .v) _ (c .before .before .before .before .before .before .is-taken .result) (c .before .before .before .before .before .before .before .before .link .given .1) (c .before .before .before .before .before .before .is-taken .ensures) (c .before .before .before .before .before .if1 .taken) (table-in (now (c .before .before .before .page-of .result))) (c .before .before .before .page-of .ensures))
+    puts-as (s .at) (c .before .before .tell-against .result) visit-most _ _ _ _
+    (facing-at (s .n) (s .scope) (decode-sheet (now (s .sheet))) (table-in (now (s .here))) (s .s) (s .t) (s .v) _ (c .before .before .before .before .before .before .is-taken .result) (c .before .before .before .before .before .before .before .before .link .given .1) (c .before .before .before .before .before .before .is-taken .ensures) (c .before .before .before .before .before .if1 .taken) (table-in (now (c .before .before .before .page-of .result))) (page-read (now (s .sheet)) _ _ (c .before .before .before .before .before .before .before .before .before .before .before .before .before .pre .0) (c .before .before .before .page-of .ensures)))
     (c .before .before .tell-against .ensures)
 
 returns-2 : tie.Need-returns-2
 returns-2 c =
     let s = c .before .before .before .before .before .args in
-    puts-as (s .at) (s .at) 96 _ _ _ _
-    (sym (facing-none (s .n) (s .scope) (decode-sheet (now (s .sheet))) (table-in (now (s .here))) (s .s) (s .t) (s .v) (c .enum-told .given .1))) (puts-none (s .at) 96 (now (s .out)))
+    puts-as (s .at) (s .at) visit-most _ _ _ _
+    (sym (facing-none (s .n) (s .scope) (decode-sheet (now (s .sheet))) (table-in (now (s .here))) (s .s) (s .t) (s .v) (c .enum-told .given .1))) (puts-none (s .at) visit-most (now (s .out)))
 
 returns-3 : tie.Need-returns-3
 returns-3 c =
     let s = c .before .before .before .before .before .before .before .before .args in
-    puts-as (s .at) (s .at) 96 _ _ _ _
-    (facing-not (s .n) (s .scope) (decode-sheet (now (s .sheet))) (table-in (now (s .here))) (s .s) (s .t) (s .v) _ (c .before .is-taken .result) (c .before .before .before .link .given .1) (c .before .is-taken .ensures) (c .if1 .left)) (puts-none (s .at) 96 (now (s .out)))
+    puts-as (s .at) (s .at) visit-most _ _ _ _
+    (facing-not (s .n) (s .scope) (decode-sheet (now (s .sheet))) (table-in (now (s .here))) (s .s) (s .t) (s .v) _ (c .before .is-taken .result) (c .before .before .before .link .given .1) (c .before .is-taken .ensures) (c .if1 .left)) (puts-none (s .at) visit-most (now (s .out)))
 
 pub tell-facing-spec : {M : Type 1} → statement M
 tell-facing-spec =
     tie.close
-    (tie.spec
-    enum-told
-    enum-known-link
-    is-taken-requires
-    page-of-requires
-    tell-against-requires
-    same-length
-    returns
-    returns-2
-    returns-3)
+    (tie.spec enum-told enum-known-link is-taken-requires page-of-requires tell-against-requires same-length returns
+    returns-2 returns-3)

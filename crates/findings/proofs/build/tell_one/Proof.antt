@@ -4,10 +4,12 @@ use Prim.Native.Nat.{_+_}
 use mathlib.Core.Path.{_∙_}
 use lib.ListN.{drop}
 use denote.Ref.{now}
-use Rattle.sheet.specs.Changes.{table-in}
+use Rattle.page.specs.between.Changes.{table-in}
 use Rattle.sheet.specs.Sheets.{decode-sheet}
-use Rattle.rules.specs.Parts.{entry, entry-at}
-use Rattle.rules.proofs.EntryLaws.{entry-parts}
+use Rattle.rules.specs.between.Parts.{entry}
+use Rattle.page.specs.between.Entries.{entry-at}
+use Rattle.page.proofs.EntryLaws.{entry-of, entry-parts}
+use Rattle.findings.specs.between.Builder.{visit-most}
 use Rattle.findings.proofs.PutLaws.{puts-as, puts-more}
 use Rattle.findings.proofs.BuildLaws.{step-paired, step-facing, step-one}
 use borrow.Author.Needs.{needs}
@@ -38,8 +40,8 @@ same-length c = search needs
 returns : tie.Need-returns
 returns c =
     let s = c .before .before .before .before .before .before .before .before .before .before .before .before .args in
-    let same = entry-parts _ _ _ (c .before .before .before .before .before .before .before .train-in .ensures) (c .before .before .before .before .before .before .visit-in .ensures) ∙ c .before .before .before .before .before .before .before .before .entry-record .ensures in
-    puts-as (s .at) (c .before .before .tell-against .result) 96 _ _ _ _
+    let same = entry-parts _ _ _ (c .before .before .before .before .before .before .before .train-in .ensures) (c .before .before .before .before .before .before .visit-in .ensures) ∙ entry-of _ _ _ (c .before .before .before .before .before .before .before .before .entry-record .ensures) in
+    puts-as (s .at) (c .before .before .tell-against .result) visit-most _ _ _ _
     (step-paired (s .n) (s .scope) (decode-sheet (now (s .sheet))) (table-in (now (s .here))) (s .s) (s .rule) (entry-at (s .i) (now (s .here))) (entry (c .before .before .before .before .before .before .before .train-in .result) (c .before .before .before .before .before .before .visit-in .result)) (drop (s .i + 1) (table-in (now (s .here)) .visits)) same (c .before .before .before .before .before .is-paired .result) (c .before .before .before .before .before .is-paired .ensures) (c .before .before .before .before .if1 .taken))
     (c .before .before .tell-against .ensures)
 
@@ -52,13 +54,16 @@ same-length-2 c = search needs
 returns-2 : tie.Need-returns-2
 returns-2 c =
     let s = c .before .before .before .before .before .before .before .before .before .before .before .before .before .args in
-    let same = entry-parts _ _ _ (c .before .before .before .before .before .before .before .before .train-in .ensures) (c .before .before .before .before .before .before .before .visit-in .ensures) ∙ c .before .before .before .before .before .before .before .before .before .entry-record .ensures in
-    puts-as (s .at) (c .before .before .tell-facing .result) 96 _ _ _ _
+    let same = entry-parts _ _ _ (c .before .before .before .before .before .before .before .before .train-in .ensures) (c .before .before .before .before .before .before .before .visit-in .ensures) ∙ entry-of _ _ _ (c .before .before .before .before .before .before .before .before .before .entry-record .ensures) in
+    puts-as (s .at) (c .before .before .tell-facing .result) visit-most _ _ _ _
     (step-facing (s .n) (s .scope) (decode-sheet (now (s .sheet))) (table-in (now (s .here))) (s .s) (s .rule) (entry-at (s .i) (now (s .here))) (entry (c .before .before .before .before .before .before .before .before .train-in .result) (c .before .before .before .before .before .before .before .visit-in .result)) (drop (s .i + 1) (table-in (now (s .here)) .visits)) same (c .before .before .before .before .before .before .is-paired .result) (c .before .before .before .before .before .before .is-paired .ensures) (c .before .before .before .before .before .if1 .left) (c .before .before .before .before .if2 .taken))
     (c .before .before .tell-facing .ensures)
 
 is-broken-requires : tie.Need-is-broken-requires
 is-broken-requires c κs = search needs
+
+second-of-requires : tie.Need-second-of-requires
+second-of-requires c κs = search needs
 
 tell-requires : tie.Need-tell-requires
 tell-requires c κs = search needs
@@ -68,28 +73,15 @@ same-length-3 c = search needs
 
 returns-3 : tie.Need-returns-3
 returns-3 c =
-    let s = c .before .before .before .before .before .before .before .before .before .before .before .before .before .before .args in
-    let same = entry-parts _ _ _ (c .before .before .before .before .before .before .before .before .before .train-in .ensures) (c .before .before .before .before .before .before .before .before .visit-in .ensures) ∙ c .before .before .before .before .before .before .before .before .before .before .entry-record .ensures in
-    puts-as (s .at) (c .before .before .tell .result) 96 _ _ _ _
-    (step-one (s .n) (s .scope) (decode-sheet (now (s .sheet))) (table-in (now (s .here))) (s .s) (s .rule) (entry-at (s .i) (now (s .here))) (entry (c .before .before .before .before .before .before .before .before .before .train-in .result) (c .before .before .before .before .before .before .before .before .visit-in .result)) (drop (s .i + 1) (table-in (now (s .here)) .visits)) same (c .before .before .before .before .before .before .before .is-paired .result) (c .before .before .before .before .before .before .before .is-paired .ensures) (c .before .before .before .before .before .before .if1 .left) (c .before .before .before .before .before .if2 .left) (c .before .before .before .before .is-broken .result) (c .before .before .before .before .is-broken .ensures))
-    (puts-more (s .at) (c .before .before .tell .result) 4 96 _ _ _ (omega arith) (c .before .before .tell .ensures))
+    let s = c .before .before .before .before .before .before .before .before .before .before .before .before .before .before .before .args in
+    let same = entry-parts _ _ _ (c .before .before .before .before .before .before .before .before .before .before .train-in .ensures) (c .before .before .before .before .before .before .before .before .before .visit-in .ensures) ∙ entry-of _ _ _ (c .before .before .before .before .before .before .before .before .before .before .before .entry-record .ensures) in
+    puts-as (s .at) (c .before .before .tell .result) visit-most _ _ _ _
+    (step-one (s .n) (s .scope) (decode-sheet (now (s .sheet))) (table-in (now (s .here))) (s .s) (s .rule) (entry-at (s .i) (now (s .here))) (entry (c .before .before .before .before .before .before .before .before .before .before .train-in .result) (c .before .before .before .before .before .before .before .before .before .visit-in .result)) (drop (s .i + 1) (table-in (now (s .here)) .visits)) same (c .before .before .before .before .before .before .before .before .is-paired .result) (c .before .before .before .before .before .before .before .before .is-paired .ensures) (c .before .before .before .before .before .before .before .if1 .left) (c .before .before .before .before .before .before .if2 .left) (c .before .before .before .before .before .is-broken .result) (c .before .before .before .before .before .is-broken .ensures) (c .before .before .before .before .second-of .result) (c .before .before .before .before .second-of .ensures))
+    (puts-more (s .at) (c .before .before .tell .result) 4 visit-most _ _ _ (omega arith) (c .before .before .tell .ensures))
 
 pub tell-one-spec : {M : Type 1} → statement M
 tell-one-spec =
     tie.close
-    (tie.spec
-    entry-record-requires
-    train-in-requires
-    visit-in-requires
-    is-paired-requires
-    add-tell-against
-    tell-against-requires
-    same-length
-    returns
-    tell-facing-requires
-    same-length-2
-    returns-2
-    is-broken-requires
-    tell-requires
-    same-length-3
-    returns-3)
+    (tie.spec entry-record-requires train-in-requires visit-in-requires is-paired-requires add-tell-against
+    tell-against-requires same-length returns tell-facing-requires same-length-2 returns-2 is-broken-requires
+    second-of-requires tell-requires same-length-3 returns-3)

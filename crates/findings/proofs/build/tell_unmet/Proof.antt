@@ -1,13 +1,15 @@
--- `findings::build::tell_unmet` meets its contract. The loop's invariant: what is left to put is the relations from index i on. Assumes nothing.
+-- `findings::build::tell_unmet` meets its contract. The loop's invariant: what is left to put is the relations from
+-- index i on. Assumes nothing.
 use native.Mathlib.Omega.{arith}
 use borrow.Author.Needs.{needs}
 use Prim.Native.Nat.{_+_, _*_, _-_, _≤_}
 use mathlib.Core.Path.{_≡_, refl, _∙_}
 use denote.Ref.{now}
 use lib.ListN.{length, drop}
-use Rattle.sheet.specs.Changes.{table-in}
-use Rattle.rules.proofs.EntryLaws.{relations-over}
-use Rattle.findings.specs.Builder.{unmet-numbers}
+use Rattle.page.specs.between.Changes.{table-in}
+use Rattle.page.proofs.EntryLaws.{relation-of, relations-over}
+use Rattle.findings.specs.between.Builder.{unmet-numbers}
+use Rattle.findings.specs.between.Builder.{relations-most}
 use Rattle.findings.proofs.PutLaws.{Left, left-start, left-on, left-end}
 use Rattle.findings.proofs.BuildLaws.{unmet-next, unmet-none}
 use Rattle.findings.proofs.build.tell_unmet.Statement.{statement}
@@ -51,7 +53,7 @@ loop-again c =
     let s = c .before .before .before .before .before .before .before .before .before .before .before .before .args in
     let l = c .before .before .before .before .before .before .before .before .loop in
     let k = c .before .before .before .before .before .before .before .before .before .relation-count in
-    let read = c .before .before .before .before .before .relation-in .ensures ∙ c .before .before .before .before .before .before .relation-record .ensures in
+    let read = c .before .before .before .before .before .relation-in .ensures ∙ relation-of _ _ _ (c .before .before .before .before .before .before .relation-record .ensures) in
     let next = unmet-next (table-in (now (s .here))) (s .s) (now (s .here)) (l .i) (k .result) (k .ensures .0) (c .before .before .before .before .before .before .before .loop-test .taken) (l .rank) (c .before .before .before .before .before .relation-in .result) (c .before .before .before .before .is-met .result) read (c .before .before .before .before .is-met .ensures) in
     (omega arith, omega arith, omega (arith, c .before .before .tell .ensures .2), omega (arith, c .before .before .tell .kept .0), left-on (s .at) _ (now (s .out)) (l .to) (c .before .before .tell .result) 4 _ _ _ (l .out) _ next (l .inv .4) (c .before .before .tell .ensures))
 
@@ -63,23 +65,10 @@ returns c =
     let s = c .before .before .before .before .before .args in
     let l = c .before .loop in
     let k = c .before .before .relation-count in
-    left-end (s .at) _ (now (s .out)) (l .to) 24 _ (l .out) (unmet-none (table-in (now (s .here))) (s .s) (l .rank) _ (relations-over (now (s .here)) (l .i) (k .result) (k .ensures .0) (c .loop-test .left))) (l .inv .4) (omega (arith, k .ensures .1))
+    left-end (s .at) _ (now (s .out)) (l .to) relations-most _ (l .out) (unmet-none (table-in (now (s .here))) (s .s) (l .rank) _ (relations-over (now (s .here)) (l .i) (k .result) (k .ensures .0) (c .loop-test .left))) (l .inv .4) (omega (arith, k .ensures .1))
 
 pub tell-unmet-spec : {M : Type 1} → statement M
 tell-unmet-spec =
     tie.close
-    (tie.spec
-    Inv-loop
-    μ-loop
-    relation-count-requires
-    loop-holds
-    relation-record-requires
-    relation-in-requires
-    is-met-requires
-    tell-requires
-    add-i
-    add-rank
-    loop-less
-    loop-again
-    same-length
-    returns)
+    (tie.spec Inv-loop μ-loop relation-count-requires loop-holds relation-record-requires relation-in-requires
+    is-met-requires tell-requires add-i add-rank loop-less loop-again same-length returns)

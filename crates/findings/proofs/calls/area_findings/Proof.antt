@@ -3,7 +3,7 @@ use native.Mathlib.Omega.{arith}
 use mathlib.Core.Path.{refl, sym, _∙_}
 use denote.Ref.{now}
 use Rattle.findings.specs.Lists.{area-list, area-list-refusal}
-use Rattle.findings.proofs.CallLaws.{refuses, answers-as, area-short, area-early, area-bad, area-good, area-numbers-are}
+use Rattle.findings.proofs.ListCalls.{refuses, answers-as, area-short, area-early, area-bad, area-good, area-numbers-are}
 use borrow.Author.Needs.{needs}
 use Rattle.findings.proofs.calls.area_findings.Statement.{statement}
 use Rattle.findings.proofs.calls.area_findings.Tie as tie
@@ -49,12 +49,5 @@ returns-4 c =
 pub area-findings-spec : {M : Type 1} → statement M
 area-findings-spec =
     tie.close
-    (tie.spec
-    returns
-    area-refusal-requires
-    returns-2
-    good-sheet-requires
-    write-list-requires
-    same-length
-    returns-3
+    (tie.spec returns area-refusal-requires returns-2 good-sheet-requires write-list-requires same-length returns-3
     returns-4)

@@ -3,7 +3,7 @@ use native.Mathlib.Omega.{arith}
 use mathlib.Core.Path.{refl, sym, _∙_}
 use denote.Ref.{now}
 use Rattle.findings.specs.Lists.{two-list, two-list-refusal}
-use Rattle.findings.proofs.CallLaws.{refuses, answers-as, two-short, two-short-second, two-early, two-bad, two-good, two-numbers}
+use Rattle.findings.proofs.ListCalls.{refuses, answers-as, two-short, two-short-second, two-early, two-bad, two-good, two-numbers}
 use borrow.Author.Needs.{needs}
 use Rattle.findings.proofs.calls.pair_findings.Statement.{statement}
 use Rattle.findings.proofs.calls.pair_findings.Tie as tie
@@ -61,13 +61,5 @@ returns-5 c =
 pub pair-findings-spec : {M : Type 1} → statement M
 pair-findings-spec =
     tie.close
-    (tie.spec
-    returns
-    returns-2
-    pair-refusal-requires
-    returns-3
-    both-good-requires
-    write-pair-requires
-    same-length
-    returns-4
-    returns-5)
+    (tie.spec returns returns-2 pair-refusal-requires returns-3 both-good-requires write-pair-requires same-length
+    returns-4 returns-5)

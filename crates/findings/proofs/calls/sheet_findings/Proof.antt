@@ -3,7 +3,7 @@ use native.Mathlib.Omega.{arith}
 use mathlib.Core.Path.{refl, sym, _∙_}
 use denote.Ref.{now}
 use Rattle.findings.specs.Lists.{sheet-list, sheet-list-refusal}
-use Rattle.findings.proofs.CallLaws.{refuses, answers-as, sheet-short, sheet-early, sheet-bad, sheet-good, sheet-numbers}
+use Rattle.findings.proofs.ListCalls.{refuses, answers-as, sheet-short, sheet-early, sheet-bad, sheet-good, sheet-numbers}
 use borrow.Author.Needs.{needs}
 use Rattle.findings.proofs.calls.sheet_findings.Statement.{statement}
 use Rattle.findings.proofs.calls.sheet_findings.Tie as tie
@@ -46,12 +46,5 @@ returns-4 c =
 pub sheet-findings-spec : {M : Type 1} → statement M
 sheet-findings-spec =
     tie.close
-    (tie.spec
-    returns
-    refusal-requires
-    returns-2
-    good-sheet-requires
-    write-list-requires
-    same-length
-    returns-3
+    (tie.spec returns refusal-requires returns-2 good-sheet-requires write-list-requires same-length returns-3
     returns-4)

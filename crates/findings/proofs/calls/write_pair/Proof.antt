@@ -1,4 +1,5 @@
--- `findings::calls::write_pair` meets its contract: the list is that of the sheet that was put together. Assumes nothing.
+-- `findings::calls::write_pair` meets its contract: the list is that of the sheet that was put together. Assumes
+-- nothing.
 use borrow.Author.Needs.{needs}
 use Rattle.findings.proofs.calls.write_pair.Statement.{statement}
 use Rattle.findings.proofs.calls.write_pair.Tie as tie
@@ -24,10 +25,4 @@ returns c = rw (← c .before .before .before .before .before .before .join .ens
 pub write-pair-spec : {M : Type 1} → statement M
 write-pair-spec =
     tie.close
-    (tie.spec
-    slice-aggregate-join
-    join-requires
-    slice-aggregate-write-list
-    write-list-requires
-    same-length
-    returns)
+    (tie.spec slice-aggregate-join join-requires slice-aggregate-write-list write-list-requires same-length returns)

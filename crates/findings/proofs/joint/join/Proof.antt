@@ -1,12 +1,13 @@
--- `findings::joint::join` meets its contract. The loop's invariant: the first i pages are those of the sheet to be made. Assumes nothing.
+-- `findings::joint::join` meets its contract. The loop's invariant: the first i pages are those of the sheet to be
+-- made. Assumes nothing.
 use native.Mathlib.Omega.{arith}
 use Prim.Native.Nat.{_+_, _*_, _-_, _≤_}
 use mathlib.Core.Path.{_≡_, refl, _∙_}
 use native.Mathlib.Nat.{add-sub-cancel-left}
 use denote.Ref.{now}
 use lib.ListN.{length, take, drop}
-use Rattle.sheet.proofs.CopyLaws.{filled-next, filled-length, part-size, filled}
-use Rattle.findings.specs.Joined.{joined}
+use Rattle.sheet.proofs.FillLaws.{filled-next, filled-length, part-size, filled}
+use Rattle.findings.specs.between.Joined.{joined}
 use Rattle.findings.proofs.JointLaws.{joined-size, joined-row}
 use Rattle.findings.proofs.joint.join.Statement.{statement}
 use Rattle.findings.proofs.joint.join.Tie as tie
@@ -97,25 +98,6 @@ returns c =
 pub join-spec : {M : Type 1} → statement M
 join-spec =
     tie.close
-    (tie.spec
-    Inv-loop
-    μ-loop
-    loop-holds
-    mul-at
-    add-end
-    sub-join-page
-    part-join-page-start
-    part-join-page-end
-    sub-join-page-2
-    part-join-page-start-2
-    part-join-page-end-2
-    sub-join-page-3
-    part-join-page-start-3
-    part-join-page-end-3
-    join-page-requires
-    add-i
-    add-k
-    loop-less
-    loop-again
-    same-length
-    returns)
+    (tie.spec Inv-loop μ-loop loop-holds mul-at add-end sub-join-page part-join-page-start part-join-page-end
+    sub-join-page-2 part-join-page-start-2 part-join-page-end-2 sub-join-page-3 part-join-page-start-3
+    part-join-page-end-3 join-page-requires add-i add-k loop-less loop-again same-length returns)

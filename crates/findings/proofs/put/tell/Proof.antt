@@ -44,16 +44,5 @@ returns-2 c = let s = c .before .before .args in told-not (s .at) (s .found) (s 
 pub tell-spec : {M : Type 1} → statement M
 tell-spec =
     tie.close
-    (tie.spec
-    cast-put-one
-    put-one-requires
-    add-put-one
-    put-one-requires-2
-    add-put-one-2
-    put-one-requires-3
-    add-put-one-3
-    put-one-requires-4
-    add-result
-    same-length
-    returns
-    returns-2)
+    (tie.spec cast-put-one put-one-requires add-put-one put-one-requires-2 add-put-one-2 put-one-requires-3
+    add-put-one-3 put-one-requires-4 add-result same-length returns returns-2)

@@ -1,7 +1,7 @@
 -- `findings::tests::does_clash` meets its contract: by the rule, and by the visit's link. Assumes nothing.
 use borrow.Author.Tests.{eq-eqb, ne-eqb}
 use Rattle.visits.proofs.LinkLaws.{leaves-at, leaves-none}
-use Rattle.findings.specs.Builder.{clash}
+use Rattle.findings.specs.between.Builder.{clash}
 use borrow.Author.Needs.{needs}
 use Rattle.findings.proofs.tests.does_clash.Statement.{statement}
 use Rattle.findings.proofs.tests.does_clash.Tie as tie
@@ -40,13 +40,5 @@ returns-4 c = rw (ne-eqb _ _ (c .before .before .before .before .before .if1 .le
 pub does-clash-spec : {M : Type 1} → statement M
 does-clash-spec =
     tie.close
-    (tie.spec
-    breaks-2-requires
-    returns
-    breaks-3-requires
-    returns-2
-    enum-told
-    enum-known-link
-    breaks-10-requires
-    returns-3
-    returns-4)
+    (tie.spec breaks-2-requires returns breaks-3-requires returns-2 enum-told enum-known-link breaks-10-requires
+    returns-3 returns-4)

@@ -1,6 +1,6 @@
 -- `findings::tests::is_broken` meets its contract: by the rule. Assumes nothing.
 use borrow.Author.Tests.{eq-eqb, ne-eqb}
-use Rattle.findings.specs.Builder.{broken}
+use Rattle.findings.specs.between.Builder.{broken}
 use borrow.Author.Needs.{needs}
 use Rattle.findings.proofs.tests.is_broken.Statement.{statement}
 use Rattle.findings.proofs.tests.is_broken.Tie as tie
@@ -36,12 +36,5 @@ returns-4 c = rw (ne-eqb _ _ (c .before .before .before .if1 .left), ne-eqb _ _ 
 pub is-broken-spec : {M : Type 1} → statement M
 is-broken-spec =
     tie.close
-    (tie.spec
-    breaks-1-requires
-    returns
-    breaks-5-requires
-    returns-2
-    breaks-6-requires
-    returns-3
-    is-far-broken-requires
+    (tie.spec breaks-1-requires returns breaks-5-requires returns-2 breaks-6-requires returns-3 is-far-broken-requires
     returns-4)

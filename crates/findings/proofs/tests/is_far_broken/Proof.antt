@@ -1,7 +1,7 @@
 -- `findings::tests::is_far_broken` meets its contract: by the rule and the visit's link. Assumes nothing.
 use borrow.Author.Tests.{eq-eqb, ne-eqb}
 use Rattle.visits.proofs.LinkLaws.{comes-at, comes-none, leaves-at, leaves-none}
-use Rattle.findings.specs.Builder.{far-broken}
+use Rattle.findings.specs.between.Builder.{far-broken}
 use borrow.Author.Needs.{needs}
 use Rattle.findings.proofs.tests.is_far_broken.Statement.{statement}
 use Rattle.findings.proofs.tests.is_far_broken.Tie as tie
@@ -43,14 +43,5 @@ returns-4 c = rw (ne-eqb _ _ (c .before .before .before .before .if1 .left), lea
 pub is-far-broken-spec : {M : Type 1} → statement M
 is-far-broken-spec =
     tie.close
-    (tie.spec
-    enum-told
-    returns
-    enum-known-link
-    is-in-broken-requires
-    returns-2
-    enum-told-2
-    enum-known-link-2
-    is-out-broken-requires
-    returns-3
-    returns-4)
+    (tie.spec enum-told returns enum-known-link is-in-broken-requires returns-2 enum-told-2 enum-known-link-2
+    is-out-broken-requires returns-3 returns-4)

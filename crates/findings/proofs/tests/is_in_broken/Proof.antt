@@ -1,6 +1,8 @@
--- `findings::tests::is_in_broken` meets its contract: each return rewrites with the test that led there. Assumes nothing.
-use Rattle.findings.specs.Builder.{in-broken}
+-- `findings::tests::is_in_broken` meets its contract: each return rewrites with the test that led there. Assumes
+-- nothing.
+use Rattle.findings.specs.between.Builder.{in-broken}
 use borrow.Author.Needs.{needs}
+use Rattle.findings.proofs.BuildLaws.{page-read}
 use Rattle.findings.proofs.tests.is_in_broken.Statement.{statement}
 use Rattle.findings.proofs.tests.is_in_broken.Tie as tie
 
@@ -15,7 +17,7 @@ is-in-answered-requires c κs = search needs
 
 returns : tie.Need-returns
 unfolding in-broken
-returns c = rw (← c .before .before .before .is-taken .ensures, c .before .before .if1 .taken, ← c .before .page-of .ensures, ← c .is-in-answered .ensures)
+returns c = rw (← c .before .before .before .is-taken .ensures, c .before .before .if1 .taken, ← page-read _ _ _ (c .before .before .before .before .before .pre) (c .before .page-of .ensures), ← c .is-in-answered .ensures)
 
 returns-2 : tie.Need-returns-2
 unfolding in-broken

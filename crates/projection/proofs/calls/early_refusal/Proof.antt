@@ -1,6 +1,6 @@
 -- `projection::calls::early_refusal` meets its contract: the tests that led to each return decide it. Assumes nothing.
 use mathlib.Core.Path.{sym, _∙_}
-use Rattle.projection.proofs.CallLaws.{early-values, early-network, early-unknown, early-none}
+use Rattle.projection.proofs.ProjectionCall.{early-values, early-network, early-unknown, early-none}
 use borrow.Author.Needs.{needs}
 use Rattle.projection.proofs.calls.early_refusal.Statement.{statement}
 use Rattle.projection.proofs.calls.early_refusal.Tie as tie
@@ -38,11 +38,4 @@ returns-4 c = let s = c .before .before .args in early-values (s .n) (s .s) (s .
 pub early-refusal-spec : {M : Type 1} → statement M
 early-refusal-spec =
     tie.close
-    (tie.spec
-    are-valid-requires
-    refusal-requires
-    listed-requires
-    returns
-    returns-2
-    returns-3
-    returns-4)
+    (tie.spec are-valid-requires refusal-requires listed-requires returns returns-2 returns-3 returns-4)

@@ -1,8 +1,9 @@
--- `projection::calls::project` meets its contract: the tests that led to each return decide the refusal, and past them the rows are written. Assumes nothing.
+-- `projection::calls::project` meets its contract: the tests that led to each return decide the refusal, and past them
+-- the rows are written. Assumes nothing.
 use mathlib.Core.Path.{sym, _∙_}
 use native.Mathlib.Omega.{arith}
 use denote.Ref.{now}
-use Rattle.projection.proofs.CallLaws.{call-refused, call-short, call-early, call-bad, call-good}
+use Rattle.projection.proofs.ProjectionCall.{call-refused, call-short, call-early, call-bad, call-good}
 use borrow.Author.Needs.{needs}
 use Rattle.projection.proofs.calls.project.Statement.{statement}
 use Rattle.projection.proofs.calls.project.Tie as tie
@@ -47,12 +48,5 @@ returns-4 c =
 pub project-spec : {M : Type 1} → statement M
 project-spec =
     tie.close
-    (tie.spec
-    returns
-    early-refusal-requires
-    returns-2
-    good-sheet-requires
-    project-visit-requires
-    same-length
-    returns-3
-    returns-4)
+    (tie.spec returns early-refusal-requires returns-2 good-sheet-requires project-visit-requires same-length
+    returns-3 returns-4)

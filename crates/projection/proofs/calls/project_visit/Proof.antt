@@ -2,9 +2,9 @@
 use native.Mathlib.Omega.{arith}
 use denote.Ref.{now}
 use Rattle.projection.specs.Calls.{projected}
-use Rattle.projection.proofs.JourneyLaws.{found-some, found-none}
+use Rattle.page.proofs.FoundLaws.{found-some, found-none}
 use Rattle.timetable.proofs.PutLaws.{refused-so}
-use Rattle.projection.proofs.CallLaws.{visit-missing, visit-there}
+use Rattle.projection.proofs.ProjectionCall.{visit-missing, visit-there}
 use borrow.Author.Needs.{needs}
 use Rattle.projection.proofs.calls.project_visit.Statement.{statement}
 use Rattle.projection.proofs.calls.project_visit.Tie as tie
@@ -38,11 +38,4 @@ returns-2 c =
 pub project-visit-spec : {M : Type 1} → statement M
 project-visit-spec =
     tie.close
-    (tie.spec
-    visit-at-requires
-    enum-told
-    enum-told-2
-    write-rows-requires
-    returns
-    same-length
-    returns-2)
+    (tie.spec visit-at-requires enum-told enum-told-2 write-rows-requires returns same-length returns-2)

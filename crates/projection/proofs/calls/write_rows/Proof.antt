@@ -1,4 +1,5 @@
--- `projection::calls::write_rows` meets its contract: the first pass counts, and the second writes what fits. Assumes nothing.
+-- `projection::calls::write_rows` meets its contract: the first pass counts, and the second writes what fits. Assumes
+-- nothing.
 use mathlib.Core.Path.{ap, _∙_}
 use mathlib.Core.List.{List}
 use denote.Ref.{now}
@@ -7,7 +8,7 @@ use lib.ListN.{length}
 use Rattle.timetable.specs.Outputs.{put}
 use Rattle.projection.specs.Calls.{projected}
 use Rattle.timetable.proofs.PutLaws.{too-short, fits-in}
-use Rattle.projection.proofs.CallLaws.{from-first}
+use Rattle.projection.proofs.ProjectionCall.{from-first}
 use borrow.Author.Needs.{needs}
 use Rattle.projection.proofs.calls.write_rows.Statement.{statement}
 use Rattle.projection.proofs.calls.write_rows.Tie as tie
@@ -45,11 +46,4 @@ returns-2 c =
 pub write-rows-spec : {M : Type 1} → statement M
 write-rows-spec =
     tie.close
-    (tie.spec
-    minutes-requires
-    slice-aggregate-arrive
-    arrive-requires
-    returns
-    arrive-requires-2
-    same-length
-    returns-2)
+    (tie.spec minutes-requires slice-aggregate-arrive arrive-requires returns arrive-requires-2 same-length returns-2)

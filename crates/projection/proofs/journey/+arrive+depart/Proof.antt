@@ -1,5 +1,7 @@
--- The proof of the cycle of calls {arrive, depart}. `arrive` calls `depart` with one visit less left, `depart` calls `arrive` with as many, so the measures are twice the visits left,
--- and one more for `depart`. Each return is one law of the rows from an arrival or a departure on, and rows one behind the other are written one after the other. Assumes nothing.
+-- The proof of the cycle of calls {arrive, depart}. `arrive` calls `depart` with one visit less left, `depart` calls
+-- `arrive` with as many, so the measures are twice the visits left, and one more for `depart`. Each return is one law
+-- of the rows from an arrival or a departure on, and rows one behind the other are written one after the other. Assumes
+-- nothing.
 use mathlib.Core.Path.{sym, ap, _∙_}
 use mathlib.Core.List.{List}
 use native.Mathlib.Omega.{arith}
@@ -9,7 +11,8 @@ use lib.ListN.{length}
 use borrow.Author.Needs.{needs}
 use Rattle.timetable.specs.Outputs.{put}
 use Rattle.projection.specs.Numbers.{arrival-numbers}
-use Rattle.projection.proofs.JourneyLaws.{found-some, found-none, arrival-none, arrival-missing, arrival-known}
+use Rattle.page.proofs.FoundLaws.{found-some, found-none}
+use Rattle.projection.proofs.JourneyLaws.{arrival-none, arrival-missing, arrival-known}
 use Rattle.projection.proofs.JourneyLaws.{departure-last, departure-on, departure-ends, none-put, row-put}
 use Prim.Native.Nat.{ℕ, _+_, _<_}
 use borrow.Fn.Kinds.{In}

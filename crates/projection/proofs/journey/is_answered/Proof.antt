@@ -2,7 +2,8 @@
 use mathlib.Core.Path.{_∙_}
 use denote.Ref.{now}
 use Rattle.sheet.specs.Sheets.{decode-sheet}
-use Rattle.projection.proofs.JourneyLaws.{found-some, found-none, answered-by, answered-not}
+use Rattle.page.proofs.FoundLaws.{found-some, found-none}
+use Rattle.projection.proofs.JourneyLaws.{answered-by, answered-not}
 use borrow.Author.Needs.{needs}
 use Rattle.projection.proofs.journey.is_answered.Statement.{statement}
 use Rattle.projection.proofs.journey.is_answered.Tie as tie

@@ -56,16 +56,6 @@ returns c =
 pub put-row-spec : {M : Type 1} → statement M
 put-row-spec =
     tie.close
-    (tie.spec
-    cast-put-number
-    put-number-requires
-    add-put-number
-    cast-put-number-2
-    put-number-requires-2
-    add-put-number-2
-    cast-put-number-3
-    put-number-requires-3
-    add-put-number-3
-    put-number-requires-4
-    same-length
+    (tie.spec cast-put-number put-number-requires add-put-number cast-put-number-2 put-number-requires-2
+    add-put-number-2 cast-put-number-3 put-number-requires-3 add-put-number-3 put-number-requires-4 same-length
     returns)

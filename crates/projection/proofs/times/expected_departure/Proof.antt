@@ -38,12 +38,5 @@ returns-3 c = (simp (c .if2 .left, ← c .before .does-stop .ensures, c .before 
 pub expected-departure-spec : {M : Type 1} → statement M
 expected-departure-spec =
     tie.close
-    (tie.spec
-    minutes-requires
-    returns
-    does-stop-requires
-    minutes-requires-2
-    add-larger
-    larger-requires
-    returns-2
+    (tie.spec minutes-requires returns does-stop-requires minutes-requires-2 add-larger larger-requires returns-2
     returns-3)

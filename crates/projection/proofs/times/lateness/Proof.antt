@@ -1,4 +1,5 @@
--- `projection::times::lateness` meets its contract: the gap of two minutes, and what lies past the last minute that can be held is added. Assumes nothing.
+-- `projection::times::lateness` meets its contract: the gap of two minutes, and what lies past the last minute that can
+-- be held is added. Assumes nothing.
 use native.Mathlib.Omega.{arith}
 use Rattle.projection.proofs.LateLaws.{late-on-fits, late-on-back}
 use borrow.Author.Needs.{needs}
@@ -36,12 +37,4 @@ returns-2 c =
 pub lateness-spec : {M : Type 1} → statement M
 lateness-spec =
     tie.close
-    (tie.spec
-    cast-t4
-    gap-requires
-    returns
-    gap-requires-2
-    sub-result
-    cast-result
-    add-result
-    returns-2)
+    (tie.spec cast-t4 gap-requires returns gap-requires-2 sub-result cast-result add-result returns-2)

@@ -1,4 +1,5 @@
--- `projection::times::row_of` meets its contract: its fields are the row's, and the lateness fits 32 bits. Assumes nothing.
+-- `projection::times::row_of` meets its contract: its fields are the row's, and the lateness fits 32 bits. Assumes
+-- nothing.
 use mathlib.Core.Path.{refl, ap, _∙_}
 use native.Mathlib.Omega.{arith}
 use mir.Syntax.{w32}

@@ -37,13 +37,5 @@ returns-3 c = simp (← c .before .on-one-line .ensures, c .if1 .left)
 pub breaks-3-spec : {M : Type 1} → statement M
 breaks-3-spec =
     tie.close
-    (tie.spec
-    on-one-line-requires
-    both-departed-requires
-    returns
-    later-requires
-    earlier-requires
-    long-requires
-    add-result
-    returns-2
-    returns-3)
+    (tie.spec on-one-line-requires both-departed-requires returns later-requires earlier-requires long-requires
+    add-result returns-2 returns-3)

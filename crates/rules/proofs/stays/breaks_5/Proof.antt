@@ -1,7 +1,7 @@
 -- `rules::stays::breaks_5` meets its contract: the link is none, or is known. Assumes nothing.
 use Rattle.visits.proofs.LinkLaws.{leaves-at, leaves-none}
 use Rattle.timetable.specs.Rules.{breaks-5}
-use Rattle.rules.specs.Parts.{runs-below}
+use Rattle.rules.specs.between.Parts.{runs-below}
 use borrow.Author.Needs.{needs}
 use Rattle.rules.proofs.stays.breaks_5.Statement.{statement}
 use Rattle.rules.proofs.stays.breaks_5.Tie as tie

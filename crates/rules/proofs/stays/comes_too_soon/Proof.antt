@@ -1,4 +1,5 @@
--- `rules::stays::comes_too_soon` meets its contract: each return rewrites with the test that led there. Assumes nothing.
+-- `rules::stays::comes_too_soon` meets its contract: each return rewrites with the test that led there. Assumes
+-- nothing.
 use Rattle.timetable.specs.Rules.{comes-too-soon}
 use borrow.Author.Needs.{needs}
 use Rattle.rules.proofs.stays.comes_too_soon.Statement.{statement}

@@ -34,12 +34,4 @@ returns-3 c = simp (← c .before .both-stop .ensures, c .if1 .left)
 pub does-depend-spec : {M : Type 1} → statement M
 does-depend-spec =
     tie.close
-    (tie.spec
-    both-stop-requires
-    returns
-    wide-requires
-    long-requires
-    add-result
-    wide-requires-2
-    returns-2
-    returns-3)
+    (tie.spec both-stop-requires returns wide-requires long-requires add-result wide-requires-2 returns-2 returns-3)

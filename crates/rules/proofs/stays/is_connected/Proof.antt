@@ -30,11 +30,4 @@ returns-2 c = simp (← c .before .before .before .before .both-departed .ensure
 pub is-connected-spec : {M : Type 1} → statement M
 is-connected-spec =
     tie.close
-    (tie.spec
-    both-departed-requires
-    returns
-    later-requires
-    long-requires
-    add-result
-    earlier-requires
-    returns-2)
+    (tie.spec both-departed-requires returns later-requires long-requires add-result earlier-requires returns-2)

@@ -1,4 +1,5 @@
--- `rules::stays::is_disconnected` meets its contract: each return rewrites with the tests that led there. Assumes nothing.
+-- `rules::stays::is_disconnected` meets its contract: each return rewrites with the tests that led there. Assumes
+-- nothing.
 use native.Mathlib.Omega.{arith}
 use borrow.Author.Tests.{le-leb, lt-leb}
 use Rattle.timetable.specs.Rules.{disconnected}
@@ -70,18 +71,5 @@ returns-4 c = simp (← c .before .both-stop .ensures, c .if1 .left)
 pub is-disconnected-spec : {M : Type 1} → statement M
 is-disconnected-spec =
     tie.close
-    (tie.spec
-    both-stop-requires
-    wide-requires
-    long-requires
-    add-if2
-    wide-requires-2
-    returns
-    wide-requires-3
-    long-requires-2
-    add-if3
-    wide-requires-4
-    returns-2
-    both-arrived-requires
-    returns-3
-    returns-4)
+    (tie.spec both-stop-requires wide-requires long-requires add-if2 wide-requires-2 returns wide-requires-3
+    long-requires-2 add-if3 wide-requires-4 returns-2 both-arrived-requires returns-3 returns-4)

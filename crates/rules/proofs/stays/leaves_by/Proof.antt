@@ -1,6 +1,6 @@
 -- `rules::stays::leaves_by` meets its contract: the link is none, or is known. Assumes nothing.
 use Rattle.visits.proofs.LinkLaws.{leaves-at, leaves-none}
-use Rattle.rules.specs.Parts.{leaves-by}
+use Rattle.rules.specs.between.Parts.{leaves-by}
 use borrow.Author.Needs.{needs}
 use Rattle.rules.proofs.stays.leaves_by.Statement.{statement}
 use Rattle.rules.proofs.stays.leaves_by.Tie as tie

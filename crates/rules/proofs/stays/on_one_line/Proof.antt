@@ -1,7 +1,7 @@
 -- `rules::stays::on_one_line` meets its contract: the link is none, or is known. Assumes nothing.
 use Rattle.visits.proofs.LinkLaws.{leaves-at, leaves-none}
 use Rattle.timetable.specs.Rules.{on-one-line}
-use Rattle.rules.specs.Parts.{leaves-by}
+use Rattle.rules.specs.between.Parts.{leaves-by}
 use borrow.Author.Needs.{needs}
 use Rattle.rules.proofs.stays.on_one_line.Statement.{statement}
 use Rattle.rules.proofs.stays.on_one_line.Tie as tie

@@ -1,0 +1,29 @@
+-- `rules::trains::is_both_ways` meets its contract: the line has no row, or its row is known. Assumes nothing.
+use mathlib.Core.Path.{sym, _∙_}
+use Rattle.network.specs.Networks.{line-row}
+use Rattle.network.proofs.RowLaws.{line-some, line-none}
+use Rattle.rules.specs.between.Parts.{kind-three}
+use borrow.Author.Needs.{needs}
+use Rattle.rules.proofs.trains.is_both_ways.Statement.{statement}
+use Rattle.rules.proofs.trains.is_both_ways.Tie as tie
+
+line-row-requires : tie.Need-line-row-requires
+line-row-requires c κs = search needs
+
+enum-known-found : tie.Need-enum-known-found
+enum-known-found c = search needs
+
+enum-told : tie.Need-enum-told
+enum-told c = search needs
+
+returns : tie.Need-returns
+unfolding kind-three
+returns c = let s = c .before .before .before .before .before .args in rw (line-some (line-row (s .n) (s .o .line)) _ (sym (c .before .before .before .before .line-row .ensures) ∙ c .before .before .found .given .1))
+
+returns-2 : tie.Need-returns-2
+unfolding kind-three
+returns-2 c = let s = c .before .before .before .args in rw (line-none (line-row (s .n) (s .o .line)) (sym (c .before .before .line-row .ensures) ∙ c .enum-told .given .1))
+
+pub is-both-ways-spec : {M : Type 1} → statement M
+is-both-ways-spec =
+    tie.close (tie.spec line-row-requires enum-known-found enum-told returns returns-2)
