@@ -1,4 +1,5 @@
--- Numbers four by four: the four at a place, and the rest behind them; and the areas that a list is of. Assumes nothing.
+-- Numbers four by four: the four at a place, and the rest behind them; and the areas that a list is of. Assumes
+-- nothing.
 use Prim.Native.Nat.{ℕ, _+_, _*_, _≤_, _<_}
 use mathlib.Core.Path.{_≡_, refl, _∙_, ap}
 use mathlib.Core.List.{List, [], _∷_, _++_}
@@ -9,8 +10,8 @@ use lib.Seq.{getD-take}
 use Rattle.base.proofs.Lengths.{drop-next}
 use Rattle.timetable.specs.Outputs.{put}
 use Rattle.timetable.proofs.PutLaws.{put-append}
-use Rattle.reports.specs.Text.{line}
-use Rattle.printing.specs.Lines.{of-areas, four-at, findings-text}
+use Rattle.listings.specs.Text.{line}
+use Rattle.printing.specs.between.Lines.{of-areas, four-at, findings-text}
 
 pub of-none : (a b : ℕ) → a ≡ 0 → of-areas a b ≡ []
 unfolding of-areas

@@ -14,7 +14,7 @@ use Rattle.base.proofs.Tests.{T-true, every-head, every-tail}
 use Rattle.railway.specs.Ranges.{area-ok}
 use Rattle.timetable.specs.Machine.{Timetable}
 use Rattle.findings.specs.Lists.{two-areas}
-use Rattle.reports.specs.Inspect.{whole-text, area-text, pair-text, totals-text, journeys-text, written-text, six, parts-of}
+use Rattle.listings.specs.Inspect.{whole-text, area-text, pair-text, totals-text, journeys-text, written-text, six, parts-of}
 use Rattle.printing.specs.Types.{Network}
 
 -- what passes of all passes of the one at an index

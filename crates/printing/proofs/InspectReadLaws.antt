@@ -1,30 +1,31 @@
--- An accepted input of `inspect` gives a good network and a whole timetable under it, so the sheet read is good and holds that timetable: what the file's numbers walk is
--- the network's format and then the timetable's. Assumes nothing.
+-- An accepted input of `inspect` gives a good network and a whole timetable under it, so the sheet read is good and
+-- holds that timetable: what the file's numbers walk is the network's format and then the timetable's. Assumes nothing.
 use Prim.Native.Nat.{ℕ, _+_}
 use mathlib.Core.Path.{_≡_, sym, _∙_, ap, subst}
 use mathlib.Core.List.{List}
 use lib.ListN.{length}
 use borrow.Author.Tests.{eq-eqb}
 use Rattle.base.proofs.Tests.{T-true}
-use Rattle.railway.specs.Networks.{network-refusal, listed}
+use Rattle.network.specs.Networks.{network-refusal, listed}
 use Rattle.timetable.specs.Formats.{done, accepted, _and-then_, behind, read-file, Placed, placed}
-use Rattle.timetable.specs.NetworkFile.{network-format, network-of, unjoined, unless-unjoined}
+use Rattle.timetable.specs.NetworkFile.{network-format, network-of, network-fault, unless-fault}
 use Rattle.timetable.specs.Machine.{Timetable}
 use Rattle.timetable.specs.Good.{Whole}
 use Rattle.timetable.specs.TimetableFile.{Entries, timetable-format, timetable-of}
 use Rattle.timetable.specs.InspectFile.{Inspection, Both, inspect-format, inspection, read-inspect}
-use Rattle.formats.specs.RoundTrips.{Bytes}
-use Rattle.formats.proofs.Walks.{walks}
-use Rattle.formats.proofs.WalkLaws.{behind-taken, span, file-walks, then-walks, made-walks}
-use Rattle.formats.proofs.NetworkWalks.{network-walks}
-use Rattle.formats.proofs.NetworkTrips.{listed-good}
-use Rattle.formats.proofs.TimetableWalks.{entries-of, timetable-walks}
-use Rattle.formats.proofs.ReadTables.{made-whole}
-use Rattle.formats.proofs.TimetableTrips.{made-of}
+use Rattle.roundtrips.specs.RoundTrips.{Bytes}
+use Rattle.roundtrips.proofs.Walks.{walks}
+use Rattle.roundtrips.proofs.WalkLaws.{span, file-walks, then-walks, made-walks}
+use Rattle.roundtrips.proofs.NetworkWalks.{network-walks}
+use Rattle.roundtrips.proofs.NetworkTrips.{listed-good}
+use Rattle.roundtrips.proofs.TimetableWalks.{entries-of, timetable-walks}
+use Rattle.roundtrips.proofs.ReadTables.{made-whole}
+use Rattle.roundtrips.proofs.TimetableTrips.{made-of}
 use Rattle.sheet.specs.Sheets.{encode-sheet, decode-sheet, good-sheet}
-use Rattle.sheetfile.proofs.PlaceLaws.{unless-taken}
-use Rattle.findings.specs.Lists.{list-refusal, sheet-list-refusal}
-use Rattle.demands.proofs.DemandHolds.{whole-good, whole-back}
+use Rattle.machine.proofs.WholeSheets.{whole-good, whole-back}
+use Rattle.timetable.proofs.OutcomeLaws.{behind-taken, fault-taken, free-joined}
+use Rattle.timetable.specs.Refusals.{or-else, call-refusal}
+use Rattle.findings.specs.Lists.{sheet-list-refusal}
 use Rattle.printing.specs.Types.{Network}
 
 -- a good sheet under a good network that holds the timetable
@@ -35,7 +36,7 @@ pub record Holds (n : Network) (sheet : List ℕ) (m : Timetable) : Type 0 where
   pub held : decode-sheet sheet ≡ m
 
 holds : (n : Network) → network-refusal n ≡ 0 → (m : Timetable) → Whole n m → Holds n (encode-sheet m) m
-unfolding sheet-list-refusal list-refusal
+unfolding sheet-list-refusal call-refusal or-else
 holds n g m w =
     let s = whole-good n g m w in
     record {
@@ -72,12 +73,12 @@ module _ (x : Both) (next : ℕ) where
 pub inspected : (file : List ℕ) → Bytes file → (x : Inspection) (next : ℕ) → read-inspect file ≡ accepted x next → Holds (x .network) (encode-sheet (x .timetable)) (x .timetable)
 unfolding read-inspect inspection
 inspected file bytes x next e =
-    let (y, p, r, v) = behind-taken (read-file inspect-format file) (λ x next. unless-unjoined (unjoined (x .listed)) (inspection x next)) x next e in
-    let (j, o) = unless-taken (unjoined (y .listed)) (inspection y p) x next v in
+    let (y, p, r, v) = behind-taken (read-file inspect-format file) (λ x next. unless-fault (network-fault (x .listed)) (inspection x next)) x next e in
+    let (j, o) = fault-taken (network-fault (y .listed)) (inspection y p) x next v in
     let (m, q, u, t) = behind-taken (timetable-of (network-of (y .listed)) (y .entries .entry) p)
     (λ m next. accepted (record { network = network-of (y .listed); first = y .entries .place; timetable = m }) next) x next o in
     let w = file-walks inspect-format file y p bytes r in
     let ((ms, a), (at, ks, b)) = both-walk (w .numbers) y (w .walk) in
-    let g = listed-good (y .listed) (network-walks 0 ms (y .listed) a .1) j in
+    let g = listed-good (y .listed) (network-walks 0 ms (y .listed) a .1) (free-joined (y .listed) j) in
     let z : record { network = network-of (y .listed); first = y .entries .place; timetable = m } ≡ x = cc in
     rw (← z) (holds (network-of (y .listed)) g m (entries-whole y p g at ks b m q u))

@@ -1,5 +1,5 @@
--- The projections from the visits of a good sheet: the call is not refused from a visit that stands in it, its rows are the lines of the visit, and the stations are
--- the rows of the network. Assumes nothing.
+-- The projections from the visits of a good sheet: the call is not refused from a visit that stands in it, its rows are
+-- the lines of the visit, and the stations are the rows of the network. Assumes nothing.
 use Prim.Native.Nat.{ℕ, zero, suc, _+_, _*_, _/_, _≤_, _<_, min}
 use mathlib.Core.Path.{_≡_, sym, _∙_, ap}
 use mathlib.Core.Bool.{true}
@@ -14,26 +14,28 @@ use borrow.Author.Tests.{le-leb}
 use Rattle.base.specs.Lists.{every, first, is}
 use Rattle.base.proofs.Tests.{by-value, T-true, true-T, and-l, and-r, parts, every-map}
 use Rattle.railway.specs.Ranges.{station-ok, train-ok, same-train}
-use Rattle.railway.specs.Networks.{network-refusal, listed, station-rows, stations-of}
-use Rattle.railway.proofs.NetworkLaws.{network-facts, stations-listed}
+use Rattle.network.specs.Networks.{network-refusal, listed, station-rows, stations-of}
+use Rattle.network.proofs.NetworkLaws.{network-facts, stations-listed}
 use Rattle.timetable.specs.Tables.{Entry, Table, visit-of, has-visit}
 use Rattle.timetable.specs.Machine.{Timetable}
 use Rattle.timetable.specs.Good.{visit-good, entry-good, visits-good, table-good}
 use Rattle.timetable.specs.Projection.{from-arrival, projection}
 use Rattle.timetable.specs.Visits.{arr}
 use Rattle.sheet.specs.Sheets.{decode-sheet}
-use Rattle.sheet.proofs.AreaLaws.{listed-ok}
+use Rattle.network.proofs.AreaLaws.{listed-ok}
 use Rattle.records.specs.Records.{decode-entry}
-use Rattle.sheet.specs.Changes.{table-in}
-use Rattle.rules.specs.Parts.{entry, entry-at}
+use Rattle.page.specs.between.Changes.{table-in}
+use Rattle.rules.specs.between.Parts.{entry}
+use Rattle.page.specs.between.Entries.{entry-at}
+use Rattle.timetable.specs.Refusals.{or-else, call-refusal}
 use Rattle.projection.specs.Numbers.{rows-numbers}
 use Rattle.projection.specs.Calls.{values-fit, visit-refusal, project-refusal, projected, project-answer, project-after}
-use Rattle.projection.proofs.CallLaws.{early-none}
+use Rattle.projection.proofs.ProjectionCall.{early-none}
 use Rattle.findings.specs.Lists.{sheet-list-refusal}
 use Rattle.findings.proofs.BuildLaws.{nowhere, flat-map}
-use Rattle.reports.specs.Inspect.{row-text, visit-text, journeys-text}
+use Rattle.listings.specs.Inspect.{row-text, visit-text, journeys-text}
 use Rattle.printing.specs.Types.{Station, Train, Minute, Visit, StationRow, Network, Row, Output}
-use Rattle.printing.specs.Journeys.{small, rows-text}
+use Rattle.printing.specs.between.Journeys.{small, rows-text}
 use Rattle.printing.proofs.PutLaws.{written-whole, written-many, never-refused, never-short}
 use Rattle.printing.proofs.RowLaws.{every-at, rows-lines}
 use Rattle.printing.proofs.RangeLaws.{numbers-many, rows-few, rows-small}
@@ -53,7 +55,7 @@ module _ (n : Network) (sheet : List ℕ) (fine : sheet-list-refusal n sheet ≡
   -- the call that projects, from a visit that stands there
   module _ (t : Train) (a : Minute) (b : List ℤ) (known : train-ok t ≡ true) (there : has-visit t (decode-sheet sheet s) ≡ true) (time : a .0 ≤ 2879) (room : length b ≡ 64) where
     not-refused : project-refusal n s t a sheet ≡ 0
-    unfolding project-refusal visit-refusal values-fit
+    unfolding project-refusal visit-refusal values-fit call-refusal or-else
     not-refused =
         let early = early-none n s t a (rw (T-true (station-ok s) here-ok, known, le-leb (a .0) 2879 time)) (fine-network n sheet fine) here in
         rw (parts-fine n sheet fine .0, sym early, parts-fine n sheet fine .2, there)

@@ -1,5 +1,6 @@
 pub mod TextLaws
 pub mod LineLaws
+pub mod RunLaws
 pub mod FoundLaws
 pub mod WholeLaws
 pub mod PlaceLaws

@@ -1,5 +1,6 @@
--- The place that a refusal of `shift`'s input carries lies within the file or at its end: a number ends within the bytes, so each place that is reached does, and so
--- does the place of each line that was read. By induction over the format. Assumes nothing.
+-- The place that a refusal of `shift`'s input carries lies within the file or at its end: a number ends within the
+-- bytes, so each place that is reached does, and so does the place of each line that was read. By induction over the
+-- format. Assumes nothing.
 use Prim.Native.Nat.{ℕ, zero, suc, _+_, _≤_}
 use mathlib.Core.Path.{_≡_, refl, sym, _∙_}
 use mathlib.Core.Bool.{Bool, true, false, not}
@@ -14,19 +15,15 @@ use Rattle.base.proofs.Tests.{every-head, every-tail, every-cons}
 use Rattle.numbers.specs.Numbers.{read-number}
 use Rattle.numbers.specs.declared.Reading.{Reading}
 use Rattle.numbers.specs.declared.Reading.the-variants.{Value, Refused}
-use Rattle.railway.specs.Networks.{ends-listed}
-use Rattle.timetable.specs.Formats.{Format, done, field, here, Outcome, accepted, refused, _and-then_, placed-field, field-at, behind, read, ended, read-file, entries, Placed}
-use Rattle.timetable.specs.NetworkFile.{Listed, line-fields, line-entry, line-bar, stations-format, lines-format, lines-part, count-part, headway-part, stations-part, network-format, network-of, unjoined, unless-unjoined}
+use Rattle.network.specs.Networks.{ends-listed}
+use Rattle.timetable.specs.Formats.{Format, done, field, here, Outcome, accepted, refused, _and-then_, placed-field, field-at, behind, read, ended, read-file, entries, Placed, place-of}
+use Rattle.timetable.specs.NetworkFile.{Listed, line-fields, line-entry, line-bar, stations-format, lines-format, lines-part, count-part, headway-part, stations-part, network-format, network-of, unjoined, unjoined-fault, network-fault, unless-fault, only-stations, with-headway, with-lines}
 use Rattle.timetable.specs.EditsFile.{Shift, Input, edits-format, shift-format, read-shift}
-use Rattle.files.proofs.FieldLaws.{number-within}
-use Rattle.files.proofs.EntryLaws.{behind-taken, then-taken}
-use Rattle.files.proofs.DraftLaws.{placed-read}
-use Rattle.railway.specs.declared.network.LineRow.{LineRow}
-
--- the place behind a value, or that of the refusal
-unfoldable pub place-of : {A : Type 0} → Outcome A → ℕ
-place-of (accepted a next) = next
-place-of (refused k p) = p
+use Rattle.fields.proofs.FieldLaws.{number-within}
+use Rattle.timetable.proofs.OutcomeLaws.{behind-taken}
+use Rattle.fields.proofs.EntryLaws.{then-taken}
+use Rattle.fields.proofs.EntryLaws.{placed-read}
+use Rattle.network.specs.declared.LineRow.{LineRow}
 
 -- one accepted value
 pub value-same : {A : Type 0} (a b : A) (p q : ℕ) → accepted a p ≡ accepted b q → a ≡ b
@@ -92,15 +89,15 @@ module _ (file : List ℕ) where
       rw z (every-cons placed-in l rest (line-in bar at l p h u) (lines-in k (line-bar l) p rest q (reached (line-entry bar) at l p h u) w))
 
   network-in : (x : Listed) (next : ℕ) → read network-format file 0 ≡ accepted x next → T (every placed-in (x .lines))
-  unfolding network-format stations-part headway-part count-part lines-part lines-format read place-of
+  unfolding network-format stations-part headway-part count-part lines-part only-stations with-headway with-lines lines-format read place-of
   network-in x next e =
       let (k, p, u, v) = behind-taken (field-at 1 16 file 0) (λ k p. read (stations-part k) file p) x next e in
       let hp : p ≤ length file = accepted-at 1 16 0 k p (omega arith) u in
-      let (ss, q, w, y) = then-taken (stations-format k) headway-part file p x next v in
+      let (ss, q, w, y) = then-taken (stations-format k) (λ ss. headway-part (only-stations ss)) file p x next v in
       let hq : q ≤ length file = reached (stations-format k) p ss q hp w in
-      let (h, r, a, b) = behind-taken (field-at 1 30 file q) (λ h r. read (count-part ss h) file r) x next y in
+      let (h, r, a, b) = behind-taken (field-at 1 30 file q) (λ h r. read (count-part (with-headway (only-stations ss) h)) file r) x next y in
       let hr : r ≤ length file = accepted-at 1 30 q h r hq a in
-      let (m, s, c, d) = behind-taken (field-at 0 32 file r) (λ m s. read (lines-part ss h m) file s) x next b in
+      let (m, s, c, d) = behind-taken (field-at 0 32 file r) (λ m s. read (lines-part (with-headway (only-stations ss) h) m) file s) x next b in
       let hs : s ≤ length file = accepted-at 0 32 r m s hr c in
       let (ls, t, f, g) = then-taken (lines-format m) (λ ls. done (record { stations = ss; headway = h; lines = ls })) file s x next d in
       rw (← value-same (record { stations = ss; headway = h; lines = ls }) x t next g) (lines-in m (0 ∷ []) s ls t hs f)
@@ -108,12 +105,12 @@ module _ (file : List ℕ) where
       accepted-at : (lo hi at n next : ℕ) → at ≤ length file → field-at lo hi file at ≡ accepted n next → next ≤ length file
       accepted-at lo hi at n next h e = rw e at (field-within lo hi at h)
 
-  first-in : {A : Type 0} (f : Placed LineRow → Bool) (ls : List (Placed LineRow)) → T (every placed-in ls) → (o : Outcome A) → Within o → Within (unless-unjoined (first f ls) o)
-  unfolding first unless-unjoined place-of
+  first-in : {A : Type 0} (f : Placed LineRow → Bool) (ls : List (Placed LineRow)) → T (every placed-in ls) → (o : Outcome A) → Within o → Within (unless-fault (unjoined-fault (first f ls)) o)
+  unfolding first unless-fault unjoined-fault place-of
   first-in f [] t o h = h
   first-in f (l ∷ ls) t o h = go (f l) (first-in f ls (every-tail placed-in l ls t) o h)
     where
-      go : (b : Bool) → Within (unless-unjoined (first f ls) o) → Within (unless-unjoined (if b then some l else first f ls) o)
+      go : (b : Bool) → Within (unless-fault (unjoined-fault (first f ls)) o) → Within (unless-fault (unjoined-fault (if b then some l else first f ls)) o)
       go true later = leb→le (l .place) (length file) (every-head placed-in l ls t)
       go false later = later
 
@@ -127,10 +124,10 @@ module _ (file : List ℕ) where
       rw (← value-same (record { listed = y; edits = es }) x q next z) (network-in y p u)
 
   abbrev tested : Input → ℕ → Outcome Shift
-  tested x next = unless-unjoined (unjoined (x .listed)) (accepted (record { network = network-of (x .listed); edits = x .edits }) next)
+  tested x next = unless-fault (network-fault (x .listed)) (accepted (record { network = network-of (x .listed); edits = x .edits }) next)
 
   pub shift-within : place-of (read-shift file) ≤ length file
-  unfolding read-shift read-file behind ended unjoined place-of
+  unfolding read-shift read-file behind ended network-fault unjoined place-of
   shift-within = go (read shift-format file 0) refl (read-within shift-format 0 (omega arith))
     where
       go : (o : Outcome Input) → read shift-format file 0 ≡ o → Within o → Within (behind (ended file o) tested)

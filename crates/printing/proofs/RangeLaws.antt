@@ -1,5 +1,6 @@
--- How many rows a projection has, at most 16, and how large their numbers are: an arrival of a whole timetable is a minute, or at most 241 minutes behind the one before
--- it, so that all are small. By induction over the visits left. Assumes nothing.
+-- How many rows a projection has, at most 16, and how large their numbers are: an arrival of a whole timetable is a
+-- minute, or at most 241 minutes behind the one before it, so that all are small. By induction over the visits left.
+-- Assumes nothing.
 use Prim.Native.Nat.{ℕ, zero, suc, _+_, _-_, _*_, _≤_, max}
 use mathlib.Core.Path.{_≡_, refl, sym, _∙_, ap}
 use mathlib.Core.Bool.{Bool, true, false, cond}
@@ -15,7 +16,7 @@ use Rattle.base.specs.Choice.{if_then_else_, _if_else_}
 use Rattle.base.specs.Lists.{every, first}
 use Rattle.base.proofs.Tests.{by-value, true-T, and-r, parts, every-head, every-tail, every-append}
 use Rattle.railway.specs.Ranges.{station-ok, train-ok, same-train}
-use Rattle.railway.specs.Networks.{network-refusal, listed}
+use Rattle.network.specs.Networks.{network-refusal, listed}
 use Rattle.timetable.specs.Tables.{Entry, Table, empty, visit-of}
 use Rattle.timetable.specs.Machine.{Timetable}
 use Rattle.timetable.specs.Good.{out-good, visit-good, entry-good, visits-good, table-good, Whole}
@@ -23,11 +24,11 @@ use Rattle.timetable.specs.Projection.{row, expected-arrival, expected-departur
 use Rattle.timetable.specs.Rules.{out-answered}
 use Rattle.timetable.specs.Visits.{arr, dep, stops, outs, with-out}
 use Rattle.timetable.proofs.TableLaws.{GoodVisit, visit-facts}
-use Rattle.sheet.proofs.AreaLaws.{listed-ok}
+use Rattle.network.proofs.AreaLaws.{listed-ok}
 use Rattle.sheet.proofs.SheetLaws.{station-high}
 use Rattle.projection.specs.Numbers.{row-numbers, rows-numbers}
 use Rattle.printing.specs.Types.{Station, Train, Visit, OutLink, Network, Row}
-use Rattle.printing.specs.Journeys.{small}
+use Rattle.printing.specs.between.Journeys.{small}
 
 -- how many rows
 
@@ -65,7 +66,8 @@ unfolding from-arrival
 rows-few zero m t s a = omega arith
 rows-few (suc k) m t s a = found-few k (from-arrival k m t) (rows-few k m t) m t s a (visit-of t (m s))
 
--- how large their numbers are: an arrival of a whole timetable is a minute, or at most 241 minutes behind the one before it
+-- how large their numbers are: an arrival of a whole timetable is a minute, or at most 241 minutes behind the one
+-- before it
 
 first-good : (ok f : Entry → Bool) (es : List Entry) (v : Visit) → T (every ok es) → Option·map (λ (e : Entry). e .visit) (first f es) ≡ some v → (e : Entry) × T (ok e) × (e .visit ≡ v)
 unfolding first

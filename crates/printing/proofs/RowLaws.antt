@@ -1,5 +1,5 @@
--- The rows of a projection as text: their numbers, four by four, are the lines of the rows that they come from; a small number is kept as the machine has it.
--- Assumes nothing.
+-- The rows of a projection as text: their numbers, four by four, are the lines of the rows that they come from; a small
+-- number is kept as the machine has it. Assumes nothing.
 use Prim.Native.Nat.{ℕ, zero, suc, _+_, _*_, _≤_, _<_}
 use mathlib.Core.Path.{_≡_, refl, sym, _∙_, ap, ap₂}
 use mathlib.Core.Bool.{Bool, true, _&&_}
@@ -16,11 +16,11 @@ use Rattle.base.proofs.Tests.{T-true, true-T, parts, every-head, every-tail}
 use Rattle.timetable.specs.Outputs.{put}
 use Rattle.timetable.proofs.PutLaws.{put-append}
 use Rattle.projection.specs.Numbers.{row-numbers, rows-numbers}
-use Rattle.findings.specs.Builder.{Puts}
-use Rattle.reports.specs.Text.{word, head}
-use Rattle.reports.specs.Inspect.{signed, row-text}
+use Rattle.findings.specs.between.Builder.{Puts}
+use Rattle.listings.specs.Text.{word, head}
+use Rattle.listings.specs.Inspect.{signed, row-text}
 use Rattle.printing.specs.Types.{Row}
-use Rattle.printing.specs.Journeys.{signed-word, small, row-at, row-line, rows-text}
+use Rattle.printing.specs.between.Journeys.{signed-word, small, row-at, row-line, rows-text}
 use Rattle.printing.proofs.SignedLaws.{small-kept}
 use Rattle.printing.proofs.FoundLaws.{four-next}
 use Rattle.printing.proofs.PutLaws.{puts-two, puts-last, puts-as}

@@ -1,6 +1,7 @@
--- What `shift` prints, part by part. An empty division is the divided sheet of the timetable in which nothing is placed; edits on it answer as the central machine does
--- and leave the divided sheet of its timetable (demands DemandHolds), which merges back. So the lines made of the bytes are those of the listing. Assumes nothing.
-use Prim.Native.Nat.{ℕ, _*_, _≤_}
+-- What `shift` prints, part by part. An empty division is the divided sheet of the timetable in which nothing is
+-- placed; edits on it answer as the central machine does and leave the divided sheet of its timetable (machine
+-- WholeSheets), which merges back. So the lines made of the bytes are those of the listing. Assumes nothing.
+use Prim.Native.Nat.{ℕ, _+_, _*_, _≤_}
 use mathlib.Core.Path.{_≡_, sym, _∙_, ap, ap₂}
 use mathlib.Core.Bool.{Bool, true, false}
 use mathlib.Core.List.{List, [], _∷_, _++_, map, flatMap, append-nil}
@@ -12,36 +13,36 @@ use Rattle.base.specs.Choice.{if_then_else_, _if_else_}
 use Rattle.base.specs.Runs.{run, answers}
 use Rattle.base.proofs.Tests.{T-true, every-flatMap, every-each}
 use Rattle.railway.specs.Ranges.{station-ok}
-use Rattle.railway.specs.Networks.{network-refusal, listed, area-of}
+use Rattle.network.specs.Networks.{network-refusal, listed, area-of}
 use Rattle.timetable.specs.Machine.{Timetable, nothing-placed, answer, after}
 use Rattle.timetable.specs.Groups.{in-group}
 use Rattle.timetable.specs.Good.{Whole}
 use Rattle.timetable.specs.Findings.{findings}
+use Rattle.timetable.specs.Refusals.{or-else, call-refusal}
 use Rattle.timetable.specs.Count.{zero-tally, raise-all, visit-count, relation-count}
-use Rattle.timetable.specs.Outputs.{put}
 use Rattle.timetable.specs.Listing.{answer-lines, finding-line, tally-line, listing}
 use Rattle.theory.proofs.Kept.{nothing-whole, run-whole}
 use Rattle.records.specs.Bytes.{zeros, blank}
 use Rattle.sheet.specs.Sheets.{sixteen, six, page-at, encode-sheet, decode-sheet, good-sheet, good-division, divided, merged, merge-refusal, after-merge}
-use Rattle.sheet.proofs.AreaLaws.{listed-ok}
-use Rattle.sheet.proofs.PageLaws.{blank-page}
+use Rattle.network.proofs.AreaLaws.{listed-ok}
+use Rattle.page.proofs.PageLaws.{blank-page}
 use Rattle.sheet.proofs.SheetLaws.{all-stations, blank-zeros, zeros-blank, encoded-page, good-all-coded, divided-size, divided-good, merged-divided, merged-size, merged-good}
 use Rattle.machine.proofs.ListEdits.{GoodSheet, GoodDivision, run-divided, answers-divided}
+use Rattle.machine.proofs.CentralEdits.{central-answers}
+use Rattle.machine.proofs.WholeSheets.{whole-good, whole-back, bytes-run}
 use Rattle.findings.specs.Lists.{sheet-list-refusal}
-use Rattle.findings.specs.Builder.{Puts}
+use Rattle.findings.proofs.DividedLists.{list-formed}
+use Rattle.findings.specs.between.Builder.{findings-most, Puts}
 use Rattle.findings.proofs.PutLaws.{puts-two, puts-as, puts-more}
 use Rattle.findings.proofs.BuildLaws.{flat-map}
-use Rattle.dispatch.specs.Lists.{known-good, division-of}
-use Rattle.dispatch.proofs.ListLaws.{sheets-good, is-known}
-use Rattle.writing.proofs.TimetableLaws.{flat-append}
-use Rattle.demands.proofs.Central.{central-answers}
-use Rattle.demands.proofs.ListLaws.{list-formed}
-use Rattle.demands.proofs.DemandHolds.{whole-good, whole-back, bytes-run}
-use Rattle.reports.specs.Text.{line}
-use Rattle.reports.specs.Shift.{line-text, shift-text}
-use Rattle.reports.specs.Inspect.{listed-text, whole-text, totals-text}
+use Rattle.machine.specs.Lists.{known-good, division-of}
+use Rattle.machine.proofs.KnownGood.{sheets-good, is-known}
+use Rattle.timetable_writing.proofs.TimetableLaws.{flat-append}
+use Rattle.listings.specs.Text.{line}
+use Rattle.listings.specs.Shift.{line-text, shift-text}
+use Rattle.listings.specs.Inspect.{listed-text, whole-text, totals-text}
 use Rattle.printing.specs.Types.{Station, Edit, Network, Answer, Tally, Finding}
-use Rattle.printing.specs.Lines.{told, answers-text, end-text, run-text}
+use Rattle.printing.specs.between.Lines.{told, answers-text, shift-most, end-text, run-text}
 
 -- the lines of the listing
 
@@ -56,7 +57,7 @@ module _ (n : Network) (good : network-refusal n ≡ 0) where
     facts = let g = sheets-good n division k in record { size = g .size; fine = g .fine }
 
     pub merges : (buffer : List ℕ) → length buffer ≡ 8192 → after-merge n division buffer ≡ merged n division
-    unfolding merge-refusal after-merge
+    unfolding merge-refusal after-merge call-refusal or-else
     merges buffer size =
         rw (eq-eqb (length division) 49152 (facts .size), eq-eqb (length buffer) 8192 size, good, T-true (good-division n division) (facts .fine))
 
@@ -144,36 +145,36 @@ module _ (n : Network) (good : network-refusal n ≡ 0) where
         (flat-append line-text (map finding-line (findings n last)) _
         ∙ ap₂ _++_ (findings-lines (findings n last)) (ap (λ (l : List ℕ). totals-text n last ++ l) (append-nil _))))
 
-    text-parts : (d : List ℕ) (y : Tally) → d ≡ division-of n es (zeros 49152) → y ≡ raise-all zero-tally es (told n es (zeros 49152))
-        → run-text n es ≡ answers-text 1 (told n es (zeros 49152)) ++ end-text n (decode-sheet (merged n d)) y
-    text-parts d y p q = rw (p, q, left-merged) (listing-parts (told n es (zeros 49152)) told-central)
+    -- of the answers that the edits had on it, and the division and the tally that they left
+    module _ (as′ : List Answer) (same : as′ ≡ told n es (zeros 49152)) (d : List ℕ) (left : d ≡ division-of n es (zeros 49152))
+        (y : Tally) (counted : y ≡ raise-all zero-tally es as′) where
+      text-parts : run-text n es ≡ answers-text 1 as′ ++ end-text n (decode-sheet (merged n d)) y
+      text-parts = rw (left, counted, left-merged) (listing-parts as′ (same ∙ told-central))
 
-    -- all lines, from those of the edits and those behind them
-    pub run-put : (d : List ℕ) (y : Tally) (at r count : ℕ) (b mid later : List ℕ) → d ≡ division-of n es (zeros 49152) → y ≡ raise-all zero-tally es (told n es (zeros 49152))
-        → at ≡ length (answers-text 1 (told n es (zeros 49152))) → mid ≡ put 0 (answers-text 1 (told n es (zeros 49152))) b → at ≤ 68 * count → count ≤ 1000
-        → Puts at (end-text n (decode-sheet (merged n d)) y) mid r later 2159176 → Puts 0 (run-text n es) b r later 2300000
-    run-put d y at r count b mid later p q e f h few w =
-        let lines : List ℕ = answers-text 1 (told n es (zeros 49152)) in
-        let first : Puts 0 lines b at mid 68000 = (omega (arith, e), f, omega (arith, h, few)) in
-        puts-more 0 r 2227176 2300000 (run-text n es) b later (omega arith)
-        (puts-as 0 r 2227176 (lines ++ end-text n (decode-sheet (merged n d)) y) (run-text n es) b later (sym (text-parts d y p q))
-        (puts-two 0 at r 68000 2159176 lines (end-text n (decode-sheet (merged n d)) y) b mid later first w))
+      -- all lines, from those of the edits and those behind them
+      pub run-put : (at r count : ℕ) (b mid later : List ℕ) → Puts 0 (answers-text 1 as′) b at mid (68 * count) → count ≤ 1000
+          → Puts at (end-text n (decode-sheet (merged n d)) y) mid r later (26 * findings-most + 136) → Puts 0 (run-text n es) b r later shift-most
+      run-put at r count b mid later w few v =
+          puts-as 0 r shift-most (answers-text 1 as′ ++ end-text n (decode-sheet (merged n d)) y) (run-text n es) b later (sym text-parts)
+          (puts-two 0 at r 68000 (26 * findings-most + 136) (answers-text 1 as′) (end-text n (decode-sheet (merged n d)) y) b mid later
+          (puts-more 0 at (68 * count) 68000 (answers-text 1 as′) b mid (omega (arith, few)) w) v)
 
 -- findings, totals and the tally of the sheet that a division merges to
 pub end-put : (n : Network) (sheet whole : List ℕ) (y : Tally) (at p q r count : ℕ) (b x z later : List ℕ) → sheet ≡ whole
-    → Puts at (whole-text n (decode-sheet sheet)) b p x 2159040 → count ≡ length (findings n (decode-sheet sheet))
+    → Puts at (whole-text n (decode-sheet sheet)) b p x (26 * findings-most) → count ≡ length (findings n (decode-sheet sheet))
     → Puts p (line 84 (visit-count n (decode-sheet sheet) ∷ relation-count n (decode-sheet sheet) ∷ count ∷ [])) x q z 68
-    → Puts q (line-text (tally-line y)) z r later 68 → Puts at (end-text n (decode-sheet whole) y) b r later 2159176
+    → Puts q (line-text (tally-line y)) z r later 68 → Puts at (end-text n (decode-sheet whole) y) b r later (26 * findings-most + 136)
 unfolding end-text totals-text
 end-put n sheet whole y at p q r count b x z later same w many t u =
     let m : Timetable = decode-sheet sheet in
     let totals : Puts p (totals-text n m) x q z 68 =
     puts-as p q 68 _ (totals-text n m) x z (ap (λ (k : ℕ). line 84 (visit-count n m ∷ relation-count n m ∷ k ∷ [])) many) t in
     rw (← same)
-    (puts-two at p r 2159040 136 (whole-text n m) (totals-text n m ++ line-text (tally-line y)) b x later w
+    (puts-two at p r (26 * findings-most) 136 (whole-text n m) (totals-text n m ++ line-text (tally-line y)) b x later w
     (puts-two p q r 68 68 (totals-text n m) (line-text (tally-line y)) x z later totals u))
 
 -- what is put of a text is put of the whole, where they are the same
-pub told-so : (input text : List ℕ) (r k : ℕ) (b later : List ℕ) → shift-text input ≡ text → k ≤ 2300000 → Puts 0 text b r later k
-    → (r ≡ length (shift-text input)) × (later ≡ put 0 (shift-text input) b) × (r ≤ 2300000)
-told-so input text r k b later e h w = rw e (omega (arith, w .0), w .1, omega (arith, w .2, h))
+pub text-put : (input text : List ℕ) (r k : ℕ) (b later : List ℕ) → shift-text input ≡ text → k ≤ shift-most → Puts 0 text b r later k
+    → Puts 0 (shift-text input) b r later shift-most
+text-put input text r k b later e h w =
+    puts-as 0 r shift-most text (shift-text input) b later (sym e) (puts-more 0 r k shift-most text b later h w)

@@ -11,9 +11,9 @@ use mir.Syntax.{w32}
 use mir.Val.{toZ, ofZ, Fits, SFits}
 use mir.Facts.{toZ-ofZ}
 use borrow.Author.Tests.{ltb-true, leb-true}
-use Rattle.reports.specs.Text.{digits, decimal}
-use Rattle.reports.specs.Inspect.{signed}
-use Rattle.printing.specs.Journeys.{small}
+use Rattle.listings.specs.Text.{digits, decimal}
+use Rattle.listings.specs.Inspect.{signed}
+use Rattle.printing.specs.between.Journeys.{small}
 
 below-nought : (z : ℤ) → ltZ z (pos 0) ≡ true → (k : ℕ) × (z ≡ negsuc k)
 below-nought (pos n) e = absurd (omega (arith, ltb-true n 0 e))

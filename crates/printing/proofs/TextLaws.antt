@@ -5,7 +5,7 @@ use mathlib.Core.List.{[], _∷_, _++_}
 use native.Mathlib.Omega.{arith}
 use borrow.Author.Tests.{lt-ltb, le-ltb}
 use Rattle.base.specs.Choice.{if_then_else_}
-use Rattle.reports.specs.Text.{digits}
+use Rattle.listings.specs.Text.{digits}
 
 pub digits-none : (k x : ℕ) → k ≡ 0 → digits k x ≡ []
 unfolding digits

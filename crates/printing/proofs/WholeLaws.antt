@@ -1,5 +1,5 @@
--- The lines of a whole list of findings, from the numbers that the call wrote. Numbers of two bytes have at most five digits, so a line has at most 26 bytes.
--- Assumes nothing.
+-- The lines of a whole list of findings, from the numbers that the call wrote. Numbers of two bytes have at most five
+-- digits, so a line has at most 26 bytes. Assumes nothing.
 use Prim.Native.Nat.{ℕ, zero, suc, _+_, _*_, _/_, _%_, _≤_, _<_}
 use mathlib.Core.Path.{_≡_, refl, _∙_, ap}
 use mathlib.Core.Bool.{Bool, true, false}
@@ -9,16 +9,17 @@ use lib.Dec.{ltb}
 use lib.ListN.{length, getD, take, length-append, length-take}
 use borrow.Author.Tests.{ltb-false}
 use Rattle.base.specs.Choice.{if_then_else_}
-use Rattle.timetable.specs.Findings.{findings}
+use Rattle.timetable.specs.Findings.{numbers-of, findings}
 use Rattle.timetable.specs.Outputs.{output, output-after}
 use Rattle.sheet.specs.Sheets.{decode-sheet}
-use Rattle.sheet.proofs.FlatLaws.{flat-append}
-use Rattle.findings.specs.Lists.{numbers-of, sheet-list, sheet-list-refusal}
+use Rattle.page.proofs.FlatLaws.{flat-append}
+use Rattle.findings.specs.Lists.{sheet-list, sheet-list-refusal}
 use Rattle.findings.proofs.BoundLaws.{sheet-list-most}
-use Rattle.reports.specs.Text.{digits, decimal, word, head, line}
-use Rattle.reports.specs.Inspect.{listed-text, whole-text}
+use Rattle.listings.specs.Text.{digits, decimal, word, head, line}
+use Rattle.listings.specs.Inspect.{listed-text, whole-text}
+use Rattle.findings.specs.between.Builder.{list-most, findings-most}
 use Rattle.printing.specs.Types.{Network, Finding, Output}
-use Rattle.printing.specs.Lines.{findings-text}
+use Rattle.printing.specs.between.Lines.{findings-text}
 use Rattle.printing.proofs.PutLaws as put-laws
 use Rattle.printing.proofs.PutLaws.{written-whole}
 
@@ -134,7 +135,7 @@ module _ (letter : ℕ) (areas : List ℕ) (fs : List Finding) (refusal : ℕ) (
   list-printed = ap (findings-text letter areas) (taken ∙ same) ∙ text-listed letter areas fs
 
 -- the list of a good sheet, in a buffer that has room for any
-module _ (n : Network) (sheet : List ℕ) (good : sheet-list-refusal n sheet ≡ 0) (buffer : List ℕ) (many : length buffer ≡ 332160) where
+module _ (n : Network) (sheet : List ℕ) (good : sheet-list-refusal n sheet ≡ 0) (buffer : List ℕ) (many : length buffer ≡ list-most) where
   abbrev xs : List ℕ
   xs = sheet-list n sheet
 
@@ -162,7 +163,7 @@ module _ (n : Network) (sheet : List ℕ) (good : sheet-list-refusal n sheet ≡
       pub counted : k / 4 ≡ length fs
       counted = omega (arith, length-is, four)
 
-      pub few-found : k / 4 ≤ 83040
+      pub few-found : k / 4 ≤ findings-most
       few-found = omega (arith, length-is, sheet-list-most n sheet good)
 
       module _ (after : List ℕ) (left : after ≡ output-after (sheet-list-refusal n sheet) xs buffer) where

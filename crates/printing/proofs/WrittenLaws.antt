@@ -1,4 +1,5 @@
--- The line W by what writing the sheet answers: what was written is compared with the bytes; what is longer than any input is not the input's. Assumes nothing.
+-- The line W by what writing the sheet answers: what was written is compared with the bytes; what is longer than any
+-- input is not the input's. Assumes nothing.
 use Prim.Native.Nat.{ℕ, _≤_}
 use mathlib.Core.Path.{_≡_, refl, sym, _∙_, ap}
 use mathlib.Core.Bool.{Bool, true, false}
@@ -10,18 +11,19 @@ use lib.Seq.{take-at}
 use borrow.Author.Tests.{leb-true, leb-false}
 use Rattle.base.specs.Choice.{if_then_else_, _if_else_}
 use Rattle.base.specs.Lists.{same}
+use Rattle.timetable.specs.Refusals.{or-else, call-refusal}
 use Rattle.timetable.specs.Outputs.{output, output-after}
 use Rattle.sheet.specs.Sheets.{decode-sheet}
 use Rattle.sheet.proofs.PassLaws.{same-not}
-use Rattle.findings.specs.Lists.{list-refusal, sheet-list-refusal}
-use Rattle.writing.specs.Writing.{sheet-refusal, timetable-bytes, write-timetable, timetable-written}
-use Rattle.reports.specs.Text.{line}
-use Rattle.reports.specs.Inspect.{written-text}
+use Rattle.findings.specs.Lists.{sheet-list-refusal}
+use Rattle.timetable_writing.specs.Writing.{sheet-refusal, timetable-bytes, write-timetable, timetable-written}
+use Rattle.listings.specs.Text.{line}
+use Rattle.listings.specs.Inspect.{written-text}
 use Rattle.printing.specs.Types.{Network, Output}
 
 -- a sheet whose findings can be listed can be written
 not-refused : (n : Network) (sheet : List ℕ) → sheet-list-refusal n sheet ≡ 0 → sheet-refusal n sheet ≡ 0
-unfolding sheet-list-refusal list-refusal sheet-refusal
+unfolding sheet-list-refusal call-refusal or-else sheet-refusal
 not-refused n sheet e = e
 
 module _ (n : Network) (sheet buffer : List ℕ) (good : sheet-list-refusal n sheet ≡ 0) where

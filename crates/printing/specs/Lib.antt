@@ -1,3 +1,3 @@
 pub mod Types
-pub mod Lines
-pub mod Journeys
+pub mod Parts
+pub mod between

@@ -3,9 +3,9 @@ ghost use mathlib.Core.Path.{_≡_};
 ghost use mathlib.Core.List.{[], _∷_, _++_};
 ghost use Prim.Native.Nat.{_+_, _*_, _≤_};
 ghost use lib.ListN.{length, getD, take};
-ghost use Rattle.findings.specs.Builder.{Puts};
-ghost use Rattle.reports.specs.Text.{line};
-ghost use Rattle.printing.specs.Lines.{of-areas, four-at, findings-text};
+ghost use Rattle.findings.specs.between.Builder.{Puts};
+ghost use Rattle.listings.specs.Text.{line};
+ghost use Rattle.printing.specs.between.Lines.{of-areas, four-at, findings-text};
 use crate::text;
 
 // Which list: its letter, and the areas that it is of, 0 for none.

@@ -1,41 +1,37 @@
-// The parts of what `inspect` prints, each by its index: central findings, six areas, fifteen pairs, totals, projections, and whether the timetable is written as it was
-// read. A refused input has one part, its line.
+// What `inspect` reads, and the parts of what it prints, each by its index: central findings, six areas, fifteen pairs,
+// totals, projections, and whether the timetable is written as it was read.
 ghost use mathlib.Core.Path.{_≡_};
 ghost use mathlib.Core.List.{[], _∷_};
 ghost use Prim.Native.Nat.{_<_, _≤_};
 ghost use lib.ListN.{length, getD};
 ghost use Rattle.base.specs.Lists.{pairs};
-ghost use Rattle.timetable.specs.Outputs.{put};
+ghost use Rattle.timetable.specs.Outputs.{output, output-after};
 ghost use Rattle.sheet.specs.Sheets.{decode-sheet};
-ghost use Rattle.findings.specs.Builder.{Puts};
+ghost use Rattle.findings.specs.between.Builder.{Puts};
 ghost use Rattle.findings.specs.Lists.{sheet-list-refusal};
-ghost use Rattle.reports.specs.Shift.{refusal-text};
-ghost use Rattle.reports.specs.Inspect.{pair-text, six, parts-of, inspect-part};
+ghost use Rattle.printing.specs.between.Lines.{part-most};
+ghost use Rattle.printing.specs.Parts.{input-answer, input-after, part-refusal, part-text};
+ghost use Rattle.listings.specs.Inspect.{pair-text, six, parts-of};
 use crate::journeys;
 use crate::lists;
-use crate::text;
 use crate::totals;
 use crate::whole;
 use crate::written;
-use railway::network::Network;
+use network::Network;
 use railway::sorts::Area;
-use sheetfile::inspect::read_inspect;
+use sheet::test;
+use sheet::test::Extent;
+use timetable::Output;
+use timetable_files::input::InspectRead;
+use timetable_files::input::read_inspect;
 
-// "A file refusal prints only R, number, place."
-fn put_refusal(out: &mut [u8], k: usize, number: u8, place: usize) -> usize
-    requires { ⌜ place ≤ 16384 ⌝ }
-    ensures { λ r. ⌜ Puts 0 (getD (refusal-text number place ∷ []) k []) (now (out .entry)) r (now (out .exit)) 68 ⌝ }
-{
-    if k == 0 {
-        return text::put_line(out, 0, 82, [number as u32, place as u32, 0, 0, 0, 0], 2);
-    }
-    0
-}
+// As many bytes as a part has at most: part-most of specs/between/Lines.antt.
+pub const MOST: usize = 30 * (findings::MOST / 4);
 
 // The findings of the pair with this index.
 fn put_pair_at(out: &mut [u8], i: usize, sheet: &[u8], n: Network) -> usize
     requires { ⌜ (sheet-list-refusal n (now sheet) ≡ 0) × (i < 15) ⌝ }
-    ensures { λ r. ⌜ Puts 0 (pair-text n (decode-sheet (now (sheet .entry))) (getD (pairs six) i (0, 0))) (now (out .entry)) r (now (out .exit)) 2600000 ⌝ }
+    ensures { λ r. ⌜ Puts 0 (pair-text n (decode-sheet (now (sheet .entry))) (getD (pairs six) i (0, 0))) (now (out .entry)) r (now (out .exit)) part-most ⌝ }
 {
     let firsts: [u8; 15] = [1, 1, 1, 1, 1, 2, 2, 2, 2, 3, 3, 3, 4, 4, 5];
     let seconds: [u8; 15] = [2, 3, 4, 5, 6, 3, 4, 5, 6, 4, 5, 6, 5, 6, 6];
@@ -45,7 +41,7 @@ fn put_pair_at(out: &mut [u8], i: usize, sheet: &[u8], n: Network) -> usize
 // The part of an accepted input, from its sheet and the bytes of its timetable.
 fn put_part(out: &mut [u8], k: usize, sheet: &[u8], n: Network, bytes: &[u8]) -> usize
     requires { ⌜ (sheet-list-refusal n (now sheet) ≡ 0) × (length (now bytes) ≤ 16384) ⌝ }
-    ensures { λ r. ⌜ Puts 0 (getD (parts-of n (decode-sheet (now (sheet .entry))) (now (bytes .entry))) k []) (now (out .entry)) r (now (out .exit)) 2600000 ⌝ }
+    ensures { λ r. ⌜ Puts 0 (getD (parts-of n (decode-sheet (now (sheet .entry))) (now (bytes .entry))) k []) (now (out .entry)) r (now (out .exit)) part-most ⌝ }
 {
     if k == 0 {
         let whole = whole::put_whole(out, 0, sheet, n);
@@ -71,19 +67,69 @@ fn put_part(out: &mut [u8], k: usize, sheet: &[u8], n: Network, bytes: &[u8]) ->
     0
 }
 
-// The part with index k, put at the head of the buffer as far as it fits; its length.
-pub fn inspect_part(input: &[u8], k: usize, out: &mut [u8]) -> usize
-    ensures { λ r. ⌜ (r ≡ length (inspect-part (now (input .entry)) k)) × (now (out .exit) ≡ put 0 (inspect-part (now (input .entry)) k) (now (out .entry))) × (r ≤ 2600000) ⌝ }
+// Counts first where the buffer may be too short, so that it is then left as it was; one that has room for any part is
+// written at once.
+fn write_part(out: &mut [u8], k: usize, sheet: &[u8], n: Network, bytes: &[u8]) -> Output
+    requires { ⌜ (sheet-list-refusal n (now sheet) ≡ 0) × (length (now bytes) ≤ 16384) ⌝ }
+    ensures { λ r. ⌜
+        (r ≡ output 0 (part-text n (now (sheet .entry)) (now (bytes .entry)) k) (now (out .entry)))
+        × (now (out .exit) ≡ output-after 0 (part-text n (now (sheet .entry)) (now (bytes .entry)) k) (now (out .entry))) ⌝ }
+{
+    if MOST <= out.len() {
+        let length = put_part(out, k, sheet, n, bytes);
+        return Output::Written(length);
+    }
+    let mut none = [0u8; 1];
+    let needed = put_part(&mut none, k, sheet, n, bytes);
+    if out.len() < needed {
+        return Output::TooShort(needed);
+    }
+    put_part(out, k, sheet, n, bytes);
+    Output::Written(needed)
+}
+
+// What refuses the list of findings of a sheet: 5, 3, 4, 6, or 0.
+fn sheet_refusal(sheet: &[u8], n: Network) -> u8
+    ensures { λ r. ⌜ r ≡ sheet-list-refusal n (now (sheet .entry)) ⌝ }
+{
+    if sheet.len() != 8192 {
+        return 5;
+    }
+    let early = n.refusal();
+    if early != 0 {
+        return early;
+    }
+    if test::good_sheet(sheet, n, Extent::Whole) {
+        return 0;
+    }
+    6
+}
+
+// The part with index k of what is printed of a sheet and the bytes that were read as its timetable.
+pub fn inspect_part(sheet: &[u8], n: Network, bytes: &[u8], k: usize, out: &mut [u8]) -> Output
+    ensures { λ r. ⌜
+        (r ≡ output (part-refusal n (now (sheet .entry)) (now (bytes .entry))) (part-text n (now (sheet .entry)) (now (bytes .entry)) k) (now (out .entry)))
+        × (now (out .exit) ≡ output-after (part-refusal n (now (sheet .entry)) (now (bytes .entry))) (part-text n (now (sheet .entry)) (now (bytes .entry)) k) (now (out .entry))) ⌝ }
+{
+    if 16384 < bytes.len() {
+        return Output::Refused(5);
+    }
+    let refusal = sheet_refusal(sheet, n);
+    if refusal != 0 {
+        return Output::Refused(refusal);
+    }
+    write_part(out, k, sheet, n, bytes)
+}
+
+// The input, read into the lent sheet: 5 for one that is too long, as for a sheet of another length.
+pub fn read_input(input: &[u8], sheet: &mut [u8]) -> InspectRead
+    ensures { λ r. ⌜
+        (r ≡ input-answer (now (input .entry)) (now (sheet .entry)))
+        × (now (sheet .exit) ≡ input-after (now (input .entry)) (now (sheet .entry))) ⌝ }
 {
     if 16384 < input.len() {
-        return put_refusal(out, k, 5, 0);
+        let mut none = [0u8; 1];
+        return read_inspect(input, &mut none);
     }
-    let mut sheet = [0u8; 8192];
-    let read = read_inspect(input, &mut sheet);
-    if read.refusal == 0 {
-        let network = read.network;
-        let first = read.first;
-        return put_part(out, k, &sheet, network, &input[first..]);
-    }
-    put_refusal(out, k, read.refusal, read.place)
+    read_inspect(input, sheet)
 }

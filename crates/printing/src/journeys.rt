@@ -6,25 +6,24 @@ ghost use lib.ListN.{length, take};
 ghost use mathlib.Core.List.{flatMap};
 ghost use Rattle.base.specs.Lists.{every};
 ghost use Rattle.railway.specs.Ranges.{train-ok};
-ghost use Rattle.railway.specs.Networks.{listed};
+ghost use Rattle.network.specs.Networks.{listed};
 ghost use Rattle.timetable.specs.Tables.{has-visit};
 ghost use Rattle.sheet.specs.Sheets.{decode-sheet};
-ghost use Rattle.rules.specs.Parts.{entry};
-ghost use Rattle.findings.specs.Builder.{Puts};
+ghost use Rattle.rules.specs.between.Parts.{entry};
+ghost use Rattle.findings.specs.between.Builder.{Puts};
 ghost use Rattle.findings.specs.Lists.{sheet-list-refusal};
-ghost use Rattle.reports.specs.Inspect.{visit-text, journeys-text};
-ghost use Rattle.printing.specs.Journeys.{signed-word, small, row-at, row-line, rows-text};
+ghost use Rattle.listings.specs.Inspect.{visit-text, journeys-text};
+ghost use Rattle.printing.specs.between.Journeys.{signed-word, small, row-at, row-line, rows-text};
 use crate::text;
+use network::Network;
+use page::entries;
 use projection::calls;
 use railway::minute::Minute;
-use railway::network::Network;
 use railway::sorts::Station;
 use railway::sorts::Train;
 use railway::visit::Visit;
 use records::bytes;
 use records::record;
-use rules::entries;
-use sheet::page;
 use timetable::Output;
 
 // The stored arrival plus 5, at most the last minute.
@@ -84,7 +83,12 @@ fn put_projection(
     t: Train,
     v: Visit,
 ) -> usize
-    requires { ⌜ (at ≤ 500000000) × (sheet-list-refusal n (now sheet) ≡ 0) × (listed n s ≡ true) × (train-ok t ≡ true) × (has-visit t (decode-sheet (now sheet) s) ≡ true) ⌝ }
+    requires { ⌜
+        (at ≤ 500000000)
+        × (sheet-list-refusal n (now sheet) ≡ 0)
+        × (listed n s ≡ true)
+        × (train-ok t ≡ true)
+        × (has-visit t (decode-sheet (now sheet) s) ≡ true) ⌝ }
     ensures { λ r. ⌜ Puts at (visit-text n (decode-sheet (now (sheet .entry))) s (entry t v)) (now (out .entry)) r (now (out .exit)) 1152 ⌝ }
 {
     let mut rows = [0i32; 64];

@@ -5,35 +5,33 @@ ghost use Prim.Native.Nat.{_*_, _/_, _≤_};
 ghost use lib.ListN.{length, take};
 ghost use Rattle.railway.specs.Ranges.{area-ok};
 ghost use Rattle.sheet.specs.Sheets.{decode-sheet};
-ghost use Rattle.findings.specs.Builder.{Puts};
+ghost use Rattle.findings.specs.between.Builder.{Puts, list-most, findings-most};
 ghost use Rattle.findings.specs.Lists.{sheet-list-refusal, two-areas};
-ghost use Rattle.reports.specs.Inspect.{area-text, pair-text};
-ghost use Rattle.printing.specs.Lines.{of-areas, findings-text};
+ghost use Rattle.listings.specs.Inspect.{area-text, pair-text};
+ghost use Rattle.printing.specs.between.Lines.{of-areas, findings-text};
 use crate::found;
 use crate::found::Heading;
 use findings::calls;
-use railway::network::Network;
+use network::Network;
 use railway::sorts::Area;
-use sheet::division;
 use timetable::Output;
 
-// The findings whose k numbers the slice begins with: at most 83,040, with at most 30 bytes a line.
+// The findings whose k numbers the slice begins with, with at most 30 bytes a line.
 fn put_list(out: &mut [u8], h: Heading, numbers: &[u16], k: usize) -> usize
-    requires { ⌜ (h .one ≤ 9) × (h .other ≤ 9) × (k ≤ 332160) × (k ≤ length (now numbers)) ⌝ }
-    ensures { λ r. ⌜ Puts 0 (findings-text (h .letter) (of-areas (h .one) (h .other)) (take (4 * (k / 4)) (now (numbers .entry)))) (now (out .entry)) r (now (out .exit)) 2491200 ⌝ }
+    requires { ⌜ (h .one ≤ 9) × (h .other ≤ 9) × (k ≤ list-most) × (k ≤ length (now numbers)) ⌝ }
+    ensures { λ r. ⌜ Puts 0 (findings-text (h .letter) (of-areas (h .one) (h .other)) (take (4 * (k / 4)) (now (numbers .entry)))) (now (out .entry)) r (now (out .exit)) (30 * findings-most) ⌝ }
 {
     found::put_findings(out, 0, h, numbers, k / 4)
 }
 
 // D, the area, and each finding of its list.
-pub fn put_area(out: &mut [u8], sheet: &[u8], n: Network, a: Area) -> usize
-    requires { ⌜ (sheet-list-refusal n (now sheet) ≡ 0) × (area-ok a ≡ true) ⌝ }
-    ensures { λ r. ⌜ Puts 0 (area-text n (decode-sheet (now (sheet .entry))) (a .0)) (now (out .entry)) r (now (out .exit)) 2491200 ⌝ }
+fn area_in(out: &mut [u8], sheet: &[u8], n: Network, a: Area, numbers: &mut [u16]) -> usize
+    requires { ⌜ (sheet-list-refusal n (now sheet) ≡ 0) × (area-ok a ≡ true) × (length (now numbers) ≡ list-most) ⌝ }
+    ensures { λ r. ⌜ Puts 0 (area-text n (decode-sheet (now (sheet .entry))) (a .0)) (now (out .entry)) r (now (out .exit)) (30 * findings-most) ⌝ }
 {
     let mut sheets = [0u8; 49152];
     division::divide(sheet, &mut sheets, n);
-    let mut numbers = [0u16; 332160];
-    let listed = calls::area_findings(division::area_sheet(&sheets, a), n, a, &mut numbers);
+    let listed = calls::area_findings(division::area_sheet(&sheets, a), n, a, numbers);
     match listed {
         Output::Written(k) => {
             let h = Heading {
@@ -41,24 +39,32 @@ pub fn put_area(out: &mut [u8], sheet: &[u8], n: Network, a: Area) -> usize
                 one: a.0,
                 other: 0,
             };
-            put_list(out, h, &numbers, k)
+            put_list(out, h, numbers, k)
         }
         Output::Refused(_k) => 0,
         Output::TooShort(_k) => 0,
     }
 }
 
+// The same with an array of its own.
+pub fn put_area(out: &mut [u8], sheet: &[u8], n: Network, a: Area) -> usize
+    requires { ⌜ (sheet-list-refusal n (now sheet) ≡ 0) × (area-ok a ≡ true) ⌝ }
+    ensures { λ r. ⌜ Puts 0 (area-text n (decode-sheet (now (sheet .entry))) (a .0)) (now (out .entry)) r (now (out .exit)) (30 * findings-most) ⌝ }
+{
+    let mut numbers = [0u16; findings::MOST];
+    area_in(out, sheet, n, a, &mut numbers)
+}
+
 // P, the two areas, and each finding of their list.
-pub fn put_pair(out: &mut [u8], sheet: &[u8], n: Network, a: Area, b: Area) -> usize
-    requires { ⌜ (sheet-list-refusal n (now sheet) ≡ 0) × (two-areas a b ≡ true) ⌝ }
-    ensures { λ r. ⌜ Puts 0 (pair-text n (decode-sheet (now (sheet .entry))) (a .0, b .0)) (now (out .entry)) r (now (out .exit)) 2491200 ⌝ }
+fn pair_in(out: &mut [u8], sheet: &[u8], n: Network, a: Area, b: Area, numbers: &mut [u16]) -> usize
+    requires { ⌜ (sheet-list-refusal n (now sheet) ≡ 0) × (two-areas a b ≡ true) × (length (now numbers) ≡ list-most) ⌝ }
+    ensures { λ r. ⌜ Puts 0 (pair-text n (decode-sheet (now (sheet .entry))) (a .0, b .0)) (now (out .entry)) r (now (out .exit)) (30 * findings-most) ⌝ }
 {
     let mut sheets = [0u8; 49152];
     division::divide(sheet, &mut sheets, n);
-    let mut numbers = [0u16; 332160];
     let first = division::area_sheet(&sheets, a);
     let second = division::area_sheet(&sheets, b);
-    let listed = calls::pair_findings(first, second, n, a, b, &mut numbers);
+    let listed = calls::pair_findings(first, second, n, a, b, numbers);
     match listed {
         Output::Written(k) => {
             let h = Heading {
@@ -66,9 +72,18 @@ pub fn put_pair(out: &mut [u8], sheet: &[u8], n: Network, a: Area, b: Area) -> u
                 one: a.0,
                 other: b.0,
             };
-            put_list(out, h, &numbers, k)
+            put_list(out, h, numbers, k)
         }
         Output::Refused(_k) => 0,
         Output::TooShort(_k) => 0,
     }
+}
+
+// The same with an array of its own.
+pub fn put_pair(out: &mut [u8], sheet: &[u8], n: Network, a: Area, b: Area) -> usize
+    requires { ⌜ (sheet-list-refusal n (now sheet) ≡ 0) × (two-areas a b ≡ true) ⌝ }
+    ensures { λ r. ⌜ Puts 0 (pair-text n (decode-sheet (now (sheet .entry))) (a .0, b .0)) (now (out .entry)) r (now (out .exit)) (30 * findings-most) ⌝ }
+{
+    let mut numbers = [0u16; findings::MOST];
+    pair_in(out, sheet, n, a, b, &mut numbers)
 }

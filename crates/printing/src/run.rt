@@ -1,21 +1,18 @@
-// The edits of a file run on a division: a line for each answer, and the tally.
+// The edits of a file run on an empty division: a line for each answer, and the tally.
 ghost use mathlib.Core.Path.{_≡_};
 ghost use mathlib.Core.Bool.{true};
 ghost use mathlib.Core.List.{[], _∷_};
 ghost use Prim.Native.Nat.{_+_, _*_, _≤_};
 ghost use lib.ListN.{length};
-ghost use Rattle.timetable.specs.Outputs.{put};
 ghost use Rattle.timetable.specs.Count.{zero-tally, raise-all};
-ghost use Rattle.dispatch.specs.Lists.{known-good, division-of};
-ghost use Rattle.dispatch.specs.Taken.{edits-at, can-be-read};
-ghost use Rattle.reports.specs.Text.{line};
-ghost use Rattle.printing.specs.Lines.{told, answers-text};
+ghost use Rattle.findings.specs.between.Builder.{Puts};
+ghost use Rattle.machine.specs.between.Taken.{edits-at, can-be-read};
+ghost use Rattle.listings.specs.Text.{line};
+ghost use Rattle.printing.specs.between.Lines.{answer-at, answers-from, answers-text};
 use crate::text;
-use files::edit;
-use files::edit::Cursor;
-use files::edit::NextEdit;
-use machine::calls;
-use railway::network::Network;
+use edit_files::edit;
+use edit_files::edit::Cursor;
+use edit_files::edit::NextEdit;
 use timetable::Answer;
 use timetable::Tally;
 
@@ -25,10 +22,21 @@ pub struct Progress {
     pub tally: Tally,
 }
 
+// The answer to the edit i: two bytes an edit.
+fn answer_at(answers: &[u8], i: usize) -> Answer
+    requires { ⌜ (i ≤ 1000) × (2 * i + 2 ≤ length (now answers)) ⌝ }
+    ensures { λ r. ⌜ r ≡ answer-at (now (answers .entry)) i ⌝ }
+{
+    Answer {
+        refusal: answers[2 * i],
+        removed: answers[2 * i + 1],
+    }
+}
+
 // "E: edit, refusal, removed."
 fn put_answer(out: &mut [u8], at: usize, i: u32, a: Answer) -> usize
     requires { ⌜ at ≤ 900000000 ⌝ }
-    ensures { λ r. ⌜ (r ≡ at + length (line 69 (i ∷ a .refusal ∷ a .removed ∷ []))) × (now (out .exit) ≡ put at (line 69 (i ∷ a .refusal ∷ a .removed ∷ [])) (now (out .entry))) × (r ≤ at + 68) ⌝ }
+    ensures { λ r. ⌜ Puts at (line 69 (i ∷ a .refusal ∷ a .removed ∷ [])) (now (out .entry)) r (now (out .exit)) 68 ⌝ }
 {
     text::put_line(
         out,
@@ -39,17 +47,19 @@ fn put_answer(out: &mut [u8], at: usize, i: u32, a: Answer) -> usize
     )
 }
 
-// `count` edits from the place on, which can all be read, on a division that is good.
-pub fn run_lines(
-    division: &mut [u8],
-    n: Network,
+// The lines of `count` edits, which can all be read from the place on, and what they and their answers make of an empty
+// tally.
+pub fn put_answers(
+    out: &mut [u8],
     file: &[u8],
     first: usize,
     count: u32,
-    out: &mut [u8],
+    answers: &[u8],
 ) -> Progress
-    requires { ⌜ (count ≤ 1000) × (can-be-read count (now file) first ≡ true) × (known-good n (now division) ≡ true) ⌝ }
-    ensures { λ r. ⌜ (r .at ≡ length (answers-text 1 (told n (edits-at count (now (file .entry)) first) (now (division .entry))))) × (now (out .exit) ≡ put 0 (answers-text 1 (told n (edits-at count (now (file .entry)) first) (now (division .entry)))) (now (out .entry))) × (now (division .exit) ≡ division-of n (edits-at count (now (file .entry)) first) (now (division .entry))) × (r .tally ≡ raise-all zero-tally (edits-at count (now (file .entry)) first) (told n (edits-at count (now (file .entry)) first) (now (division .entry)))) × (r .at ≤ 68 * count) ⌝ }
+    requires { ⌜ (count ≤ 1000) × (2 * count ≤ length (now answers)) × (can-be-read count (now file) first ≡ true) ⌝ }
+    ensures { λ r. ⌜
+        Puts 0 (answers-text 1 (answers-from count (now (answers .entry)) 0)) (now (out .entry)) (r .at) (now (out .exit)) (68 * count)
+        × (r .tally ≡ raise-all zero-tally (edits-at count (now (file .entry)) first) (answers-from count (now (answers .entry)) 0)) ⌝ }
 {
     let mut tally = Tally {
         accepted: 0,
@@ -70,9 +80,9 @@ pub fn run_lines(
                 };
             }
             NextEdit::Entry(e, c) => {
-                let a = calls::edit_tested(division, n, e);
+                let a = answer_at(answers, i as usize);
                 at = put_answer(out, at, i + 1, a);
-                let raised = tally::raise_own(tally, e, a);
+                let raised = raising::raise_own(tally, e, a);
                 tally = raised.tally;
                 cursor = c;
             }

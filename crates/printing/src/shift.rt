@@ -1,35 +1,29 @@
 // All that the program `shift` prints of the bytes of its input.
 ghost use mathlib.Core.Path.{_≡_};
 ghost use mathlib.Core.Bool.{true};
-ghost use Prim.Native.Nat.{_≤_};
+ghost use Prim.Native.Nat.{_+_, _*_, _≤_};
 ghost use lib.ListN.{length};
-ghost use Rattle.railway.specs.Networks.{network-refusal};
+ghost use Rattle.network.specs.Networks.{network-refusal};
 ghost use Rattle.timetable.specs.Listing.{tally-line};
-ghost use Rattle.timetable.specs.Outputs.{put};
+ghost use Rattle.timetable.specs.Outputs.{output, output-after};
 ghost use Rattle.sheet.specs.Sheets.{decode-sheet, merged};
-ghost use Rattle.dispatch.specs.Lists.{known-good};
-ghost use Rattle.dispatch.specs.Taken.{edits-at, can-be-read};
-ghost use Rattle.findings.specs.Builder.{Puts};
-ghost use Rattle.reports.specs.Shift.{line-text, refusal-text, shift-text};
-ghost use Rattle.printing.specs.Lines.{end-text, run-text};
+ghost use Rattle.machine.specs.Lists.{known-good};
+ghost use Rattle.machine.specs.between.Taken.{edits-at};
+ghost use Rattle.findings.specs.between.Builder.{Puts, findings-most};
+ghost use Rattle.listings.specs.Shift.{line-text, shift-text};
+ghost use Rattle.printing.specs.between.Lines.{shift-most, EditsFile, end-text, run-text};
 use crate::run;
 use crate::text;
 use crate::totals;
 use crate::whole;
-use files::shift::read_shift;
-use railway::network::Network;
-use sheet::division;
+use edit_files::input::read_shift;
+use machine::list;
+use network::Network;
+use timetable::Output;
 use timetable::Tally;
 
-// "A file refusal prints only R, number, place."
-fn put_refusal(out: &mut [u8], k: u8, place: usize) -> usize
-    requires { ⌜ place ≤ 16384 ⌝ }
-    ensures { λ r. ⌜ Puts 0 (refusal-text k place) (now (out .entry)) r (now (out .exit)) 68 ⌝ }
-{
-    let number = k as u32;
-    let byte = place as u32;
-    text::put_line(out, 0, 82, [number, byte, 0, 0, 0, 0], 2)
-}
+// As many bytes as are printed at most: shift-most of specs/between/Lines.antt.
+pub const MOST: usize = 68 * 1000 + (26 * (findings::MOST / 4) + 136);
 
 // "A: the tally."
 fn put_tally(out: &mut [u8], at: usize, y: Tally) -> usize
@@ -48,7 +42,7 @@ fn put_tally(out: &mut [u8], at: usize, y: Tally) -> usize
 // What stands behind the lines of the edits, of the division that they left.
 fn put_end(out: &mut [u8], at: usize, division: &[u8], n: Network, y: Tally) -> usize
     requires { ⌜ (known-good n (now division) ≡ true) × (at ≤ 1000000) ⌝ }
-    ensures { λ r. ⌜ Puts at (end-text n (decode-sheet (merged n (now (division .entry)))) y) (now (out .entry)) r (now (out .exit)) 2159176 ⌝ }
+    ensures { λ r. ⌜ Puts at (end-text n (decode-sheet (merged n (now (division .entry)))) y) (now (out .entry)) r (now (out .exit)) (26 * findings-most + 136) ⌝ }
 {
     let mut sheet = [0u8; 8192];
     division::merge(division, &mut sheet, n);
@@ -57,27 +51,68 @@ fn put_end(out: &mut [u8], at: usize, division: &[u8], n: Network, y: Tally) -> 
     put_tally(out, next, y)
 }
 
-// "network, then edits, from an empty division": all lines.
-fn put_run(out: &mut [u8], input: &[u8], n: Network, first: usize, count: u32) -> usize
-    requires { ⌜ (network-refusal n ≡ 0) × (count ≤ 1000) × (can-be-read count (now input) first ≡ true) ⌝ }
-    ensures { λ r. ⌜ Puts 0 (run-text n (edits-at count (now (input .entry)) first)) (now (out .entry)) r (now (out .exit)) 2300000 ⌝ }
+// The edits of a file run on an empty division: all lines. `answers` has room for two bytes an edit.
+fn run_in(
+    out: &mut [u8],
+    file: &[u8],
+    n: Network,
+    first: usize,
+    count: u32,
+    answers: &mut [u8],
+) -> usize
+    requires { ⌜ (network-refusal n ≡ 0) × EditsFile (now file) first count × (length (now answers) ≡ 2000) ⌝ }
+    ensures { λ r. ⌜ Puts 0 (run-text n (edits-at count (now (file .entry)) first)) (now (out .entry)) r (now (out .exit)) shift-most ⌝ }
 {
     let mut division = [0u8; 49152];
-    let progress = run::run_lines(&mut division, n, input, first, count, out);
+    list::run_list(&mut division, n, file, answers);
+    let progress = run::put_answers(out, file, first, count, answers);
     put_end(out, progress.at, &division, n, progress.tally)
 }
 
-// The length of what is printed; what is past the buffer's end is dropped.
-pub fn shift(input: &[u8], out: &mut [u8]) -> usize
-    ensures { λ r. ⌜ (r ≡ length (shift-text (now (input .entry)))) × (now (out .exit) ≡ put 0 (shift-text (now (input .entry))) (now (out .entry))) × (r ≤ 2300000) ⌝ }
+// "network, then edits, from an empty division": the edits' file, from the place of its first edit on.
+fn put_run(out: &mut [u8], file: &[u8], n: Network, first: usize, count: u32) -> usize
+    requires { ⌜ (network-refusal n ≡ 0) × EditsFile (now file) first count ⌝ }
+    ensures { λ r. ⌜ Puts 0 (run-text n (edits-at count (now (file .entry)) first)) (now (out .entry)) r (now (out .exit)) shift-most ⌝ }
+{
+    let mut answers = [0u8; 2000];
+    run_in(out, file, n, first, count, &mut answers)
+}
+
+// What is printed, put at the head of the buffer as far as it fits; its length.
+fn put_shift(out: &mut [u8], input: &[u8]) -> usize
+    ensures { λ r. ⌜ Puts 0 (shift-text (now (input .entry))) (now (out .entry)) r (now (out .exit)) shift-most ⌝ }
 {
     // "one file of at most 16,384 bytes, else 5"
     if 16384 < input.len() {
-        return put_refusal(out, 5, 0);
+        return text::put_refusal(out, 5, 0);
     }
     let r = read_shift(input);
     if r.refusal != 0 {
-        return put_refusal(out, r.refusal, r.place);
+        return text::put_refusal(out, r.refusal, r.place);
     }
-    put_run(out, input, r.network, r.first, r.count as u32)
+    // behind the network stands an edits file: its count, and then the first edit
+    let count = r.count;
+    let width = numbers::width_of(count);
+    let at = r.first - width;
+    put_run(out, &input[at..], r.network, width, count as u32)
+}
+
+// All lines, into a buffer that has room for any; one that is shorter is first counted for, so that one that is too
+// short is left as it was.
+pub fn shift(input: &[u8], out: &mut [u8]) -> Output
+    ensures { λ r. ⌜
+        (r ≡ output 0 (shift-text (now (input .entry))) (now (out .entry)))
+        × (now (out .exit) ≡ output-after 0 (shift-text (now (input .entry))) (now (out .entry))) ⌝ }
+{
+    if MOST <= out.len() {
+        let length = put_shift(out, input);
+        return Output::Written(length);
+    }
+    let mut none = [0u8; 1];
+    let needed = put_shift(&mut none, input);
+    if out.len() < needed {
+        return Output::TooShort(needed);
+    }
+    put_shift(out, input);
+    Output::Written(needed)
 }

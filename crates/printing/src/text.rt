@@ -1,13 +1,15 @@
-// Lines of numbers, written from a place on; what is past the buffer's end is dropped. Each function answers the place behind what it wrote.
+// Lines of numbers, written from a place on; what is past the buffer's end is dropped. Each function answers the place
+// behind what it wrote.
 ghost use mathlib.Core.Path.{_≡_};
 ghost use mathlib.Core.List.{[], _∷_};
 ghost use Prim.Native.Nat.{_+_, _≤_};
 ghost use lib.ListN.{length, take};
 ghost use Rattle.timetable.specs.Outputs.{put};
-ghost use Rattle.findings.specs.Builder.{Puts};
-ghost use Rattle.reports.specs.Text.{digits, word, head, line};
-ghost use Rattle.reports.specs.Inspect.{signed};
-ghost use Rattle.printing.specs.Journeys.{signed-word};
+ghost use Rattle.findings.specs.between.Builder.{Puts};
+ghost use Rattle.listings.specs.Text.{digits, word, head, line};
+ghost use Rattle.listings.specs.Inspect.{signed};
+ghost use Rattle.listings.specs.Shift.{refusal-text};
+ghost use Rattle.printing.specs.between.Journeys.{signed-word};
 
 pub fn put_byte(out: &mut [u8], at: usize, b: u8) -> usize
     requires { ⌜ at ≤ 2000000000 ⌝ }
@@ -86,4 +88,13 @@ pub fn put_line(out: &mut [u8], at: usize, letter: u8, xs: [u32; 6], k: usize) -
 {
     let end = put_head(out, at, letter, xs, k);
     put_byte(out, end, 10)
+}
+
+// "A file refusal prints only R, number, place", whose place is one of an input.
+pub fn put_refusal(out: &mut [u8], number: u8, place: usize) -> usize
+    requires { ⌜ place ≤ 16384 ⌝ }
+    ensures { λ r. ⌜ Puts 0 (refusal-text number place) (now (out .entry)) r (now (out .exit)) 68 ⌝ }
+{
+    let byte = place as u32;
+    put_line(out, 0, 82, [number as u32, byte, 0, 0, 0, 0], 2)
 }

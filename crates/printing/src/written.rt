@@ -4,31 +4,15 @@ ghost use Prim.Native.Nat.{_≤_};
 ghost use lib.ListN.{length};
 ghost use Rattle.base.specs.Lists.{same};
 ghost use Rattle.sheet.specs.Sheets.{decode-sheet};
-ghost use Rattle.writing.specs.Writing.{timetable-bytes};
-ghost use Rattle.findings.specs.Builder.{Puts};
+ghost use Rattle.timetable_writing.specs.Writing.{timetable-bytes};
+ghost use Rattle.findings.specs.between.Builder.{Puts};
 ghost use Rattle.findings.specs.Lists.{sheet-list-refusal};
-ghost use Rattle.reports.specs.Inspect.{written-text};
+ghost use Rattle.listings.specs.Inspect.{written-text};
 use crate::text;
-use railway::network::Network;
+use network::Network;
+use sheet::test::is_same;
 use timetable::Output;
-use writing::timetables::write_timetable;
-
-// Whether the bytes are the same.
-fn is_same(a: &[u8], b: &[u8]) -> bool
-    ensures { λ r. ⌜ r ≡ same (now (a .entry)) (now (b .entry)) ⌝ }
-{
-    if a.len() != b.len() {
-        return false;
-    }
-    let mut i: usize = 0;
-    while i < a.len() {
-        if a[i] != b[i] {
-            return false;
-        }
-        i += 1;
-    }
-    true
-}
+use timetable_writing::calls::write_timetable;
 
 // Whether the bytes are the file of the sheet's timetable. A file that is longer than any input is not.
 fn is_written(sheet: &[u8], n: Network, bytes: &[u8]) -> bool

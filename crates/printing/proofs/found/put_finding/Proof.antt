@@ -1,7 +1,8 @@
--- `printing::found::put_finding` meets its contract: numbers of two bytes are numbers of four, and the line has as many of them as its list names areas. Assumes nothing.
+-- `printing::found::put_finding` meets its contract: numbers of two bytes are numbers of four, and the line has as many
+-- of them as its list names areas. Assumes nothing.
 use Prim.Native.Nat.{_+_}
 use native.Mathlib.Omega.{arith}
-use Rattle.printing.specs.Lines.{four-at}
+use Rattle.printing.specs.between.Lines.{four-at}
 use Rattle.printing.proofs.FoundLaws.{of-none, of-one, of-two}
 use borrow.Author.Needs.{needs}
 use Rattle.printing.proofs.found.put_finding.Statement.{statement}
@@ -95,30 +96,7 @@ returns-3 c =
 pub put-finding-spec : {M : Type 1} → statement M
 put-finding-spec =
     tie.close
-    (tie.spec
-    mul-s
-    shared-slice-read-s
-    cast-s
-    add-rule
-    mul-rule
-    shared-slice-read-rule
-    cast-rule
-    add-first
-    mul-first
-    shared-slice-read-first
-    cast-first
-    add-second
-    mul-second
-    shared-slice-read-second
-    cast-second
-    cast-a
-    cast-b
-    put-line-requires
-    same-length
-    returns
-    put-line-requires-2
-    same-length-2
-    returns-2
-    put-line-requires-3
-    same-length-3
-    returns-3)
+    (tie.spec mul-s shared-slice-read-s cast-s add-rule mul-rule shared-slice-read-rule cast-rule add-first mul-first
+    shared-slice-read-first cast-first add-second mul-second shared-slice-read-second cast-second cast-a cast-b
+    put-line-requires same-length returns put-line-requires-2 same-length-2 returns-2 put-line-requires-3
+    same-length-3 returns-3)

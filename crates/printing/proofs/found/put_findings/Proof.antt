@@ -1,4 +1,5 @@
--- `printing::found::put_findings` meets its contract: what all findings would write is what those from i on still write, from the place reached. Assumes nothing.
+-- `printing::found::put_findings` meets its contract: what all findings would write is what those from i on still
+-- write, from the place reached. Assumes nothing.
 use Prim.Native.Nat.{ℕ, _+_, _-_, _*_, _≤_}
 use mathlib.Core.Path.{_≡_, refl, sym, _∙_, ap}
 use native.Mathlib.Omega.{arith}
@@ -6,7 +7,7 @@ use denote.Ref.{now}
 use mathlib.Core.List.{List}
 use lib.ListN.{length, take, drop}
 use Rattle.timetable.specs.Outputs.{put}
-use Rattle.printing.specs.Lines.{of-areas, findings-text}
+use Rattle.printing.specs.between.Lines.{of-areas, findings-text}
 use Rattle.printing.proofs.FoundLaws.{found-on, found-length, found-over}
 use Rattle.printing.proofs.found.put_findings.Statement.{statement}
 use Rattle.printing.proofs.found.put_findings.Tie as tie
@@ -67,14 +68,5 @@ returns c =
 pub put-findings-spec : {M : Type 1} → statement M
 put-findings-spec =
     tie.close
-    (tie.spec
-    Inv-loop
-    μ-loop
-    loop-holds
-    mul-put-finding
-    put-finding-requires
-    add-i
-    loop-less
-    loop-again
-    same-length
+    (tie.spec Inv-loop μ-loop loop-holds mul-put-finding put-finding-requires add-i loop-less loop-again same-length
     returns)

@@ -5,7 +5,7 @@ use native.Mathlib.Omega.{arith}
 use denote.Ref.{now}
 use Rattle.timetable.specs.Outputs.{put}
 use Rattle.sheet.specs.Sheets.{decode-sheet}
-use Rattle.reports.specs.Inspect.{totals-text}
+use Rattle.listings.specs.Inspect.{totals-text}
 use Rattle.printing.proofs.SheetLaws.{fine-size}
 use Rattle.printing.proofs.InspectPartLaws.{area-at, part-whole, part-area, part-pair, part-totals, part-journeys, part-written, part-none}
 use borrow.Author.Needs.{needs}
@@ -104,26 +104,7 @@ returns-7 c =
 pub put-part-spec : {M : Type 1} → statement M
 put-part-spec =
     tie.close
-    (tie.spec
-    put-whole-requires
-    same-length
-    returns
-    cast-t14
-    put-area-requires
-    same-length-2
-    returns-2
-    put-pair-at-requires
-    same-length-3
-    returns-3
-    slice-aggregate-put-whole
-    put-whole-requires-2
-    put-totals-requires
-    same-length-4
-    returns-4
-    put-journeys-requires
-    same-length-5
-    returns-5
-    put-written-requires
-    same-length-6
-    returns-6
+    (tie.spec put-whole-requires same-length returns cast-t14 put-area-requires same-length-2 returns-2
+    put-pair-at-requires same-length-3 returns-3 slice-aggregate-put-whole put-whole-requires-2 put-totals-requires
+    same-length-4 returns-4 put-journeys-requires same-length-5 returns-5 put-written-requires same-length-6 returns-6
     returns-7)

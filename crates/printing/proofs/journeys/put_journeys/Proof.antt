@@ -1,5 +1,5 @@
--- `printing::journeys::put_journeys` meets its contract: what the visits of all stations would write is what those of the rows from i on still write, from the place
--- reached. Assumes nothing.
+-- `printing::journeys::put_journeys` meets its contract: what the visits of all stations would write is what those of
+-- the rows from i on still write, from the place reached. Assumes nothing.
 use Prim.Native.Nat.{ℕ, _-_, _*_, _≤_}
 use mathlib.Core.Path.{_≡_, refl, _∙_, ap}
 use mathlib.Core.List.{List, flatMap}
@@ -9,7 +9,7 @@ use lib.ListN.{length, length-map, take}
 use borrow.Author.Needs.{needs}
 use Rattle.sheet.specs.Sheets.{decode-sheet}
 use Rattle.findings.proofs.BuildLaws.{nowhere}
-use Rattle.reports.specs.Inspect.{visit-text}
+use Rattle.listings.specs.Inspect.{visit-text}
 use Rattle.printing.specs.Types.{StationRow}
 use Rattle.printing.proofs.PutLaws.{Unwritten, one-on, all-put}
 use Rattle.printing.proofs.SheetLaws.{fine-network}
@@ -93,16 +93,5 @@ returns c =
 pub put-journeys-spec : {M : Type 1} → statement M
 put-journeys-spec =
     tie.close
-    (tie.spec
-    Inv-loop
-    μ-loop
-    size-requires
-    loop-holds
-    mul-row
-    array-copy-out-row
-    put-visits-requires
-    add-i
-    loop-less
-    loop-again
-    same-length
-    returns)
+    (tie.spec Inv-loop μ-loop size-requires loop-holds mul-row array-copy-out-row put-visits-requires add-i loop-less
+    loop-again same-length returns)

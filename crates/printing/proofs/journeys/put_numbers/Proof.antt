@@ -66,21 +66,7 @@ returns c =
 pub put-numbers-spec : {M : Type 1} → statement M
 put-numbers-spec =
     tie.close
-    (tie.spec
-    mul-put-signed-word
-    shared-slice-copy-out-put-signed-word
-    put-signed-word-requires
-    add-put-signed-word
-    mul-put-signed-word-2
-    shared-slice-copy-out-put-signed-word-2
-    put-signed-word-requires-2
-    add-put-signed-word-2
-    mul-put-signed-word-3
-    shared-slice-copy-out-put-signed-word-3
-    put-signed-word-requires-3
-    add-put-signed-word-3
-    mul-put-signed-word-4
-    shared-slice-copy-out-put-signed-word-4
-    put-signed-word-requires-4
-    same-length
-    returns)
+    (tie.spec mul-put-signed-word shared-slice-copy-out-put-signed-word put-signed-word-requires add-put-signed-word
+    mul-put-signed-word-2 shared-slice-copy-out-put-signed-word-2 put-signed-word-requires-2 add-put-signed-word-2
+    mul-put-signed-word-3 shared-slice-copy-out-put-signed-word-3 put-signed-word-requires-3 add-put-signed-word-3
+    mul-put-signed-word-4 shared-slice-copy-out-put-signed-word-4 put-signed-word-requires-4 same-length returns)

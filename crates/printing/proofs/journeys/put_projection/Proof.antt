@@ -1,4 +1,5 @@
--- `printing::journeys::put_projection` meets its contract: the call is not refused and its rows fit, so the rows that it wrote are printed. Assumes nothing.
+-- `printing::journeys::put_projection` meets its contract: the call is not refused and its rows fit, so the rows that
+-- it wrote are printed. Assumes nothing.
 use mathlib.Core.Path.{refl}
 use native.Mathlib.Omega.{arith}
 use denote.Ref.{now}
@@ -71,16 +72,5 @@ returns-3 c =
 pub put-projection-spec : {M : Type 1} → statement M
 put-projection-spec =
     tie.close
-    (tie.spec
-    expected-requires
-    slice-aggregate-project
-    project-requires
-    enum-known-written
-    slice-aggregate-put-rows
-    put-rows-requires
-    enum-known-written-2
-    enum-known-written-3
-    same-length
-    returns
-    returns-2
-    returns-3)
+    (tie.spec expected-requires slice-aggregate-project project-requires enum-known-written slice-aggregate-put-rows
+    put-rows-requires enum-known-written-2 enum-known-written-3 same-length returns returns-2 returns-3)

@@ -1,10 +1,11 @@
--- `printing::journeys::put_row` meets its contract: the letter, the station and the train, the row's numbers and the newline, one behind the other. Assumes nothing.
+-- `printing::journeys::put_row` meets its contract: the letter, the station and the train, the row's numbers and the
+-- newline, one behind the other. Assumes nothing.
 use mathlib.Core.List.{[], _∷_, _++_, flatMap}
 use native.Mathlib.Omega.{arith}
 use denote.Ref.{now}
 use borrow.Author.Needs.{needs}
-use Rattle.reports.specs.Text.{word, head}
-use Rattle.printing.specs.Journeys.{signed-word, row-at, row-line}
+use Rattle.listings.specs.Text.{word, head}
+use Rattle.printing.specs.between.Journeys.{signed-word, row-at, row-line}
 use Rattle.printing.proofs.PutLaws.{puts-two, puts-last}
 use Rattle.printing.proofs.journeys.put_row.Statement.{statement}
 use Rattle.printing.proofs.journeys.put_row.Tie as tie
@@ -50,13 +51,5 @@ returns c =
 pub put-row-spec : {M : Type 1} → statement M
 put-row-spec =
     tie.close
-    (tie.spec
-    put-byte-requires
-    cast-put-word
-    put-word-requires
-    cast-put-word-2
-    put-word-requires-2
-    put-numbers-requires
-    put-byte-requires-2
-    same-length
-    returns)
+    (tie.spec put-byte-requires cast-put-word put-word-requires cast-put-word-2 put-word-requires-2
+    put-numbers-requires put-byte-requires-2 same-length returns)

@@ -1,4 +1,5 @@
--- `printing::journeys::put_rows` meets its contract: what all rows would write is what those from i on still write, from the place reached. Assumes nothing.
+-- `printing::journeys::put_rows` meets its contract: what all rows would write is what those from i on still write,
+-- from the place reached. Assumes nothing.
 use Prim.Native.Nat.{ℕ, _+_, _-_, _*_, _≤_}
 use mathlib.Core.Path.{_≡_, refl, sym, _∙_, ap}
 use mathlib.Core.List.{List}
@@ -6,7 +7,7 @@ use native.Mathlib.Omega.{arith}
 use denote.Ref.{now}
 use lib.ListN.{length, take, drop}
 use Rattle.timetable.specs.Outputs.{put}
-use Rattle.printing.specs.Journeys.{rows-text}
+use Rattle.printing.specs.between.Journeys.{rows-text}
 use Rattle.printing.proofs.RowLaws.{rows-on, rows-length, rows-over, row-at-small}
 use Rattle.printing.proofs.journeys.put_rows.Statement.{statement}
 use Rattle.printing.proofs.journeys.put_rows.Tie as tie
@@ -72,14 +73,4 @@ returns c =
 pub put-rows-spec : {M : Type 1} → statement M
 put-rows-spec =
     tie.close
-    (tie.spec
-    Inv-loop
-    μ-loop
-    loop-holds
-    mul-put-row
-    put-row-requires
-    add-i
-    loop-less
-    loop-again
-    same-length
-    returns)
+    (tie.spec Inv-loop μ-loop loop-holds mul-put-row put-row-requires add-i loop-less loop-again same-length returns)

@@ -1,5 +1,5 @@
--- `printing::journeys::put_visits` meets its contract: what the visits of the page would write is what those from i on still write, from the place reached.
--- Assumes nothing.
+-- `printing::journeys::put_visits` meets its contract: what the visits of the page would write is what those from i on
+-- still write, from the place reached. Assumes nothing.
 use Prim.Native.Nat.{_+_, _-_, _*_, _≤_}
 use mathlib.Core.Path.{_≡_, refl, _∙_, ap}
 use mathlib.Core.List.{[], flatMap}
@@ -10,15 +10,15 @@ use lib.Seq.{take-all}
 use borrow.Author.Needs.{needs}
 use Rattle.timetable.specs.Tables.{Table}
 use Rattle.records.specs.Records.{decode-entry}
-use Rattle.sheet.specs.Changes.{table-in}
+use Rattle.page.specs.between.Changes.{table-in}
 use Rattle.sheet.specs.Sheets.{decode-sheet}
 use Rattle.base.proofs.Tests.{T-true}
 use Rattle.railway.specs.Ranges.{station-ok}
 use Rattle.sheet.proofs.SheetLaws.{station-low, station-high}
-use Rattle.rules.specs.Parts.{entry-at}
-use Rattle.rules.proofs.EntryLaws.{entry-parts}
+use Rattle.page.specs.between.Entries.{entry-at}
+use Rattle.page.proofs.EntryLaws.{entry-of, entry-parts}
 use Rattle.projection.proofs.JourneyLaws.{page-there}
-use Rattle.reports.specs.Inspect.{visit-text}
+use Rattle.listings.specs.Inspect.{visit-text}
 use Rattle.printing.proofs.PutLaws.{Unwritten, one-on, all-put}
 use Rattle.printing.proofs.SheetLaws.{fine-size}
 use Rattle.printing.proofs.JourneyLaws.{here-ok, entry-there}
@@ -87,7 +87,7 @@ put-projection-requires c κs =
     let k = c .before .before .before .before .before .before .visit-count in
     let l = c .before .before .before .before .before .loop in
     let h = c .before .before .before .before .loop-test .taken in
-    let read = entry-parts _ _ _ (c .before .before .train-in .ensures) (c .before .visit-in .ensures) ∙ c .before .before .before .entry-record .ensures in
+    let read = entry-parts _ _ _ (c .before .before .train-in .ensures) (c .before .visit-in .ensures) ∙ entry-of _ _ _ (c .before .before .before .entry-record .ensures) in
     let there = entry-there (s .n) (now (s .sheet)) (q .pre .1) (s .s) (q .pre .2) _ same (l .i) (omega (arith, h, k .ensures .0)) _ _ read in
     (omega (arith, q .pre .0, k .ensures .1, l .inv .1, h), q .pre .1, q .pre .2, there .0, there .1)
 
@@ -104,7 +104,7 @@ loop-again c =
     let k = c .before .before .before .before .before .before .before .before .before .visit-count in
     let l = c .before .before .before .before .before .before .before .before .loop in
     let w = c .before .before .put-projection in
-    let read = entry-parts _ _ _ (c .before .before .before .before .before .train-in .ensures) (c .before .before .before .before .visit-in .ensures) ∙ c .before .before .before .before .before .before .entry-record .ensures in
+    let read = entry-parts _ _ _ (c .before .before .before .before .before .train-in .ensures) (c .before .before .before .before .visit-in .ensures) ∙ entry-of _ _ _ (c .before .before .before .before .before .before .entry-record .ensures) in
     let text = visit-text (s .n) (decode-sheet (now (s .sheet))) (s .s) in (
       omega arith,
       omega (arith, w .ensures .2),
@@ -132,24 +132,6 @@ returns c =
 pub put-visits-spec : {M : Type 1} → statement M
 put-visits-spec =
     tie.close
-    (tie.spec
-    Inv-loop
-    μ-loop
-    size-requires
-    sub-first
-    mul-first
-    add-part
-    sub-part
-    part-part-start
-    part-part-end
-    visit-count-requires
-    loop-holds
-    entry-record-requires
-    train-in-requires
-    visit-in-requires
-    put-projection-requires
-    add-i
-    loop-less
-    loop-again
-    same-length
-    returns)
+    (tie.spec Inv-loop μ-loop size-requires sub-first mul-first add-part sub-part part-part-start part-part-end
+    visit-count-requires loop-holds entry-record-requires train-in-requires visit-in-requires put-projection-requires
+    add-i loop-less loop-again same-length returns)

@@ -1,101 +1,25 @@
--- `printing::lists::put_area` meets its contract: the call is not refused and its list fits, so that list is printed. Assumes nothing.
+-- `printing::lists::put_area` meets its contract: the array that it lends has the length that `area_in` asks for.
+-- Assumes nothing.
 use Prim.Native.Nat.{ℕ}
-use native.Mathlib.Omega.{arith}
-use denote.Ref.{now}
+use mathlib.Core.Path.{sym}
 use lib.ListN.{length-replicate}
 use borrow.Author.Needs.{needs}
-use Rattle.printing.proofs.PutLaws.{puts-as}
-use Rattle.printing.proofs.ListLaws.{area-low, own-unrefused, own-roomy, own-printed}
+use Rattle.findings.specs.between.Builder.{list-most}
 use Rattle.printing.proofs.lists.put_area.Statement.{statement}
 use Rattle.printing.proofs.lists.put_area.Tie as tie
 
-slice-aggregate-divide : tie.Need-slice-aggregate-divide
-slice-aggregate-divide c = search needs
+slice-aggregate-area-in : tie.Need-slice-aggregate-area-in
+slice-aggregate-area-in c = sym (length-replicate {A = ℕ} list-most 0)
 
-divide-requires : tie.Need-divide-requires
-divide-requires c κs = search needs
-
-slice-aggregate-area-sheet : tie.Need-slice-aggregate-area-sheet
-slice-aggregate-area-sheet c = search needs
-
-area-sheet-requires : tie.Need-area-sheet-requires
-area-sheet-requires c κs = search needs
-
-slice-aggregate-area-findings : tie.Need-slice-aggregate-area-findings
-slice-aggregate-area-findings c = search needs
-
-area-findings-requires : tie.Need-area-findings-requires
-area-findings-requires c κs = search needs
-
-enum-known-listed : tie.Need-enum-known-listed
-enum-known-listed c = search needs
-
-slice-aggregate-put-list : tie.Need-slice-aggregate-put-list
-slice-aggregate-put-list c = search needs
-
-put-list-requires : tie.Need-put-list-requires
-put-list-requires c κs =
-    let q = c .before .before .before .before .before .before .before .before .before .before .before .before .before .before .before in
-    let s = q .args in
-    let f = c .before .before .before .before .before .before .area-findings in
-    let p = c .before .before .before .before .before .before .before .before .area-sheet in
-    let d = c .before .before .before .before .before .before .before .before .before .before .before .divide in
-    let told = own-printed (s .n) (now (s .sheet)) (q .pre .0) (s .a) (q .pre .1) _ _ _ _ (length-replicate {A = ℕ} 49152 0) (d .ensures .1) (p .ensures) (length-replicate {A = ℕ} 332160 0) (f .result) (f .ensures .0) _ (c .before .before .before .listed .given .1) _ (f .ensures .1) in
-    (area-low (s .a) (q .pre .1) .1, omega arith, told .0, told .1)
-
-enum-known-listed-2 : tie.Need-enum-known-listed-2
-enum-known-listed-2 c = search needs
-
-enum-known-listed-3 : tie.Need-enum-known-listed-3
-enum-known-listed-3 c = search needs
+area-in-requires : tie.Need-area-in-requires
+area-in-requires c κs = (c .before .before .before .before .pre .0, c .before .before .before .before .pre .1, length-replicate {A = ℕ} list-most 0)
 
 same-length : tie.Need-same-length
 same-length c = search needs
 
 returns : tie.Need-returns
-returns c =
-    let q = c .before .before .before .before .before .before .before .before .before .before .before .before .before .before .before .before .before .before in
-    let s = q .args in
-    let f = c .before .before .before .before .before .before .before .before .before .area-findings in
-    let p = c .before .before .before .before .before .before .before .before .before .before .before .area-sheet in
-    let d = c .before .before .before .before .before .before .before .before .before .before .before .before .before .before .divide in
-    let told = own-printed (s .n) (now (s .sheet)) (q .pre .0) (s .a) (q .pre .1) _ _ _ _ (length-replicate {A = ℕ} 49152 0) (d .ensures .1) (p .ensures) (length-replicate {A = ℕ} 332160 0) (f .result) (f .ensures .0) _ (c .before .before .before .before .before .before .listed .given .1) _ (f .ensures .1) in
-    puts-as 0 _ _ _ (now (s .out)) _ 2491200 (told .2) (c .before .before .put-list .ensures)
-
-returns-2 : tie.Need-returns-2
-returns-2 c =
-    let q = c .before .before .before .before .before .before .before .before .before .before .before .before .before in
-    let s = q .args in
-    let f = c .before .before .before .before .area-findings in
-    let p = c .before .before .before .before .before .before .area-sheet in
-    let d = c .before .before .before .before .before .before .before .before .before .divide in
-    own-unrefused (s .n) (now (s .sheet)) (q .pre .0) (s .a) (q .pre .1) _ _ _ _ (length-replicate {A = ℕ} 49152 0) (d .ensures .1) (p .ensures) (length-replicate {A = ℕ} 332160 0) (f .result) (f .ensures .0) _ (c .before .listed2 .given .1)
-
-returns-3 : tie.Need-returns-3
-returns-3 c =
-    let q = c .before .before .before .before .before .before .before .before .before .before .before .before .before in
-    let s = q .args in
-    let f = c .before .before .before .before .area-findings in
-    let p = c .before .before .before .before .before .before .area-sheet in
-    let d = c .before .before .before .before .before .before .before .before .before .divide in
-    own-roomy (s .n) (now (s .sheet)) (q .pre .0) (s .a) (q .pre .1) _ _ _ _ (length-replicate {A = ℕ} 49152 0) (d .ensures .1) (p .ensures) (length-replicate {A = ℕ} 332160 0) (f .result) (f .ensures .0) _ (c .before .listed3 .given .1)
+returns c = c .before .before .before .area-in .ensures
 
 pub put-area-spec : {M : Type 1} → statement M
 put-area-spec =
-    tie.close
-    (tie.spec
-    slice-aggregate-divide
-    divide-requires
-    slice-aggregate-area-sheet
-    area-sheet-requires
-    slice-aggregate-area-findings
-    area-findings-requires
-    enum-known-listed
-    slice-aggregate-put-list
-    put-list-requires
-    enum-known-listed-2
-    enum-known-listed-3
-    same-length
-    returns
-    returns-2
-    returns-3)
+    tie.close (tie.spec slice-aggregate-area-in area-in-requires same-length returns)

@@ -1,4 +1,5 @@
--- `printing::lists::put_list` meets its contract: numbers of two bytes have at most five digits, so no line is longer than 30 bytes. Assumes nothing.
+-- `printing::lists::put_list` meets its contract: numbers of two bytes have at most five digits, so no line is longer
+-- than 30 bytes. Assumes nothing.
 use native.Mathlib.Omega.{arith}
 use denote.Ref.{now}
 use borrow.Author.Needs.{needs}

@@ -1,4 +1,5 @@
--- `printing::shift::put_end` meets its contract: the division merges, and its sheet is good, so its findings are listed. Assumes nothing.
+-- `printing::shift::put_end` meets its contract: the division merges, and its sheet is good, so its findings are
+-- listed. Assumes nothing.
 use Prim.Native.Nat.{ℕ}
 use mathlib.Core.Path.{_∙_, ap}
 use denote.Ref.{now}
@@ -6,7 +7,7 @@ use lib.ListN.{length-replicate}
 use borrow.Author.Needs.{needs}
 use Rattle.sheet.specs.Sheets.{merged}
 use Rattle.findings.specs.Lists.{sheet-list-refusal}
-use Rattle.dispatch.proofs.ListLaws.{network-good}
+use Rattle.machine.proofs.KnownGood.{network-good}
 use Rattle.printing.proofs.ShiftLaws.{merges, merged-listed, end-put}
 use Rattle.printing.proofs.shift.put_end.Statement.{statement}
 use Rattle.printing.proofs.shift.put_end.Tie as tie
@@ -54,13 +55,5 @@ returns c =
 pub put-end-spec : {M : Type 1} → statement M
 put-end-spec =
     tie.close
-    (tie.spec
-    slice-aggregate-merge
-    merge-requires
-    slice-aggregate-put-whole
-    put-whole-requires
-    slice-aggregate-put-totals
-    put-totals-requires
-    put-tally-requires
-    same-length
-    returns)
+    (tie.spec slice-aggregate-merge merge-requires slice-aggregate-put-whole put-whole-requires
+    slice-aggregate-put-totals put-totals-requires put-tally-requires same-length returns)

@@ -1,7 +1,7 @@
 -- `printing::shift::put_tally` meets its contract: one line of four numbers. Assumes nothing.
 use borrow.Author.Needs.{needs}
 use Rattle.timetable.specs.Listing.{tally-line}
-use Rattle.reports.specs.Shift.{line-text}
+use Rattle.listings.specs.Shift.{line-text}
 use Rattle.printing.proofs.shift.put_tally.Statement.{statement}
 use Rattle.printing.proofs.shift.put_tally.Tie as tie
 

@@ -1,14 +1,16 @@
--- `printing::shift::shift` meets its contract: too long, refused, or read; each has its text (InputLaws). Assumes nothing.
+-- `printing::shift::shift` meets its contract: there is room for any text, or the count is the needed length, and the
+-- buffer has it or not. Assumes nothing.
 use native.Mathlib.Omega.{arith}
 use denote.Ref.{now}
 use borrow.Author.Needs.{needs}
-use Rattle.printing.proofs.InputLaws.{shift-held, shift-faulty, shift-long}
-use Rattle.printing.proofs.ShiftLaws.{told-so}
+use Rattle.listings.specs.Shift.{shift-text}
+use Rattle.printing.specs.between.Lines.{shift-most}
+use Rattle.printing.proofs.PutLaws.{put-at-once, left-short, put-counted}
 use Rattle.printing.proofs.shift.shift.Statement.{statement}
 use Rattle.printing.proofs.shift.shift.Tie as tie
 
-put-refusal-requires : tie.Need-put-refusal-requires
-put-refusal-requires c κs = search needs
+put-shift-requires : tie.Need-put-shift-requires
+put-shift-requires c κs = search needs
 
 same-length : tie.Need-same-length
 same-length c = search needs
@@ -16,63 +18,32 @@ same-length c = search needs
 returns : tie.Need-returns
 returns c =
     let s = c .before .before .before .before .before .before .before .args in
-    let w = c .before .before .put-refusal in
-    told-so (now (s .input)) _ (w .result) 68 _ _ (shift-long (now (s .input)) (c .before .before .before .before .if1 .taken)) (omega arith) (w .ensures)
+    put-at-once (shift-text (now (s .input))) (now (s .out)) shift-most _ _ (c .before .before .put-shift .ensures) (c .before .before .before .before .if1 .taken)
 
-read-shift-requires : tie.Need-read-shift-requires
-read-shift-requires c κs = search needs
+slice-aggregate-put-shift : tie.Need-slice-aggregate-put-shift
+slice-aggregate-put-shift c = search needs
 
-put-refusal-requires-2 : tie.Need-put-refusal-requires-2
-put-refusal-requires-2 c κs =
+put-shift-requires-2 : tie.Need-put-shift-requires-2
+put-shift-requires-2 c κs = search needs
+
+returns-2 : tie.Need-returns-2
+returns-2 c =
     let s = c .before .before .before .before .before .before .before .args in
-    let r = c .before .before .before .read-shift in
-    shift-faulty (now (s .input)) (r .result) (r .ensures) (c .before .if2 .taken) (c .before .before .before .before .if1 .left) .0
+    left-short (shift-text (now (s .input))) (now (s .out)) shift-most _ _ _ (c .before .before .put-shift2 .ensures) (c .if2 .taken)
+
+put-shift-requires-3 : tie.Need-put-shift-requires-3
+put-shift-requires-3 c κs = search needs
 
 same-length-2 : tie.Need-same-length-2
 same-length-2 c = search needs
 
-returns-2 : tie.Need-returns-2
-returns-2 c =
-    let s = c .before .before .before .before .before .before .before .before .before .before .args in
-    let r = c .before .before .before .before .before .before .read-shift in
-    let w = c .before .before .put-refusal2 in
-    told-so (now (s .input)) _ (w .result) 68 _ _ (shift-faulty (now (s .input)) (r .result) (r .ensures) (c .before .before .before .before .if2 .taken) (c .before .before .before .before .before .before .before .if1 .left) .1) (omega arith) (w .ensures)
-
-cast-put-run : tie.Need-cast-put-run
-cast-put-run c = search needs
-
-put-run-requires : tie.Need-put-run-requires
-put-run-requires c κs =
-    let s = c .before .before .before .before .before .before .before .before .args in
-    let r = c .before .before .before .before .read-shift in
-    let known = c .before .before .before .before .before .before .before .shared-slice-known in
-    let h = shift-held (now (s .input)) (r .result) (r .ensures) (λ i. known .given i .fits) (c .before .before .if2 .left) in
-    (h .good, h .few, h .readable)
-
-same-length-3 : tie.Need-same-length-3
-same-length-3 c = search needs
-
 returns-3 : tie.Need-returns-3
 returns-3 c =
     let s = c .before .before .before .before .before .before .before .before .before .before .before .args in
-    let r = c .before .before .before .before .before .before .before .read-shift in
-    let known = c .before .before .before .before .before .before .before .before .before .before .shared-slice-known in
-    let h = shift-held (now (s .input)) (r .result) (r .ensures) (λ i. known .given i .fits) (c .before .before .before .before .before .if2 .left) in
-    let w = c .before .before .put-run in
-    told-so (now (s .input)) _ (w .result) 2300000 _ _ (h .text-is (c .before .before .before .before .before .before .before .before .if1 .left)) (omega arith) (w .ensures)
+    put-counted (shift-text (now (s .input))) (now (s .out)) shift-most _ _ _ (c .before .before .before .before .before .before .put-shift2 .ensures) _ _ (c .before .before .before .before .if2 .left) (c .before .before .put-shift3 .ensures)
 
 pub shift-spec : {M : Type 1} → statement M
 shift-spec =
     tie.close
-    (tie.spec
-    put-refusal-requires
-    same-length
-    returns
-    read-shift-requires
-    put-refusal-requires-2
-    same-length-2
-    returns-2
-    cast-put-run
-    put-run-requires
-    same-length-3
-    returns-3)
+    (tie.spec put-shift-requires same-length returns slice-aggregate-put-shift put-shift-requires-2 returns-2
+    put-shift-requires-3 same-length-2 returns-3)

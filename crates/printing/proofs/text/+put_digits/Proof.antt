@@ -1,4 +1,5 @@
--- The proof of the cycle of calls {put_digits}. The measure is the number of digits still permitted; each return is one law of `digits`. Assumes nothing.
+-- The proof of the cycle of calls {put_digits}. The measure is the number of digits still permitted; each return is one
+-- law of `digits`. Assumes nothing.
 use Prim.Native.Nat.{ℕ, _<_, _+_, _-_, _/_, _%_}
 use mathlib.Core.List.{[], _∷_}
 use mathlib.Core.Path.{_≡_, refl, sym, _∙_, ap}
@@ -6,7 +7,7 @@ use denote.Ref.{now}
 use native.Mathlib.Omega.{arith}
 use borrow.Author.Needs.{needs}
 use Rattle.timetable.specs.Outputs.{put}
-use Rattle.reports.specs.Text.{digits}
+use Rattle.listings.specs.Text.{digits}
 use Rattle.printing.proofs.TextLaws.{digits-none, digits-last, digits-more}
 use Rattle.timetable.proofs.PutLaws.{put-two}
 use borrow.Fn.Kinds.{In}

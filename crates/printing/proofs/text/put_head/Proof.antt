@@ -1,4 +1,5 @@
--- `printing::text::put_head` meets its contract: what the whole head would write is what the words from i on still write, from the place reached. Assumes nothing.
+-- `printing::text::put_head` meets its contract: what the whole head would write is what the words from i on still
+-- write, from the place reached. Assumes nothing.
 use Prim.Native.Nat.{ℕ, _+_, _-_, _*_, _≤_}
 use mathlib.Core.Path.{_≡_, refl, sym, _∙_, ap}
 use mathlib.Core.List.{[], _∷_, flatMap}
@@ -8,7 +9,7 @@ use lib.ListN.{length, take, drop, getD}
 use borrow.Author.Needs.{needs}
 use Rattle.timetable.specs.Outputs.{put}
 use Rattle.timetable.proofs.PutLaws.{each-on, each-length, each-over}
-use Rattle.reports.specs.Text.{word, head}
+use Rattle.listings.specs.Text.{word, head}
 use Rattle.printing.proofs.text.put_head.Statement.{statement}
 use Rattle.printing.proofs.text.put_head.Tie as tie
 
@@ -77,16 +78,5 @@ returns c =
 pub put-head-spec : {M : Type 1} → statement M
 put-head-spec =
     tie.close
-    (tie.spec
-    Inv-loop
-    μ-loop
-    put-byte-requires
-    loop-holds
-    mul-put-word
-    array-read-put-word
-    put-word-requires
-    add-i
-    loop-less
-    loop-again
-    same-length
-    returns)
+    (tie.spec Inv-loop μ-loop put-byte-requires loop-holds mul-put-word array-read-put-word put-word-requires add-i
+    loop-less loop-again same-length returns)

@@ -4,7 +4,7 @@ use native.Mathlib.Omega.{arith}
 use denote.Ref.{now}
 use lib.ListN.{take}
 use borrow.Author.Needs.{needs}
-use Rattle.reports.specs.Text.{head, line}
+use Rattle.listings.specs.Text.{head, line}
 use Rattle.timetable.proofs.PutLaws.{put-two}
 use Rattle.printing.proofs.text.put_line.Statement.{statement}
 use Rattle.printing.proofs.text.put_line.Tie as tie

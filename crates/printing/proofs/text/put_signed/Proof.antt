@@ -1,4 +1,5 @@
--- `printing::text::put_signed` meets its contract: below nought it is the sign and the digits behind it, else the digits alone. Assumes nothing.
+-- `printing::text::put_signed` meets its contract: below nought it is the sign and the digits behind it, else the
+-- digits alone. Assumes nothing.
 use Prim.Native.Nat.{_+_}
 use mathlib.Core.Path.{_≡_}
 use mathlib.Core.Bool.{true, false}
@@ -11,7 +12,7 @@ use mir.Syntax.{w32}
 use mir.Val.{toZ, ofZ}
 use borrow.Author.Needs.{needs}
 use Rattle.timetable.proofs.PutLaws.{put-two}
-use Rattle.reports.specs.Text.{digits}
+use Rattle.listings.specs.Text.{digits}
 use Rattle.printing.proofs.SignedLaws.{kept, less-fits, less-positive, less-more, signed-low, positive, signed-high}
 use Rattle.printing.proofs.text.put_signed.Statement.{statement}
 use Rattle.printing.proofs.text.put_signed.Tie as tie
@@ -78,15 +79,5 @@ returns-2 c =
 pub put-signed-spec : {M : Type 1} → statement M
 put-signed-spec =
     tie.close
-    (tie.spec
-    put-byte-requires
-    sub-put-digits
-    cast-put-digits
-    add-put-digits
-    put-digits-requires
-    same-length
-    returns
-    cast-put-digits-2
-    put-digits-requires-2
-    same-length-2
-    returns-2)
+    (tie.spec put-byte-requires sub-put-digits cast-put-digits add-put-digits put-digits-requires same-length returns
+    cast-put-digits-2 put-digits-requires-2 same-length-2 returns-2)

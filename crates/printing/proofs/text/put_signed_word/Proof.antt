@@ -3,9 +3,9 @@ use mathlib.Core.List.{[], _∷_}
 use native.Mathlib.Omega.{arith}
 use denote.Ref.{now}
 use borrow.Author.Needs.{needs}
-use Rattle.reports.specs.Inspect.{signed}
+use Rattle.listings.specs.Inspect.{signed}
 use Rattle.timetable.proofs.PutLaws.{put-two}
-use Rattle.printing.specs.Journeys.{signed-word}
+use Rattle.printing.specs.between.Journeys.{signed-word}
 use Rattle.printing.proofs.SignedLaws.{kept}
 use Rattle.printing.proofs.text.put_signed_word.Statement.{statement}
 use Rattle.printing.proofs.text.put_signed_word.Tie as tie

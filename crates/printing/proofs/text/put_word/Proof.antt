@@ -4,7 +4,7 @@ use mathlib.Core.List.{[], _∷_}
 use native.Mathlib.Omega.{arith}
 use denote.Ref.{now}
 use borrow.Author.Needs.{needs}
-use Rattle.reports.specs.Text.{digits, decimal, word}
+use Rattle.listings.specs.Text.{digits, decimal, word}
 use Rattle.timetable.proofs.PutLaws.{put-two}
 use Rattle.printing.proofs.text.put_word.Statement.{statement}
 use Rattle.printing.proofs.text.put_word.Tie as tie

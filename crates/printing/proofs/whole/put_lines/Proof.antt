@@ -1,10 +1,11 @@
--- `printing::whole::put_lines` meets its contract: the lines under no area; their numbers stand in two bytes each. Assumes nothing.
+-- `printing::whole::put_lines` meets its contract: the lines under no area; their numbers stand in two bytes each.
+-- Assumes nothing.
 use Prim.Native.Nat.{_*_}
 use mathlib.Core.List.{[], flatMap}
 use native.Mathlib.Omega.{arith}
 use denote.Ref.{now}
 use borrow.Author.Needs.{needs}
-use Rattle.printing.specs.Lines.{of-areas}
+use Rattle.printing.specs.between.Lines.{of-areas}
 use Rattle.printing.proofs.WholeLaws.{line-most, lines-short}
 use Rattle.printing.proofs.whole.put_lines.Statement.{statement}
 use Rattle.printing.proofs.whole.put_lines.Tie as tie

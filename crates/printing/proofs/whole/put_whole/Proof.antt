@@ -1,91 +1,25 @@
--- `printing::whole::put_whole` meets its contract: the array has room for any list, so the call writes the numbers of all findings, and their lines are put.
+-- `printing::whole::put_whole` meets its contract: the array that it lends has the length that `put_listed` asks for.
 -- Assumes nothing.
-use native.Mathlib.Omega.{arith}
 use Prim.Native.Nat.{ℕ}
-use denote.Ref.{now}
+use mathlib.Core.Path.{sym}
 use lib.ListN.{length-replicate}
 use borrow.Author.Needs.{needs}
-use Rattle.findings.proofs.PutLaws.{puts-as}
-use Rattle.printing.proofs.WholeLaws.{never-refused, never-short, counted, few-found, found-fit, found-text}
+use Rattle.findings.specs.between.Builder.{list-most}
 use Rattle.printing.proofs.whole.put_whole.Statement.{statement}
 use Rattle.printing.proofs.whole.put_whole.Tie as tie
 
-slice-aggregate-sheet-findings : tie.Need-slice-aggregate-sheet-findings
-slice-aggregate-sheet-findings c = search needs
+slice-aggregate-put-listed : tie.Need-slice-aggregate-put-listed
+slice-aggregate-put-listed c = sym (length-replicate {A = ℕ} list-most 0)
 
-sheet-findings-requires : tie.Need-sheet-findings-requires
-sheet-findings-requires c κs = search needs
-
-enum-known-listed : tie.Need-enum-known-listed
-enum-known-listed c = search needs
-
-slice-aggregate-put-lines : tie.Need-slice-aggregate-put-lines
-slice-aggregate-put-lines c = search needs
-
-put-lines-requires : tie.Need-put-lines-requires
-put-lines-requires c κs =
-    let q = c .before .before .before .before .before .before .before .before .before .before in
-    let s = q .args in
-    let f = c .before .before .before .before .before .before .sheet-findings in
-    let e = c .before .before .before .listed .given .1 in
-    let few = few-found (s .n) (now (s .sheet)) (q .pre .0) _ (length-replicate {A = ℕ} 332160 0) (f .result) (f .ensures .0) _ e in
-    (q .pre .1, omega (arith, few), found-fit (s .n) (now (s .sheet)) (q .pre .0) _ (length-replicate {A = ℕ} 332160 0) (f .result) (f .ensures .0) _ e _ (f .ensures .1))
-
-cast-t19 : tie.Need-cast-t19
-cast-t19 c =
-    let q = c .before .before .before .before .before .before .before .before .before .before .before .before .before in
-    let s = q .args in
-    let f = c .before .before .before .before .before .before .before .before .before .sheet-findings in
-    omega (arith, few-found (s .n) (now (s .sheet)) (q .pre .0) _ (length-replicate {A = ℕ} 332160 0) (f .result) (f .ensures .0) _ (c .before .before .before .before .before .before .listed .given .1))
-
-enum-known-listed-2 : tie.Need-enum-known-listed-2
-enum-known-listed-2 c = search needs
-
-enum-known-listed-3 : tie.Need-enum-known-listed-3
-enum-known-listed-3 c = search needs
+put-listed-requires : tie.Need-put-listed-requires
+put-listed-requires c κs = (c .before .before .before .before .pre .0, c .before .before .before .before .pre .1, length-replicate {A = ℕ} list-most 0)
 
 same-length : tie.Need-same-length
 same-length c = search needs
 
 returns : tie.Need-returns
-returns c =
-    let q = c .before .before .before .before .before .before .before .before .before .before .before .before .before in
-    let s = q .args in
-    let f = c .before .before .before .before .before .before .before .before .before .sheet-findings in
-    let e = c .before .before .before .before .before .before .listed .given .1 in
-    let w = c .before .before .put-lines in
-    let few = few-found (s .n) (now (s .sheet)) (q .pre .0) _ (length-replicate {A = ℕ} 332160 0) (f .result) (f .ensures .0) _ e in
-    let text = found-text (s .n) (now (s .sheet)) (q .pre .0) _ (length-replicate {A = ℕ} 332160 0) (f .result) (f .ensures .0) _ e _ (f .ensures .1) in
-    let put = puts-as (s .at) (w .result) _ _ _ _ _ text (w .ensures) in
-    ((put .0, put .1, omega (arith, w .ensures .2, few)), counted (s .n) (now (s .sheet)) (q .pre .0) _ (length-replicate {A = ℕ} 332160 0) (f .result) (f .ensures .0) _ e)
-
-returns-2 : tie.Need-returns-2
-returns-2 c =
-    let q = c .before .before .before .before .before .before .before .before in
-    let s = q .args in
-    let f = c .before .before .before .before .sheet-findings in
-    never-refused (s .n) (now (s .sheet)) (q .pre .0) _ (length-replicate {A = ℕ} 332160 0) (f .result) (f .ensures .0) _ (c .before .listed2 .given .1)
-
-returns-3 : tie.Need-returns-3
-returns-3 c =
-    let q = c .before .before .before .before .before .before .before .before in
-    let s = q .args in
-    let f = c .before .before .before .before .sheet-findings in
-    never-short (s .n) (now (s .sheet)) (q .pre .0) _ (length-replicate {A = ℕ} 332160 0) (f .result) (f .ensures .0) _ (c .before .listed3 .given .1)
+returns c = c .before .before .before .put-listed .ensures
 
 pub put-whole-spec : {M : Type 1} → statement M
 put-whole-spec =
-    tie.close
-    (tie.spec
-    slice-aggregate-sheet-findings
-    sheet-findings-requires
-    enum-known-listed
-    slice-aggregate-put-lines
-    put-lines-requires
-    cast-t19
-    enum-known-listed-2
-    enum-known-listed-3
-    same-length
-    returns
-    returns-2
-    returns-3)
+    tie.close (tie.spec slice-aggregate-put-listed put-listed-requires same-length returns)

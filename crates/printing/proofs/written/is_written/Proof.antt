@@ -71,16 +71,6 @@ returns-3 c =
 pub is-written-spec : {M : Type 1} → statement M
 is-written-spec =
     tie.close
-    (tie.spec
-    slice-aggregate-write-timetable
-    write-timetable-requires
-    enum-known-output
-    sub-is-same
-    part-is-same-start
-    part-is-same-end
-    is-same-requires
-    enum-known-output-2
-    enum-known-output-3
-    returns
-    returns-2
+    (tie.spec slice-aggregate-write-timetable write-timetable-requires enum-known-output sub-is-same
+    part-is-same-start part-is-same-end is-same-requires enum-known-output-2 enum-known-output-3 returns returns-2
     returns-3)

@@ -36,11 +36,4 @@ returns-2 c =
 pub put-written-spec : {M : Type 1} → statement M
 put-written-spec =
     tie.close
-    (tie.spec
-    is-written-requires
-    put-line-requires
-    same-length
-    returns
-    put-line-requires-2
-    same-length-2
-    returns-2)
+    (tie.spec is-written-requires put-line-requires same-length returns put-line-requires-2 same-length-2 returns-2)

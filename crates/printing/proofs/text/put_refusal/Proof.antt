@@ -1,8 +1,8 @@
--- `printing::shift::put_refusal` meets its contract: one line of two numbers. Assumes nothing.
+-- `printing::text::put_refusal` meets its contract: one line of two numbers. Assumes nothing.
 use borrow.Author.Needs.{needs}
-use Rattle.reports.specs.Shift.{refusal-text}
-use Rattle.printing.proofs.shift.put_refusal.Statement.{statement}
-use Rattle.printing.proofs.shift.put_refusal.Tie as tie
+use Rattle.listings.specs.Shift.{refusal-text}
+use Rattle.printing.proofs.text.put_refusal.Statement.{statement}
+use Rattle.printing.proofs.text.put_refusal.Tie as tie
 
 cast-byte : tie.Need-cast-byte
 cast-byte c = search needs

@@ -6,8 +6,8 @@ use lib.Dec.{leb}
 use lib.IntN.{ℤ, pos}
 use lib.ListN.{getD}
 use lib.Signed.{mag}
-use Rattle.reports.specs.Text.{head}
-use Rattle.reports.specs.Inspect.{signed}
+use Rattle.listings.specs.Text.{head}
+use Rattle.listings.specs.Inspect.{signed}
 
 -- a number with its sign and a blank before it
 unfoldable pub signed-word : ℤ → List ℕ

@@ -1,0 +1,40 @@
+// "A file refusal prints only R, number, place."
+ghost use mathlib.Core.Path.{_≡_};
+ghost use Prim.Native.Nat.{_≤_};
+ghost use Rattle.timetable.specs.Outputs.{output, output-after};
+ghost use Rattle.listings.specs.Shift.{refusal-text};
+ghost use Rattle.printing.specs.Parts.{line-refusal};
+use crate::text;
+use timetable::Output;
+
+// The line into a lent buffer, which is left as it was where it is too short.
+fn write_refusal(out: &mut [u8], number: u8, place: usize) -> Output
+    requires { ⌜ place ≤ 16384 ⌝ }
+    ensures { λ r. ⌜
+        (r ≡ output 0 (refusal-text number place) (now (out .entry)))
+        × (now (out .exit) ≡ output-after 0 (refusal-text number place) (now (out .entry))) ⌝ }
+{
+    if 68 <= out.len() {
+        let length = text::put_refusal(out, number, place);
+        return Output::Written(length);
+    }
+    let mut none = [0u8; 1];
+    let needed = text::put_refusal(&mut none, number, place);
+    if out.len() < needed {
+        return Output::TooShort(needed);
+    }
+    text::put_refusal(out, number, place);
+    Output::Written(needed)
+}
+
+// The line of a refusal; 3 for a place that no input has.
+pub fn refusal_line(number: u8, place: usize, out: &mut [u8]) -> Output
+    ensures { λ r. ⌜
+        (r ≡ output (line-refusal place) (refusal-text number place) (now (out .entry)))
+        × (now (out .exit) ≡ output-after (line-refusal place) (refusal-text number place) (now (out .entry))) ⌝ }
+{
+    if 16384 < place {
+        return Output::Refused(3);
+    }
+    write_refusal(out, number, place)
+}
