@@ -1,24 +1,19 @@
--- The tally balances over the calls' bytes: edits on a good sheet answer as the central machine and leave its timetable (Central), where the tally balances; a good
--- division is the divided sheet that it merges to, and edits on it are the edits on that sheet, divided. Assumes nothing.
-use Prim.Native.Nat.{ℕ, _+_}
+-- The tally balances over the calls' bytes: edits on a good sheet answer as the central machine and leave its timetable
+-- (machine CentralEdits), where the tally balances; a good division is the divided sheet that it merges to, and edits
+-- on it are the edits on that sheet, divided. Assumes nothing.
+use Prim.Native.Nat.{ℕ}
 use mathlib.Core.Path.{_≡_, sym, _∙_, ap}
 use mathlib.Core.List.{List}
-use lib.Dec.{T}
 use lib.ListN.{length}
 use Rattle.base.specs.Runs.{run, answers}
-use Rattle.railway.specs.Networks.{network-refusal}
-use Rattle.timetable.specs.Count.{zero-tally, raise-all, counts-in-full, visit-count}
-use Rattle.timetable.specs.Machine.{answer, after}
-use Rattle.theory.specs.Statements.{Balanced}
 use Rattle.theory.proofs.Balance.{balances}
-use Rattle.sheet.specs.Sheets.{decode-sheet, good-division, divided, merged}
+use Rattle.sheet.specs.Sheets.{decode-sheet, divided, merged}
 use Rattle.sheet.proofs.SheetLaws.{merged-size, merged-good, divided-merged, merged-divided}
 use Rattle.machine.specs.Calls.{sheet-answer, sheet-after, division-answer, division-after}
 use Rattle.machine.proofs.ByteEdits.{whole-of}
 use Rattle.machine.proofs.ListEdits.{GoodSheet, sheets-kept, run-divided, answers-divided}
-use Rattle.demands.specs.Types.{Edit, Network}
+use Rattle.machine.proofs.CentralEdits.{central-run, central-answers}
 use Rattle.demands.specs.Balance.{SheetsBalance, DivisionsBalance, sheet-visits, division-visits}
-use Rattle.demands.proofs.Central.{central-run, central-answers}
 
 pub sheets-balance : SheetsBalance
 unfolding sheet-visits

@@ -1,7 +1,8 @@
--- Timetable files and sheets give each other back: a good sheet is that of the whole timetable that it holds, and whole timetables come back from their files (formats);
--- what a file gives is whole, so its sheet is good and holds it. Assumes nothing.
+-- Timetable files and sheets give each other back: a good sheet is that of the whole timetable that it holds, and whole
+-- timetables come back from their files (formats); what a file gives is whole, so its sheet is good and holds it.
+-- Assumes nothing.
 use Prim.Native.Nat.{ℕ}
-use mathlib.Core.Path.{_≡_, refl, sym, _∙_, ap}
+use mathlib.Core.Path.{_≡_, sym, _∙_, ap}
 use mathlib.Core.Bool.{Bool, true, false}
 use mathlib.Core.List.{List}
 use native.Mathlib.Omega.{arith}
@@ -12,17 +13,17 @@ use Rattle.base.specs.Choice.{if_then_else_}
 use Rattle.timetable.specs.Formats.{Outcome, accepted, refused, bytes-of}
 use Rattle.timetable.specs.Machine.{Timetable}
 use Rattle.timetable.specs.TimetableFile.{read-timetable, timetable-numbers}
-use Rattle.sheet.specs.Sheets.{encode-sheet, decode-sheet}
+use Rattle.sheet.specs.Sheets.{decode-sheet}
 use Rattle.machine.proofs.ByteEdits.{whole-of, sheet-of}
-use Rattle.formats.specs.RoundTrips.{Bytes, TimetableRead}
-use Rattle.formats.proofs.TimetableTrips.{timetable-trip}
-use Rattle.writing.specs.Writing.{timetable-bytes}
-use Rattle.sheetfile.specs.Calls as calls
-use Rattle.sheetfile.specs.Calls.{read-outcome, answer-of, read-answer, read-after}
-use Rattle.sheetfile.specs.declared.calls.TimetableRead as Answer
+use Rattle.roundtrips.specs.RoundTrips.{Bytes, TimetableRead}
+use Rattle.roundtrips.proofs.TimetableTrips.{timetable-trip}
+use Rattle.timetable_writing.specs.Writing.{timetable-bytes}
+use Rattle.timetable_files.specs.Calls as calls
+use Rattle.timetable_files.specs.Calls.{read-outcome, answer-of, read-answer, read-after}
+use Rattle.timetable_files.specs.declared.calls.TimetableRead as Answer
+use Rattle.machine.proofs.WholeSheets.{whole-good, whole-back}
 use Rattle.demands.specs.Types.{Network}
-use Rattle.demands.specs.Files.{SheetBack, FileBack, SheetsComeBack, FilesComeBack}
-use Rattle.demands.proofs.DemandHolds.{whole-good, whole-back}
+use Rattle.demands.specs.Files.{FileBack, SheetsComeBack, FilesComeBack}
 
 pub sheets-come-back : SheetsComeBack
 unfolding timetable-bytes read-answer read-after read-outcome answer-of calls.sheet-of

@@ -1,5 +1,11 @@
-pub mod Central
-pub mod Balances
-pub mod ListLaws
+pub mod Gathered
+pub mod AllLists
+pub mod RefusalsHold
 pub mod DemandHolds
+pub mod BytesHold
+pub mod ListsHold
+pub mod LocalityHolds
+pub mod HistoriesHold
+pub mod HistoryCases
+pub mod Balances
 pub mod FilesHold

@@ -1,29 +1,32 @@
--- Demand 3, to the byte: one statement about whole lists of edits, over the definitions that the calls' contracts cite. On the one side the calls: a whole timetable's
--- sheet is divided, the edits reach the division in the order ps, its sheets are merged, and findings are listed from its sheets. On the other side document 01's
--- central machine and its findings: the edits in their first order, on the undivided timetable. Nothing here is proved; the theorem is in proofs/DemandHolds.antt.
+-- Demand 3, to the byte: one statement about whole lists of edits, over the definitions that the calls' contracts cite.
+-- On the one side the calls: a whole timetable's sheet is divided, the edits reach the division in the order ps, its
+-- sheets are merged, and findings are listed from its sheets. On the other side document 01's central machine and its
+-- findings: the edits in their first order, on the undivided timetable. Nothing here is proved; the theorem is in
+-- proofs/DemandHolds.antt.
 --
--- A reader needs: timetable Machine (`after`, `answer`), Findings (`findings`) and Good (`Whole`); theory Reordering; sheet Sheets (`encode-sheet`, `sheet-at`, dividing and
--- merging), machine Calls (edits on a division) and findings Lists (lists formed from sheets). Assumes nothing.
+-- A reader needs: timetable Machine (`after`, `answer`), Findings (`findings`) and Good (`Whole`); theory Reordering;
+-- sheet Sheets (`encode-sheet`, `sheet-at`, dividing and merging), machine Calls (edits on a division) and findings
+-- Lists (lists formed from sheets). Assumes nothing.
 use Prim.Native.Nat.{ℕ}
 use mathlib.Core.Path.{_≡_}
-use mathlib.Core.Bool.{Bool, _&&_}
-use mathlib.Core.List.{List, [], _∷_, _++_, map, flatMap}
+use mathlib.Core.Bool.{Bool}
+use mathlib.Core.List.{List, [], _∷_, _++_, flatMap}
 use lib.Dec.{T}
 use lib.ListN.{length}
 use Rattle.base.specs.Lists.{any, each-two, pairs, below, same}
 use Rattle.base.specs.Runs.{run, answers}
 use Rattle.railway.specs.Ranges.{area-ok}
-use Rattle.railway.specs.Networks.{network-refusal, area-of}
+use Rattle.network.specs.Networks.{network-refusal, area-of}
 use Rattle.timetable.specs.Machine.{Timetable, answer, after}
 use Rattle.timetable.specs.Groups.{names-group, divide}
 use Rattle.timetable.specs.Good.{Whole}
-use Rattle.timetable.specs.Findings.{finding, findings}
+use Rattle.timetable.specs.Findings.{finding, numbers, findings}
 use Rattle.theory.specs.Reordering.{along, Reordering}
-use Rattle.theory.specs.Statements.{numbers, times-listed}
+use Rattle.theory.specs.Statements.{times-listed}
 use Rattle.sheet.specs.Sheets.{six, encode-sheet, sheet-at, divided, divide-refusal, after-divide, merge-refusal, after-merge}
 use Rattle.machine.specs.Calls.{division-answer, division-after}
 use Rattle.findings.specs.Lists.{sheet-list, area-list, two-list, two-areas, sheet-list-refusal, area-list-refusal, two-list-refusal}
-use Rattle.demands.specs.Types.{Station, Area, Edit, Network, Finding}
+use Rattle.demands.specs.Types.{Area, Edit, Network, Finding}
 
 -- "Each is four numbers": a list as the calls write it, read again four by four
 unfoldable pub findings-in : List ℕ → List Finding
@@ -63,18 +66,21 @@ module _ (n : Network) (m : Timetable) (es : List Edit) (ps : List ℕ) where
   end = run (division-after n) (along es ps) start
 
   pub record Demand3 : Type 0 where
-    -- "The reordered one starts on the divided timetable": the dividing call accepts its sheet and leaves that division in any buffer of the right length
+    -- "The reordered one starts on the divided timetable": the dividing call accepts its sheet and leaves that division
+    -- in any buffer of the right length
     pub divides : (buffer : List ℕ) → length buffer ≡ 49152
         → (divide-refusal n (encode-sheet m) buffer ≡ 0) × (after-divide n (encode-sheet m) buffer ≡ start)
     -- "same answers": refusal and removed count of every edit, read along the positions
     pub same-answers : answers (division-after n) (division-answer n) (along es ps) start ≡ along (answers (after n) (answer n) es m) ps
-    -- "same sheets": each area's sheet is byte for byte that of its part of the central timetable, and these six are all
+    -- "same sheets": each area's sheet is byte for byte that of its part of the central timetable, and these six are
+    -- all
     pub same-sheets : (a : Area) → T (area-ok a) → sheet-at end (a .0) ≡ encode-sheet (divide (area-of n) central (a .0))
     pub same-division : end ≡ divided n (encode-sheet central)
     -- "same merged timetable": the merging call accepts the division and leaves the central timetable's sheet
     pub same-merged : (buffer : List ℕ) → length buffer ≡ 8192
         → (merge-refusal n end buffer ≡ 0) × (after-merge n end buffer ≡ encode-sheet central)
-    -- the calls that list findings accept their sheets, and the whole sheet's list is that of the central timetable, strictly rising
+    -- the calls that list findings accept their sheets, and the whole sheet's list is that of the central timetable,
+    -- strictly rising
     pub area-listed : (a : Area) → T (area-ok a) → area-list-refusal n (sheet-at end (a .0)) a ≡ 0
     pub pair-listed : (a b : Area) → T (two-areas a b) → two-list-refusal n (sheet-at end (a .0)) (sheet-at end (b .0)) a b ≡ 0
     pub whole-listed : (sheet-list-refusal n (encode-sheet central) ≡ 0) × (findings-in (sheet-list n (encode-sheet central)) ≡ findings n central)
@@ -83,7 +89,8 @@ module _ (n : Network) (m : Timetable) (es : List Edit) (ps : List ℕ) where
     pub exactly-once : (f : Finding) → T (listed-in f (findings n central)) → times-listed f (all-lists n end) ≡ 1
     pub no-other : (f : Finding) → T (listed-in f (all-lists n end)) → T (listed-in f (findings n central))
 
--- every good network, every whole timetable, every list of edits, and every reordering of it in which two edits that name a common area keep their order
+-- every good network, every whole timetable, every list of edits, and every reordering of it in which two edits that
+-- name a common area keep their order
 abbrev pub DemandHolds : Type 0
 DemandHolds = (n : Network) → network-refusal n ≡ 0 → (m : Timetable) → Whole n m
     → (es : List Edit) (ps : List ℕ) → Reordering (names-group n (area-of n)) es ps → Demand3 n m es ps

@@ -1,17 +1,18 @@
--- What is promised of timetable files and sheets, of the calls' bytes: "a timetable written and read is the same sheet", an accepted file read and written is the same file, and
--- a sheet that a file gives is good. By the definitions that the contracts of the reading and the writing call cite (sheetfile Calls, writing Writing). Nothing here is proved.
--- Assumes nothing.
+-- What is promised of timetable files and sheets, of the calls' bytes: "a timetable written and read is the same
+-- sheet", an accepted file read and written is the same file, and a sheet that a file gives is good. By the definitions
+-- that the contracts of the reading and the writing call cite (timetable_files Calls, timetable_writing Writing).
+-- Nothing here is proved. Assumes nothing.
 use Prim.Native.Nat.{ℕ}
 use mathlib.Core.Path.{_≡_}
 use mathlib.Core.List.{List}
 use lib.Dec.{T}
 use lib.ListN.{length}
-use Rattle.railway.specs.Networks.{network-refusal, listed}
+use Rattle.network.specs.Networks.{network-refusal, listed}
 use Rattle.sheet.specs.Sheets.{good-sheet}
-use Rattle.formats.specs.RoundTrips.{Bytes}
-use Rattle.writing.specs.Writing.{timetable-bytes}
-use Rattle.sheetfile.specs.Calls.{read-answer, read-after}
-use Rattle.sheetfile.specs.declared.calls.TimetableRead.{TimetableRead}
+use Rattle.roundtrips.specs.RoundTrips.{Bytes}
+use Rattle.timetable_writing.specs.Writing.{timetable-bytes}
+use Rattle.timetable_files.specs.Calls.{read-answer, read-after}
+use Rattle.timetable_files.specs.declared.calls.TimetableRead.{TimetableRead}
 use Rattle.demands.specs.Types.{Network}
 
 -- a good sheet, written and read into any buffer of the right length

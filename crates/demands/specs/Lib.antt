@@ -1,4 +1,10 @@
 pub mod Types
-pub mod Balance
 pub mod Demand
+pub mod Bytes
+pub mod ListCall
+pub mod Lists
+pub mod Refusals
+pub mod Locality
+pub mod Histories
+pub mod Balance
 pub mod Files
