@@ -1,5 +1,5 @@
--- How what is counted, summed or kept goes through `++`, `map`, `flatMap` and pairs: each law is an induction on the list, by the cases of a test of its head.
--- Assumes nothing.
+-- How what is counted, summed or kept goes through `++`, `map`, `flatMap` and pairs: each law is an induction on the
+-- list, by the cases of a test of its head. Assumes nothing.
 use Prim.Native.Nat.{ℕ, _+_, _≤_}
 use mathlib.Core.Path.{_≡_, refl, sym, _∙_, ap, ap₂, fun-ext}
 use mathlib.Core.Bool.{Bool, true, false, not, _&&_, _||_}
@@ -112,7 +112,8 @@ module _ {A : Type 0} where
   count-sum p [] = refl
   count-sum p (x ∷ xs) = ap (λ k. (1 if p x else 0) + k) (count-sum p xs)
 
--- Two tests over the elements and the pairs of a list: elements that pass both, and pairs of which the one passes x and the other y.
+-- Two tests over the elements and the pairs of a list: elements that pass both, and pairs of which the one passes x and
+-- the other y.
 module _ {A : Type 0} (x y : A → Bool) where
   abbrev pub together : A → Bool
   together g = x g && y g

@@ -1,4 +1,5 @@
--- Lengths of what is kept, and lists that are read from an index on: one more element, and what is asked of the rest. Assumes nothing.
+-- Lengths of what is kept, and lists that are read from an index on: one more element, and what is asked of the rest.
+-- Assumes nothing.
 use Prim.Native.Nat.{ℕ, suc, _+_, _-_, _<_, _≤_}
 use mathlib.Core.Path.{_≡_, refl, _∙_}
 use mathlib.Core.Bool.{Bool, true, false, _&&_, _||_}

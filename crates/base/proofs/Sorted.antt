@@ -1,5 +1,6 @@
--- Laws of lists in order: what keeping, mapping, joining and weakening leave of an order of each two elements, what stands in such a list once at most,
--- and that `below` is a strict order of lists of numbers. Each is by induction on the list. Assumes nothing.
+-- Laws of lists in order: what keeping, mapping, joining and weakening leave of an order of each two elements, what
+-- stands in such a list once at most, and that `below` is a strict order of lists of numbers. Each is by induction on
+-- the list. Assumes nothing.
 use Prim.Native.Nat.{ℕ, _+_, _≤_, _<_}
 use mathlib.Core.Path.{_≡_, refl, sym, ap₂}
 use mathlib.Core.Bool.{Bool, true, false, not, _&&_}

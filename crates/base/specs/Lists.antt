@@ -56,7 +56,8 @@ module _ {A : Type 0} where
 abbrev pub within : ℕ → ℕ → ℕ → Bool
 within lo hi x = leb lo x && leb x hi
 
--- lists of numbers, compared from the left: at the first place where they differ, or where one ends, the one is below the other
+-- lists of numbers, compared from the left: at the first place where they differ, or where one ends, the one is below
+-- the other
 unfoldable pub below : List ℕ → List ℕ → Bool
 below [] [] = false
 below [] (y ∷ ys) = true

@@ -1,4 +1,5 @@
-// What every crate leans on: choice, tests over lists and the order of lists of numbers (specs/), laws about them (proofs/).
+// What every crate leans on: choice, tests over lists and the order of lists of numbers (specs/), laws about them
+// (proofs/).
 ghost use mathlib.Core.Path.{_≡_};
 ghost use Rattle.base.specs.Lists.{within};
 

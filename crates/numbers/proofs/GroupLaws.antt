@@ -1,4 +1,5 @@
--- A number of k groups is below 128 to the k and takes at most k bytes; reading takes one group and then the rest. Assumes nothing.
+-- A number of k groups is below 128 to the k and takes at most k bytes; reading takes one group and then the rest.
+-- Assumes nothing.
 use Prim.Native.Nat.{ℕ, zero, suc, _+_, _*_, _-_, _/_, _%_, _<_, _≤_}
 use mathlib.Core.Path.{_≡_, refl, sym, _∙_, ap, ap₂}
 use mathlib.Core.Bool.{Bool, true, false}

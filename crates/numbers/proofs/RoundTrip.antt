@@ -1,4 +1,5 @@
--- A written number reads back, whatever stands behind it; an accepted number writes the same bytes. Both by induction on the groups permitted. Assumes nothing.
+-- A written number reads back, whatever stands behind it; an accepted number writes the same bytes. Both by induction
+-- on the groups permitted. Assumes nothing.
 use Prim.Native.Nat.{ℕ, zero, suc, _+_, _*_, _-_, _/_, _%_, _<_, _≤_}
 use mathlib.Core.Path.{_≡_, refl, sym, _∙_, ap, ap₂}
 use mathlib.Core.Bool.{Bool, true, false}

@@ -1,5 +1,5 @@
--- The numbers of files. Document 01, "Files": "A number is groups of seven bits, lowest first, top bit set on all but the last: its first
--- group plus 128 times the number in the rest." Assumes nothing.
+-- The numbers of files. Document 01, "Files": "A number is groups of seven bits, lowest first, top bit set on all but
+-- the last: its first group plus 128 times the number in the rest." Assumes nothing.
 use Prim.Native.Nat.{ℕ, zero, suc, _+_, _*_, _-_, _/_, _%_}
 use mathlib.Core.Bool.{Bool, true, false}
 use mathlib.Core.List.{List, [], _∷_, _++_}
@@ -14,8 +14,8 @@ unfoldable pub group-before : ℕ → Reading → Reading
 group-before g (Value n w) = if eqb n 0 then Refused 2 else Value (g + 128 * n) (w + 1)
 group-before g (Refused k) = Refused k
 
--- the number at the head of some bytes and how many bytes it takes, or a refusal's number. k groups more are permitted; "1 it ends early", "2 .. its third byte
--- has the top bit set"
+-- the number at the head of some bytes and how many bytes it takes, or a refusal's number. k groups more are permitted;
+-- "1 it ends early", "2 .. its third byte has the top bit set"
 unfoldable pub read-groups : ℕ → List ℕ → Reading
 read-groups zero bytes = Refused 2
 read-groups (suc k) [] = Refused 1

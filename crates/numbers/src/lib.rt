@@ -1,5 +1,5 @@
-// The numbers of files. Document 01, "Files": "A number is groups of seven bits, lowest first, top bit set on all but the last: its first group plus 128 times
-// the number in the rest."
+// The numbers of files. Document 01, "Files": "A number is groups of seven bits, lowest first, top bit set on all but
+// the last: its first group plus 128 times the number in the rest."
 ghost use mathlib.Core.Path.{_≡_};
 ghost use Prim.Native.Nat.{_≤_, _+_, _%_};
 ghost use Rattle.numbers.specs.Numbers.{read-groups, read-number, width, with-number};

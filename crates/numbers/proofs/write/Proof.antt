@@ -77,22 +77,6 @@ returns-4 c =
 pub write-spec : {M : Type 1} → statement M
 write-spec =
     tie.close
-    (tie.spec
-    width-of-requires
-    returns
-    last-group-requires
-    slice-write-out
-    same-length
-    returns-2
-    group-before-requires
-    slice-write-out-2
-    last-group-requires-2
-    slice-write-out-3
-    same-length-2
-    returns-3
-    group-before-requires-2
-    slice-write-out-4
-    last-group-requires-3
-    slice-write-out-5
-    same-length-3
-    returns-4)
+    (tie.spec width-of-requires returns last-group-requires slice-write-out same-length returns-2
+    group-before-requires slice-write-out-2 last-group-requires-2 slice-write-out-3 same-length-2 returns-3
+    group-before-requires-2 slice-write-out-4 last-group-requires-3 slice-write-out-5 same-length-3 returns-4)
