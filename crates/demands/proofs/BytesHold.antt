@@ -15,7 +15,7 @@ use Rattle.railway.specs.Ranges.{area-ok}
 use Rattle.timetable.specs.EditsFile.{read-edits}
 use Rattle.timetable.specs.Formats.{accepted, Placed}
 use Rattle.timetable.specs.Machine.{after}
-use Rattle.timetable.specs.Outputs.{output, output-after}
+use Rattle.timetable.specs.Outputs.{written, output, output-after}
 use Rattle.theory.specs.Reordering.{along}
 use Rattle.sheet.specs.Sheets.{encode-sheet, decode-sheet, sheet-at, area-part, divided, merged}
 use Rattle.sheet.proofs.SheetLaws.{merged-divided, merged-size, merged-good, divided-merged, divided-size}
@@ -23,8 +23,7 @@ use Rattle.machine.specs.Calls.{sheet-after, division-answer, division-after}
 use Rattle.machine.proofs.ByteEdits.{whole-of, sheet-of}
 use Rattle.machine.proofs.ListEdits.{GoodSheet, sheets-kept}
 use Rattle.machine.proofs.CentralEdits.{central-run, central-answers}
-use Rattle.machine.specs.Lists.{answers-of, division-of, as-run, told-run, division-left, answers-left, run-answer, run-division, run-answers}
-use Rattle.machine.specs.declared.list.Run.{Run}
+use Rattle.machine.specs.Lists.{answers-of, division-of, told-run, division-left, answers-left, run-answer, run-division, run-answers}
 use Rattle.machine.proofs.RunLaws.{answers-length}
 use Rattle.demands.specs.Types.{Edit, Network}
 use Rattle.demands.specs.Demand.{Demand3}
@@ -71,13 +70,13 @@ demand-from-division n good division size fine es ps R = (
 accepted-ran : (n : Network) (division : List ℕ) → length division ≡ 49152 → (file : List ℕ) (x : Placed (List Edit)) (next : ℕ) → read-edits file ≡ accepted x next
     → (out : List ℕ) → 2 * length (x .entry) ≤ length out
     → Ran n file division out (x .entry) (run (division-after n) (x .entry) division) (answers (division-after n) (division-answer n) (x .entry) division)
-unfolding run-answer run-division run-answers told-run division-left answers-left answers-of division-of as-run output output-after
+unfolding run-answer run-division run-answers told-run division-left answers-left answers-of division-of output output-after
 accepted-ran n division size file x next e out room =
     let fits : eqb (length division) 49152 ≡ true = eq-eqb (length division) 49152 size in
     let many : length (answers-of n (x .entry) division) ≡ 2 * length (x .entry) = answers-length n (x .entry) division in
     let fit : leb (length (answers-of n (x .entry) division)) (length out) ≡ true = le-leb (length (answers-of n (x .entry) division)) (length out) (omega (arith, many, room)) in
     record {
-      told = rw (fits, e, fit) (ap Run.Answered many);
+      told = rw (fits, e, fit) (ap written many);
       left = rw (fits, e, fit);
       answered = rw (fits, e, fit);
     }

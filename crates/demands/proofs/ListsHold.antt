@@ -19,14 +19,14 @@ use Rattle.timetable.specs.Groups.{gather}
 use Rattle.timetable.specs.Good.{Whole, table-good}
 use Rattle.timetable.specs.Findings.{Spanning, spanning, picked, findings, inside, group-findings, between, pair-findings, numbers, numbers-of, pair-list}
 use Rattle.timetable.proofs.RefusalLaws.{call-passed}
-use Rattle.timetable.specs.Outputs.{output, output-after}
+use Rattle.timetable.specs.Outputs.{refused, output, output-after}
 use Rattle.theory.proofs.Rising.{findings-rise}
 use Rattle.sheet.specs.Sheets.{decode-sheet, good-sheet}
 use Rattle.machine.proofs.ByteEdits.{whole-of}
 use Rattle.findings.specs.Lists.{sheet-list, area-list, two-parts, two-list, list-early, good-part, two-areas, sheet-list-refusal, area-list-refusal, two-list-refusal}
 use Rattle.findings.proofs.ListCalls.{early-fine}
 use Rattle.findings.proofs.TurnLaws.{two-list-turned, two-refusal-turned}
-use Rattle.demands.specs.Types.{Station, Area, Network, Finding, Output}
+use Rattle.demands.specs.Types.{Station, Area, Network, Finding}
 use Rattle.demands.specs.Lists.{Rises, ListsRise, PairsAreUnordered}
 use Rattle.demands.proofs.AllLists.{numbers-back}
 use Rattle.demands.proofs.Gathered.{own-good, part-whole, gather-whole}
@@ -108,7 +108,7 @@ read-where-formed : (k k′ : ℕ) (l l′ out : List ℕ) → k ≡ k′ → (k
 unfolding output output-after
 read-where-formed k k′ l l′ out q h = by-value (eqb k 0)
     (λ z. let same : l ≡ l′ = h (eqb-true k 0 z) in (ap₂ (λ (i : ℕ) (x : List ℕ). output i x out) q same, ap₂ (λ (i : ℕ) (x : List ℕ). output-after i x out) q same))
-    (λ z. let z′ : eqb k′ 0 ≡ false = ap (λ (i : ℕ). eqb i 0) (sym q) ∙ z in (rw (z, z′) (ap Output.Refused q), rw (z, z′)))
+    (λ z. let z′ : eqb k′ 0 ≡ false = ap (λ (i : ℕ). eqb i 0) (sym q) ∙ z in (rw (z, z′) (ap refused q), rw (z, z′)))
 
 -- a list is formed of two areas that differ
 formed-differ : (n : Network) (first second : List ℕ) (a b : Area) → two-list-refusal n first second a b ≡ 0 → ¬ (a .0 ≡ b .0)

@@ -20,7 +20,7 @@ use Rattle.timetable.specs.Formats.{Outcome, accepted, refused, Placed, bytes-o
 use Rattle.timetable.specs.InspectFile.{Inspection}
 use Rattle.timetable.specs.Machine.{Timetable, meaning}
 use Rattle.timetable.specs.NetworkFile.{network-numbers}
-use Rattle.timetable.specs.Outputs.{number, output, output-after}
+use Rattle.timetable.specs.Outputs.{output, output-after}
 use Rattle.timetable.proofs.RefusalLaws.{call-passed}
 use Rattle.actions.specs.Early.{early-refusal}
 use Rattle.actions.specs.between.Shapes.{shape-of}
@@ -40,8 +40,7 @@ use Rattle.timetable_writing.specs.Writing.{timetable-bytes, write-timetable, t
 use Rattle.timetable_files.specs.Calls as sheetfile
 use Rattle.timetable_files.specs.Calls.{read-outcome, answer-of, read-answer, read-after}
 use Rattle.timetable_files.specs.Inspect.{inspect-outcome, inspect-read, inspect-sheet, inspect-answer, inspect-after}
-use Rattle.machine.specs.Lists as list
-use Rattle.machine.specs.Lists.{answers-of, as-run, told-run, division-left, answers-left, run-answer, run-division, run-answers}
+use Rattle.machine.specs.Lists.{answers-of, told-run, division-left, answers-left, run-answer, run-division, run-answers}
 use Rattle.projection.specs.Calls.{project-refusal, projected, project-answer, project-after}
 use Rattle.demands.specs.Types.{Edit, Network, Answer}
 use Rattle.demands.specs.Refusals.{Untouched, RefusalsLeaveAll}
@@ -115,8 +114,8 @@ edits-refused-none n (e ∷ es) division =
         (true-T (eqb (told .removed) 0) (eq-eqb (told .removed) 0 (division-refused n e division (eqb-false (told .refusal) 0 q) .none-removed))))
 
 -- what is written into a lent buffer: nothing where it is too short, nothing on a refusal
-output-refused : {X : Type 0} (k : ℕ) (xs buffer : List X) → ¬ (number (output k xs buffer) ≡ 0) → output-after k xs buffer ≡ buffer
-unfolding number output output-after
+output-refused : {X : Type 0} (k : ℕ) (xs buffer : List X) → ¬ (output k xs buffer .number ≡ 0) → output-after k xs buffer ≡ buffer
+unfolding output output-after
 output-refused k xs buffer z = by-value (eqb k 0)
     (λ b. by-value (leb (length xs) (length buffer))
     (λ c. absurd (z (rw (b, c))))
@@ -134,15 +133,15 @@ inspect-refused (accepted x next) sheet z = absurd (z refl)
 inspect-refused (refused k p) sheet z = refl
 
 -- a list of edits: refused by its file, or too little room for its answers
-list-refused : (n : Network) (division out : List ℕ) (o : Outcome (Placed (List Edit))) → ¬ (list.number (told-run n division out o) ≡ 0)
+list-refused : (n : Network) (division out : List ℕ) (o : Outcome (Placed (List Edit))) → ¬ (told-run n division out o .number ≡ 0)
     → (division-left n division out o ≡ division) × (answers-left n division out o ≡ out)
-unfolding list.number told-run division-left answers-left as-run output output-after
+unfolding told-run division-left answers-left output output-after
 list-refused n division out (accepted x next) z = by-value (leb (length (answers-of n (x .entry) division)) (length out))
     (λ c. absurd (z (rw c)))
     (λ c. (rw c, rw c))
 list-refused n division out (refused k p) z = (refl, refl)
 
-edits-refused : (n : Network) (file division out : List ℕ) → ¬ (list.number (run-answer n file division out) ≡ 0)
+edits-refused : (n : Network) (file division out : List ℕ) → ¬ (run-answer n file division out .number ≡ 0)
     → (run-division n file division out ≡ division) × (run-answers n file division out ≡ out)
 unfolding run-answer run-division run-answers
 edits-refused n file division out z = by-value (eqb (length division) 49152)

@@ -11,12 +11,12 @@ use Rattle.base.specs.Runs.{run, answers}
 use Rattle.network.specs.Networks.{network-refusal, listed, area-of}
 use Rattle.timetable.specs.EditsFile.{read-edits}
 use Rattle.timetable.specs.Formats.{accepted, Placed}
+use Rattle.timetable.specs.Outputs.{written}
 use Rattle.timetable.specs.Groups.{names-group}
 use Rattle.theory.specs.Reordering.{along, Reordering}
 use Rattle.sheet.specs.Sheets.{good-sheet, divided}
 use Rattle.machine.specs.Calls.{sheet-answer, sheet-after, division-answer, division-after}
 use Rattle.machine.specs.Lists.{answer-numbers, run-answer, run-division, run-answers}
-use Rattle.machine.specs.declared.list.Run.{Run}
 use Rattle.demands.specs.Types.{Edit, Network, Answer}
 
 -- the file is accepted, and holds these edits
@@ -29,7 +29,7 @@ with-answers as′ out = flatMap answer-numbers as′ ++ drop (length (flatMap a
 
 -- what the call answers, the division that it leaves and the answers that it writes
 pub record Ran (n : Network) (file division out : List ℕ) (es : List Edit) (later : List ℕ) (as′ : List Answer) : Type 0 where
-  pub told : run-answer n file division out ≡ Run.Answered (2 * length es)
+  pub told : run-answer n file division out ≡ written (2 * length es)
   pub left : run-division n file division out ≡ later
   pub answered : run-answers n file division out ≡ with-answers as′ out
 

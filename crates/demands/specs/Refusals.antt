@@ -13,7 +13,7 @@ use Rattle.base.specs.Lists.{every}
 use Rattle.base.specs.Runs.{answers}
 use Rattle.numbers.specs.Numbers.{width, with-number}
 use Rattle.timetable.specs.Count.{raise-refusal, raise}
-use Rattle.timetable.specs.Outputs.{number, output, output-after}
+use Rattle.timetable.specs.Outputs.{output, output-after}
 use Rattle.listings.specs.Shift.{refusal-text, shift-text}
 use Rattle.printing.specs.Parts.{input-answer, input-after, part-refusal, part-text, line-refusal}
 use Rattle.sheet.specs.Sheets.{divide-refusal, after-divide, merge-refusal, after-merge}
@@ -25,7 +25,6 @@ use Rattle.timetable_writing.specs.Writing.{write-timetable, timetable-written}
 use Rattle.timetable_files.specs.Calls as sheetfile
 use Rattle.timetable_files.specs.Calls.{read-answer, read-after}
 use Rattle.timetable_files.specs.Inspect.{inspect-answer, inspect-after}
-use Rattle.machine.specs.Lists as list
 use Rattle.machine.specs.Lists.{run-answer, run-division, run-answers}
 use Rattle.projection.specs.Calls.{project-answer, project-after}
 use Rattle.demands.specs.Types.{Station, Train, Minute, Area, Edit, Network, Answer, Tally}
@@ -49,34 +48,34 @@ pub record RefusalsLeaveAll : Type 0 where
   pub divides : (n : Network) (sheet division : List ℕ) → ¬ (divide-refusal n sheet division ≡ 0) → after-divide n sheet division ≡ division
   pub merges : (n : Network) (division sheet : List ℕ) → ¬ (merge-refusal n division sheet ≡ 0) → after-merge n division sheet ≡ sheet
   -- the lists of findings, 13 too
-  pub sheet-findings : (n : Network) (sheet out : List ℕ) → ¬ (number (output (sheet-list-refusal n sheet) (sheet-list n sheet) out) ≡ 0)
+  pub sheet-findings : (n : Network) (sheet out : List ℕ) → ¬ (output (sheet-list-refusal n sheet) (sheet-list n sheet) out .number ≡ 0)
       → output-after (sheet-list-refusal n sheet) (sheet-list n sheet) out ≡ out
-  pub area-findings : (n : Network) (sheet : List ℕ) (a : Area) (out : List ℕ) → ¬ (number (output (area-list-refusal n sheet a) (area-list n sheet a) out) ≡ 0)
+  pub area-findings : (n : Network) (sheet : List ℕ) (a : Area) (out : List ℕ) → ¬ (output (area-list-refusal n sheet a) (area-list n sheet a) out .number ≡ 0)
       → output-after (area-list-refusal n sheet a) (area-list n sheet a) out ≡ out
   pub pair-findings : (n : Network) (first second : List ℕ) (a b : Area) (out : List ℕ)
-      → ¬ (number (output (two-list-refusal n first second a b) (two-list n first second a b) out) ≡ 0)
+      → ¬ (output (two-list-refusal n first second a b) (two-list n first second a b) out .number ≡ 0)
       → output-after (two-list-refusal n first second a b) (two-list n first second a b) out ≡ out
   -- files, 13 too
   pub timetable-reading : (n : Network) (file sheet : List ℕ) → ¬ (sheetfile.number (read-answer n file sheet) ≡ 0) → read-after n file sheet ≡ sheet
   pub inspect-reading : (file sheet : List ℕ) → ¬ (inspect-answer file sheet .refusal ≡ 0) → inspect-after file sheet ≡ sheet
-  pub timetable-writing : (n : Network) (sheet buffer : List ℕ) → ¬ (number (write-timetable n sheet buffer) ≡ 0) → timetable-written n sheet buffer ≡ buffer
-  pub network-writing : (n : Network) (buffer : List ℕ) → ¬ (number (write-network n buffer) ≡ 0) → network-written n buffer ≡ buffer
-  pub edit-writing : (e : Edit) (buffer : List ℕ) → ¬ (number (write-edit e buffer) ≡ 0) → edit-written e buffer ≡ buffer
-  pub edits-writing : (file buffer : List ℕ) → ¬ (number (write-edits file buffer) ≡ 0) → edits-written file buffer ≡ buffer
+  pub timetable-writing : (n : Network) (sheet buffer : List ℕ) → ¬ (write-timetable n sheet buffer .number ≡ 0) → timetable-written n sheet buffer ≡ buffer
+  pub network-writing : (n : Network) (buffer : List ℕ) → ¬ (write-network n buffer .number ≡ 0) → network-written n buffer ≡ buffer
+  pub edit-writing : (e : Edit) (buffer : List ℕ) → ¬ (write-edit e buffer .number ≡ 0) → edit-written e buffer ≡ buffer
+  pub edits-writing : (file buffer : List ℕ) → ¬ (write-edits file buffer .number ≡ 0) → edits-written file buffer ≡ buffer
   -- a number, which answers how many bytes it takes
   pub number-writing : (k : ℕ) (buffer : List ℕ) → length buffer < width k → with-number k buffer ≡ buffer
   -- a list of edits from a file: the division and the buffer for the answers
-  pub edits-run : (n : Network) (file division out : List ℕ) → ¬ (list.number (run-answer n file division out) ≡ 0)
+  pub edits-run : (n : Network) (file division out : List ℕ) → ¬ (run-answer n file division out .number ≡ 0)
       → (run-division n file division out ≡ division) × (run-answers n file division out ≡ out)
   -- a projection, and the tally
-  pub projecting : (n : Network) (s : Station) (t : Train) (a : Minute) (sheet : List ℕ) (buffer : List ℤ) → ¬ (number (project-answer n s t a sheet buffer) ≡ 0)
+  pub projecting : (n : Network) (s : Station) (t : Train) (a : Minute) (sheet : List ℕ) (buffer : List ℤ) → ¬ (project-answer n s t a sheet buffer .number ≡ 0)
       → project-after n s t a sheet buffer ≡ buffer
   pub raising : (y : Tally) (e : Edit) (a : Answer) → ¬ (raise-refusal y a ≡ 0) → raise y e a ≡ y
   -- what the programs print: 13
-  pub shift-printing : (input out : List ℕ) → ¬ (number (output 0 (shift-text input) out) ≡ 0) → output-after 0 (shift-text input) out ≡ out
-  pub refusal-printing : (k place : ℕ) (out : List ℕ) → ¬ (number (output (line-refusal place) (refusal-text k place) out) ≡ 0)
+  pub shift-printing : (input out : List ℕ) → ¬ (output 0 (shift-text input) out .number ≡ 0) → output-after 0 (shift-text input) out ≡ out
+  pub refusal-printing : (k place : ℕ) (out : List ℕ) → ¬ (output (line-refusal place) (refusal-text k place) out .number ≡ 0)
       → output-after (line-refusal place) (refusal-text k place) out ≡ out
   pub inspect-printing : (n : Network) (sheet bytes : List ℕ) (k : ℕ) (out : List ℕ)
-      → ¬ (number (output (part-refusal n sheet bytes) (part-text n sheet bytes k) out) ≡ 0)
+      → ¬ (output (part-refusal n sheet bytes) (part-text n sheet bytes k) out .number ≡ 0)
       → output-after (part-refusal n sheet bytes) (part-text n sheet bytes k) out ≡ out
   pub input-reading : (input sheet : List ℕ) → ¬ (input-answer input sheet .refusal ≡ 0) → input-after input sheet ≡ sheet

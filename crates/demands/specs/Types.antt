@@ -8,4 +8,3 @@ pub use Rattle.network.specs.declared.Network.{Network}
 pub use Rattle.timetable.specs.declared.Answer.{Answer}
 pub use Rattle.timetable.specs.declared.Finding.{Finding}
 pub use Rattle.timetable.specs.declared.Tally.{Tally}
-pub use Rattle.timetable.specs.declared.Output.{Output}

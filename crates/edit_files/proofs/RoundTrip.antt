@@ -7,6 +7,7 @@ use lib.ListN.{length, drop}
 use Rattle.railway.specs.declared.edit.Edit.{Edit}
 use Rattle.timetable.specs.Formats.{accepted, number, value-or, bytes-of, Placed}
 use Rattle.timetable.specs.EditsFile.{read-edits, edits-numbers}
+use Rattle.timetable.specs.Outputs.{reply}
 use Rattle.timetable.proofs.PutLaws.{put-whole, fits-in}
 use Rattle.roundtrips.proofs.EditTrips.{edits-trip}
 use Rattle.edit_files.specs.Answers.{no-edits}
@@ -14,7 +15,7 @@ use Rattle.edit_files.specs.Writing.{edits-bytes, write-edits, edits-wri
 use Rattle.edit_files.specs.RoundTrip.{EditsComeBack}
 
 pub edits-come-back : EditsComeBack
-unfolding write-edits edits-written edits-bytes number value-or
+unfolding write-edits edits-written edits-bytes number value-or reply
 edits-come-back file buffer es next b e h =
     let same : bytes-of (edits-numbers (es .entry)) ≡ file = sym (edits-trip .only file es next b e .file-is) in
     let x = fits-in file buffer (length file) refl h in

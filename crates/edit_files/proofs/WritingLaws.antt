@@ -15,7 +15,7 @@ use Rattle.timetable.specs.declared.Output.{Output}
 use Rattle.timetable.specs.Machine.{edit-refusal}
 use Rattle.timetable.specs.Formats.{Outcome, accepted, refused, number, place-of, value-or, field-at, read, ended, read-file, entries, bytes-of, Placed, placed}
 use Rattle.timetable.specs.EditsFile.{edit-numbers, edits-on, edits-format, read-edits, edits-numbers}
-use Rattle.timetable.specs.Outputs.{put}
+use Rattle.timetable.specs.Outputs.{reply, put}
 use Rattle.timetable.proofs.PutLaws.{put-two, refused-so, too-short, fits-in}
 use Rattle.timetable.proofs.OutcomeLaws.{clash, behind-taken}
 use Rattle.fields.proofs.EntryLaws.{placed-read}
@@ -26,16 +26,16 @@ use Rattle.edit_files.specs.Writing.{write-edit, edit-written, edits-byt
 use Rattle.edit_files.proofs.ListLaws.{edits-many}
 
 module _ (e : Edit) (out : List ℕ) where
-  pub edit-bad : edit-ok e ≡ false → (Output.Refused 3 ≡ write-edit e out) × (out ≡ edit-written e out)
+  pub edit-bad : edit-ok e ≡ false → (reply (Output.Refused 3) ≡ write-edit e out) × (out ≡ edit-written e out)
   unfolding write-edit edit-written edit-refusal
   edit-bad f = rw f (refused-so (bytes-of (edit-numbers e)) out 3 (λ z. omega arith))
 
   module _ (ok : edit-ok e ≡ true) (k : ℕ) (needed : k ≡ length (bytes-of (edit-numbers e))) where
-    pub edit-short : length out < k → (Output.TooShort k ≡ write-edit e out) × (out ≡ edit-written e out)
+    pub edit-short : length out < k → (reply (Output.TooShort k) ≡ write-edit e out) × (out ≡ edit-written e out)
     unfolding write-edit edit-written edit-refusal
     edit-short h = rw ok (too-short (bytes-of (edit-numbers e)) out k needed h)
 
-    pub edit-fits : k ≤ length out → (Output.Written k ≡ write-edit e out) × (put 0 (bytes-of (edit-numbers e)) out ≡ edit-written e out)
+    pub edit-fits : k ≤ length out → (reply (Output.Written k) ≡ write-edit e out) × (put 0 (bytes-of (edit-numbers e)) out ≡ edit-written e out)
     unfolding write-edit edit-written edit-refusal
     edit-fits h = rw ok (fits-in (bytes-of (edit-numbers e)) out k needed h)
 
@@ -121,16 +121,16 @@ module _ (file out : List ℕ) (r : EditsRead) (e : r ≡ edits-answer (read-edi
   unfolding edits-answer
   refusal-is = ap (λ (r : EditsRead). r .refusal) e
 
-  pub list-refused : ¬ (r .refusal ≡ 0) → (Output.Refused (r .refusal) ≡ write-edits file out) × (out ≡ edits-written file out)
+  pub list-refused : ¬ (r .refusal ≡ 0) → (reply (Output.Refused (r .refusal)) ≡ write-edits file out) × (out ≡ edits-written file out)
   unfolding write-edits edits-written
   list-refused z = rw (← refusal-is) (refused-so (edits-bytes file) out (r .refusal) z)
 
   module _ (good : r .refusal ≡ 0) (k : ℕ) (needed : k ≡ length (bytes-of (r .count ∷ flatMap edit-numbers held))) where
-    pub list-short : length out < k → (Output.TooShort k ≡ write-edits file out) × (out ≡ edits-written file out)
+    pub list-short : length out < k → (reply (Output.TooShort k) ≡ write-edits file out) × (out ≡ edits-written file out)
     unfolding write-edits edits-written
     list-short h = rw (sym refusal-is ∙ good) (too-short (edits-bytes file) out k (needed ∙ ap length list-is) h)
 
     pub list-fits : k ≤ length out
-        → (Output.Written k ≡ write-edits file out) × (put 0 (bytes-of (r .count ∷ flatMap edit-numbers held)) out ≡ edits-written file out)
+        → (reply (Output.Written k) ≡ write-edits file out) × (put 0 (bytes-of (r .count ∷ flatMap edit-numbers held)) out ≡ edits-written file out)
     unfolding write-edits edits-written
     list-fits h = rw (sym refusal-is ∙ good, list-is) (fits-in (edits-bytes file) out k (needed ∙ ap length list-is) h)

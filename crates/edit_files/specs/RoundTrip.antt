@@ -4,7 +4,7 @@ use mathlib.Core.Path.{_≡_}
 use mathlib.Core.List.{List, _++_}
 use lib.ListN.{length, drop}
 use Rattle.railway.specs.declared.edit.Edit.{Edit}
-use Rattle.timetable.specs.declared.Output.{Output}
+use Rattle.timetable.specs.Outputs.{written}
 use Rattle.timetable.specs.Formats.{accepted, Placed}
 use Rattle.timetable.specs.EditsFile.{read-edits}
 use Rattle.roundtrips.specs.RoundTrips.{Bytes}
@@ -13,4 +13,4 @@ use Rattle.edit_files.specs.Writing.{write-edits, edits-written}
 abbrev pub EditsComeBack : Type 0
 EditsComeBack =
     (file buffer : List ℕ) (es : Placed (List Edit)) (next : ℕ) → Bytes file → read-edits file ≡ accepted es next → length file ≤ length buffer
-    → (write-edits file buffer ≡ Output.Written (length file)) × (edits-written file buffer ≡ file ++ drop (length file) buffer)
+    → (write-edits file buffer ≡ written (length file)) × (edits-written file buffer ≡ file ++ drop (length file) buffer)

@@ -5,15 +5,14 @@ use mathlib.Core.Path.{_≡_}
 use mathlib.Core.List.{List}
 use lib.ListN.{length}
 use Rattle.railway.specs.declared.edit.Edit.{Edit}
-use Rattle.timetable.specs.declared.Output.{Output}
 use Rattle.timetable.specs.Machine.{edit-refusal}
 use Rattle.timetable.specs.Formats.{accepted, number, value-or, read, bytes-of}
 use Rattle.timetable.specs.EditsFile.{edit-numbers, edits-on, read-edits, edits-numbers}
-use Rattle.timetable.specs.Outputs.{output, output-after, put}
+use Rattle.timetable.specs.Outputs.{Reply, output, output-after, put}
 use Rattle.edit_files.specs.Answers.{no-edits}
 
 -- 3, 13
-unfoldable pub write-edit : Edit → List ℕ → Output
+unfoldable pub write-edit : Edit → List ℕ → Reply
 write-edit e buffer = output (edit-refusal e) (bytes-of (edit-numbers e)) buffer
 
 unfoldable pub edit-written : Edit → List ℕ → List ℕ
@@ -24,7 +23,7 @@ edit-written e buffer = output-after (edit-refusal e) (bytes-of (edit-numbers e)
 unfoldable pub edits-bytes : List ℕ → List ℕ
 edits-bytes file = bytes-of (edits-numbers (value-or no-edits (read-edits file) .entry))
 
-unfoldable pub write-edits : List ℕ → List ℕ → Output
+unfoldable pub write-edits : List ℕ → List ℕ → Reply
 write-edits file buffer = output (number (read-edits file)) (edits-bytes file) buffer
 
 unfoldable pub edits-written : List ℕ → List ℕ → List ℕ

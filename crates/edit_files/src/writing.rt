@@ -1,6 +1,7 @@
 // Edits written: one, or a whole file, which is their count and then the edits, one behind the other.
 ghost use mathlib.Core.Path.{_≡_};
 ghost use Prim.Native.Nat.{_≤_};
+ghost use Rattle.timetable.specs.Outputs.{reply};
 ghost use Rattle.timetable.specs.EditsFile.{plan-numbers, extension-numbers, deletion-numbers, report-numbers, edit-numbers};
 ghost use Rattle.fields.specs.between.Answers.{in-use};
 ghost use Rattle.edit_files.specs.Writing.{write-edit, edit-written, write-edits, edits-written, PutsList};
@@ -143,7 +144,7 @@ fn edit_row(e: Edit) -> Numbers
 
 // 3 for an edit whose values are out of range, 13.
 pub fn write_edit(e: Edit, out: &mut [u8]) -> Output
-    ensures { λ r. ⌜ (r ≡ write-edit e (now (out .entry))) × (now (out .exit) ≡ edit-written e (now (out .entry))) ⌝ }
+    ensures { λ r. ⌜ (reply r ≡ write-edit e (now (out .entry))) × (now (out .exit) ≡ edit-written e (now (out .entry))) ⌝ }
 {
     if e.valid() {
         let row = edit_row(e);
@@ -192,7 +193,7 @@ fn put_list(out: &mut [u8], file: &[u8], first: usize, count: u16) -> usize
 
 // The list of edits that a file holds, lent as that file: what the file is refused with, 13.
 pub fn write_edits(file: &[u8], out: &mut [u8]) -> Output
-    ensures { λ r. ⌜ (r ≡ write-edits (now (file .entry)) (now (out .entry))) × (now (out .exit) ≡ edits-written (now (file .entry)) (now (out .entry))) ⌝ }
+    ensures { λ r. ⌜ (reply r ≡ write-edits (now (file .entry)) (now (out .entry))) × (now (out .exit) ≡ edits-written (now (file .entry)) (now (out .entry))) ⌝ }
 {
     let list = read_edits(file);
     if list.refusal == 0 {

@@ -14,7 +14,7 @@ use Rattle.timetable.specs.Tables.{empty}
 use Rattle.timetable.specs.Groups.{Divided, in-group}
 use Rattle.timetable.specs.Findings.{numbers-of, findings, group-findings, pair-list}
 use Rattle.timetable.specs.Refusals.{early, call-refusal}
-use Rattle.timetable.specs.Outputs.{output, output-after}
+use Rattle.timetable.specs.Outputs.{reply, output, output-after}
 use Rattle.sheet.specs.Sheets.{decode-sheet, good-sheet}
 use Rattle.findings.specs.Types.{Station, Area, Network, Output}
 
@@ -37,7 +37,7 @@ two-list n first second a b = numbers-of (pair-list n (area-of n) (two-parts fir
 
 -- a call refused with k, or with 0 and these numbers to write, answers r and leaves the buffer as `after`
 abbrev pub Answers : ℕ → List ℕ → List ℕ → Output → List ℕ → Type 0
-Answers k xs buffer r after = (r ≡ output k xs buffer) × (after ≡ output-after k xs buffer)
+Answers k xs buffer r after = (reply r ≡ output k xs buffer) × (after ≡ output-after k xs buffer)
 
 -- what refuses them: "Order: 5, 3, 4, 7, 6"; 13 is in timetable/specs/Outputs.antt
 

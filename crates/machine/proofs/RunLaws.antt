@@ -12,6 +12,7 @@ use Rattle.base.specs.Choice.{if_then_else_}
 use Rattle.base.specs.Runs.{run, answers}
 use Rattle.timetable.specs.Formats.{Format, Outcome, accepted, refused, field-at, behind, read, read-file, ended, Placed, placed, number, place-of, value-or}
 use Rattle.timetable.specs.EditsFile.{edit-entry, edits-on, edits-format, read-edits}
+use Rattle.timetable.specs.Outputs as outputs
 use Rattle.timetable.specs.Outputs.{output, output-after, put}
 use Rattle.timetable.proofs.PutLaws.{too-short, fits-in}
 use Rattle.machine.specs.Calls.{division-answer, division-after}
@@ -19,8 +20,8 @@ use Rattle.edit_files.specs.Answers.{edits-answer}
 use Rattle.timetable.proofs.OutcomeLaws.{clash, behind-taken}
 use Rattle.fields.proofs.EntryLaws.{field-bounded}
 use Rattle.fields.proofs.EntryLaws.{placed-read, entries-many}
-use Rattle.machine.specs.Types.{Edit, Network, Answer, Output, Run, EditsRead}
-use Rattle.machine.specs.Lists.{answer-numbers, answers-of, division-of, as-run, told-run, division-left, answers-left, run-answer, run-division, run-answers}
+use Rattle.machine.specs.Types.{Edit, Network, Answer, Run, EditsRead}
+use Rattle.machine.specs.Lists.{answer-numbers, answers-of, division-of, reply, told-run, division-left, answers-left, run-answer, run-division, run-answers}
 use Rattle.machine.specs.between.Taken.{is-accepted, taken, edits-at, can-be-read}
 use Rattle.machine.proofs.FileRefusals.{edits-told}
 
@@ -81,19 +82,19 @@ held file r q z = held-by file r (read-edits file) refl q z
 -- the call, case by case
 module _ (n : Network) (file division out : List ℕ) where
   abbrev Ends : Run → List ℕ → List ℕ → Type 0
-  Ends r d o = (r ≡ run-answer n file division out) × (d ≡ run-division n file division out) × (o ≡ run-answers n file division out)
+  Ends r d o = (reply r ≡ run-answer n file division out) × (d ≡ run-division n file division out) × (o ≡ run-answers n file division out)
 
   pub wrong-length : ¬ (length division ≡ 49152) → Ends (Run.Refused 5 0) division out
-  unfolding run-answer run-division run-answers
+  unfolding run-answer run-division run-answers reply
   wrong-length h = let f = ne-eqb (length division) 49152 h in (sym (rw f), sym (rw f), sym (rw f))
 
   module _ (size : length division ≡ 49152) where
     pub file-refused : (r : EditsRead) → r ≡ edits-answer (read-edits file) → ¬ (r .refusal ≡ 0) → Ends (Run.Refused (r .refusal) (r .place)) division out
-    unfolding run-answer run-division run-answers told-run division-left answers-left edits-answer number place-of value-or
+    unfolding run-answer run-division run-answers reply told-run division-left answers-left edits-answer number place-of value-or
     file-refused r q z = rw (eq-eqb (length division) 49152 size) (go (read-edits file) q)
       where
         go : (o : Outcome (Placed (List Edit))) → r ≡ edits-answer o
-            → (Run.Refused (r .refusal) (r .place) ≡ told-run n division out o) × (division ≡ division-left n division out o) × (out ≡ answers-left n division out o)
+            → (reply (Run.Refused (r .refusal) (r .place)) ≡ told-run n division out o) × (division ≡ division-left n division out o) × (out ≡ answers-left n division out o)
         go (accepted x next) e = absurd (z (rw e))
         go (refused k p) e = (rw e, refl, refl)
 
@@ -102,21 +103,21 @@ module _ (n : Network) (file division out : List ℕ) where
       es = h .edits .entry
 
       pub list-short : length out < 2 * r .count → Ends (Run.TooShort (2 * r .count)) division out
-      unfolding run-answer run-division run-answers as-run told-run division-left answers-left
+      unfolding run-answer run-division run-answers reply outputs.reply told-run division-left answers-left
       list-short s =
           let many : 2 * r .count ≡ length (answers-of n es division) = omega (arith, answers-length n es division, h .many) in
           let x = too-short (answers-of n es division) out (2 * r .count) many s in
           rw (eq-eqb (length division) 49152 size, h .outcome)
-          (ap as-run (x .0), sym (rw (lt-leb (length (answers-of n es division)) (length out) (omega (arith, many, s)))), x .1)
+          (x .0, sym (rw (lt-leb (length (answers-of n es division)) (length out) (omega (arith, many, s)))), x .1)
 
       pub list-run : (d o : List ℕ) → 2 * r .count ≤ length out → d ≡ division-of n (edits-at (r .count) file (r .first)) division
           → o ≡ put 0 (answers-of n (edits-at (r .count) file (r .first)) division) out → Ends (Run.Answered (2 * r .count)) d o
-      unfolding run-answer run-division run-answers as-run told-run division-left answers-left
+      unfolding run-answer run-division run-answers reply outputs.reply told-run division-left answers-left
       list-run d o s p q =
           let many : 2 * r .count ≡ length (answers-of n es division) = omega (arith, answers-length n es division, h .many) in
           let x = fits-in (answers-of n es division) out (2 * r .count) many s in
           rw (eq-eqb (length division) 49152 size, h .outcome) (
-            ap as-run (x .0),
+            x .0,
             p ∙ ap (λ (l : List Edit). division-of n l division) (h .are) ∙ sym (rw (le-leb (length (answers-of n es division)) (length out) (omega (arith, many, s)))),
             q ∙ ap (λ (l : List Edit). put 0 (answers-of n l division) out) (h .are) ∙ x .1,
           )

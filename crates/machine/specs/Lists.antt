@@ -5,6 +5,7 @@ use Prim.Native.Nat.{ℕ}
 use mathlib.Core.Path.{_≡_}
 use mathlib.Core.Bool.{Bool, true, _&&_}
 use mathlib.Core.List.{List, [], _∷_, flatMap}
+use mathlib.Core.Option.{none, some}
 use lib.Dec.{leb, eqb}
 use lib.ListN.{length}
 use Rattle.base.specs.Choice.{if_then_else_}
@@ -12,10 +13,10 @@ use Rattle.base.specs.Runs.{run, answers}
 use Rattle.network.specs.Networks.{network-refusal}
 use Rattle.timetable.specs.Formats.{Outcome, accepted, refused, Placed}
 use Rattle.timetable.specs.EditsFile.{read-edits}
-use Rattle.timetable.specs.Outputs.{output, output-after, put}
+use Rattle.timetable.specs.Outputs.{Reply, written, needed, output, output-after, put}
 use Rattle.sheet.specs.between.Passes.{division-passes}
 use Rattle.machine.specs.Calls.{division-answer, division-after}
-use Rattle.machine.specs.Types.{Edit, Network, Answer, Output, Run}
+use Rattle.machine.specs.Types.{Edit, Network, Answer, Run}
 
 -- "An answer is a refusal number or 0, and the count of visits removed": two numbers an edit
 unfoldable pub answer-numbers : Answer → List ℕ
@@ -45,23 +46,21 @@ EditsKnown n e tested division a left =
 abbrev pub Runs : Network → List Edit → List ℕ → List ℕ → List ℕ → List ℕ → Type 0
 Runs n es division out left written = (left ≡ division-of n es division) × (written ≡ put 0 (answers-of n es division) out)
 
--- document 01's number of each case, 0 where the list was run
-unfoldable pub number : Run → ℕ
-number (Run.Answered k) = 0
-number (Run.Refused k p) = k
-number (Run.TooShort k) = 13
+-- refused with a number and its place
+abbrev pub refused-at : ℕ → ℕ → Reply
+refused-at k p = record { number = k; place = some p; size = none }
 
--- what is written, or 13 with the needed length
-unfoldable pub as-run : Output → Run
-as-run (Output.Written k) = Run.Answered k
-as-run (Output.Refused k) = Run.Refused k 0
-as-run (Output.TooShort k) = Run.TooShort k
+-- "When an answer is an enum, a definition gives this paper's number and values for each case of that enum."
+unfoldable pub reply : Run → Reply
+reply (Run.Answered k) = written k
+reply (Run.Refused k p) = refused-at k p
+reply (Run.TooShort k) = needed k
 
 -- 5; then the file's refusal with its place; then 13
 module _ (n : Network) (division out : List ℕ) where
-  unfoldable pub told-run : Outcome (Placed (List Edit)) → Run
-  told-run (accepted x next) = as-run (output 0 (answers-of n (x .entry) division) out)
-  told-run (refused k p) = Run.Refused k p
+  unfoldable pub told-run : Outcome (Placed (List Edit)) → Reply
+  told-run (accepted x next) = output 0 (answers-of n (x .entry) division) out
+  told-run (refused k p) = refused-at k p
 
   unfoldable pub division-left : Outcome (Placed (List Edit)) → List ℕ
   division-left (accepted x next) = if leb (length (answers-of n (x .entry) division)) (length out) then division-of n (x .entry) division else division
@@ -73,8 +72,8 @@ module _ (n : Network) (division out : List ℕ) where
 
 -- the call
 module _ (n : Network) (file division out : List ℕ) where
-  unfoldable pub run-answer : Run
-  run-answer = if eqb (length division) 49152 then told-run n division out (read-edits file) else Run.Refused 5 0
+  unfoldable pub run-answer : Reply
+  run-answer = if eqb (length division) 49152 then told-run n division out (read-edits file) else refused-at 5 0
 
   unfoldable pub run-division : List ℕ
   run-division = if eqb (length division) 49152 then division-left n division out (read-edits file) else division
@@ -84,9 +83,9 @@ module _ (n : Network) (file division out : List ℕ) where
 
   -- as its contract says it
   abbrev pub RunsFile : Run → List ℕ → List ℕ → Type 0
-  RunsFile r left written = (r ≡ run-answer) × (left ≡ run-division) × (written ≡ run-answers)
+  RunsFile r left written = (reply r ≡ run-answer) × (left ≡ run-division) × (written ≡ run-answers)
 
 -- The key ring of this module: `unfolding opened` opens every definition above.
 unfoldable pub opened : Unit {0}
-unfolding answer-numbers answers-of division-of known-good number as-run told-run division-left answers-left run-answer run-division run-answers
+unfolding answer-numbers answers-of division-of known-good reply told-run division-left answers-left run-answer run-division run-answers
 opened = tt

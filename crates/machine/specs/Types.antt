@@ -6,7 +6,6 @@ pub use Rattle.railway.specs.declared.edit.Edit.{Edit}
 pub use Rattle.railway.specs.declared.edit.Edit.the-variants.{Place, Prepend, Append, DeleteFirst, DeleteLast, Amend, ReportArrival, ReportDeparture, AddRelation, RemoveRelation, DeleteTrain}
 pub use Rattle.network.specs.declared.Network.{Network}
 pub use Rattle.timetable.specs.declared.Answer.{Answer}
-pub use Rattle.timetable.specs.declared.Output.{Output}
 pub use Rattle.machine.specs.declared.list.Run.{Run}
 pub use Rattle.edit_files.specs.declared.edit.Cursor.{Cursor}
 pub use Rattle.edit_files.specs.declared.edit.NextEdit.{NextEdit}

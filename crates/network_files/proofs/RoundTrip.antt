@@ -7,13 +7,14 @@ use lib.ListN.{length, drop}
 use Rattle.network.specs.Networks.{network-refusal}
 use Rattle.timetable.specs.Formats.{bytes-of}
 use Rattle.timetable.specs.NetworkFile.{network-numbers}
+use Rattle.timetable.specs.Outputs.{reply}
 use Rattle.timetable.proofs.PutLaws.{put-whole, fits-in}
 use Rattle.roundtrips.proofs.NetworkTrips.{network-trip}
 use Rattle.network_files.specs.Writing.{write-network, network-written}
 use Rattle.network_files.specs.RoundTrip.{NetworkComesBack}
 
 pub network-comes-back : NetworkComesBack
-unfolding write-network network-written
+unfolding write-network network-written reply
 network-comes-back file buffer n next b e h =
     let read = network-trip .only file n next b e in
     let same : bytes-of (network-numbers n) ≡ file = sym (read .file-is) in

@@ -9,7 +9,7 @@ use Rattle.numbers.specs.Numbers.{write-number}
 use Rattle.network.specs.Networks.{station-rows, line-rows, network-refusal}
 use Rattle.timetable.specs.Formats.{bytes-of}
 use Rattle.timetable.specs.NetworkFile.{station-numbers, line-numbers, network-numbers}
-use Rattle.timetable.specs.Outputs.{put}
+use Rattle.timetable.specs.Outputs.{reply, put}
 use Rattle.timetable.proofs.PutLaws.{put-two, refused-so, too-short, fits-in}
 use Rattle.fields.proofs.PutLaws.{bytes-two}
 use Rattle.network.specs.declared.Network.{Network}
@@ -46,7 +46,7 @@ module _ (n : Network) (b b₁ b₂ b₃ b₄ b₅ : List ℕ) (p₁ p₂ p₃ p
 
 -- a network that is refused with k, 0 for a good one
 module _ (n : Network) (out : List ℕ) (k : ℕ) (e : k ≡ network-refusal n) where
-  pub network-bad : ¬ (k ≡ 0) → (Output.Refused k ≡ write-network n out) × (out ≡ network-written n out)
+  pub network-bad : ¬ (k ≡ 0) → (reply (Output.Refused k) ≡ write-network n out) × (out ≡ network-written n out)
   unfolding write-network network-written
   network-bad z = rw (sym e) (refused-so (bytes-of (network-numbers n)) out k z)
 
@@ -54,10 +54,10 @@ module _ (n : Network) (out : List ℕ) (k : ℕ) (e : k ≡ network-refusal n) 
     none : network-refusal n ≡ 0
     none = sym e ∙ good
 
-    pub network-short : length out < m → (Output.TooShort m ≡ write-network n out) × (out ≡ network-written n out)
+    pub network-short : length out < m → (reply (Output.TooShort m) ≡ write-network n out) × (out ≡ network-written n out)
     unfolding write-network network-written
     network-short h = rw none (too-short (bytes-of (network-numbers n)) out m needed h)
 
-    pub network-fits : m ≤ length out → (Output.Written m ≡ write-network n out) × (put 0 (bytes-of (network-numbers n)) out ≡ network-written n out)
+    pub network-fits : m ≤ length out → (reply (Output.Written m) ≡ write-network n out) × (put 0 (bytes-of (network-numbers n)) out ≡ network-written n out)
     unfolding write-network network-written
     network-fits h = rw none (fits-in (bytes-of (network-numbers n)) out m needed h)

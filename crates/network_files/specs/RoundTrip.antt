@@ -4,7 +4,7 @@ use mathlib.Core.Path.{_≡_}
 use mathlib.Core.List.{List, _++_}
 use lib.ListN.{length, drop}
 use Rattle.network.specs.declared.Network.{Network}
-use Rattle.timetable.specs.declared.Output.{Output}
+use Rattle.timetable.specs.Outputs.{written}
 use Rattle.timetable.specs.Formats.{accepted}
 use Rattle.timetable.specs.NetworkFile.{read-network}
 use Rattle.roundtrips.specs.RoundTrips.{Bytes}
@@ -13,4 +13,4 @@ use Rattle.network_files.specs.Writing.{write-network, network-written}
 abbrev pub NetworkComesBack : Type 0
 NetworkComesBack =
     (file buffer : List ℕ) (n : Network) (next : ℕ) → Bytes file → read-network file ≡ accepted n next → length file ≤ length buffer
-    → (write-network n buffer ≡ Output.Written (length file)) × (network-written n buffer ≡ file ++ drop (length file) buffer)
+    → (write-network n buffer ≡ written (length file)) × (network-written n buffer ≡ file ++ drop (length file) buffer)

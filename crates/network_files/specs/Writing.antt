@@ -4,13 +4,12 @@ use mathlib.Core.List.{List}
 use Prim.Native.Nat.{ℕ}
 use Rattle.network.specs.declared.Network.{Network}
 use Rattle.network.specs.Networks.{network-refusal}
-use Rattle.timetable.specs.declared.Output.{Output}
 use Rattle.timetable.specs.Formats.{bytes-of}
 use Rattle.timetable.specs.NetworkFile.{network-numbers}
-use Rattle.timetable.specs.Outputs.{output, output-after}
+use Rattle.timetable.specs.Outputs.{Reply, output, output-after}
 
 -- 3, 4, 13
-unfoldable pub write-network : Network → List ℕ → Output
+unfoldable pub write-network : Network → List ℕ → Reply
 write-network n buffer = output (network-refusal n) (bytes-of (network-numbers n)) buffer
 
 unfoldable pub network-written : Network → List ℕ → List ℕ

@@ -6,7 +6,7 @@ ghost use lib.ListN.{length};
 ghost use Rattle.network.specs.Networks.{station-rows, line-rows};
 ghost use Rattle.timetable.specs.Formats.{bytes-of};
 ghost use Rattle.timetable.specs.NetworkFile.{station-numbers, line-numbers, network-numbers};
-ghost use Rattle.timetable.specs.Outputs.{put};
+ghost use Rattle.timetable.specs.Outputs.{reply, put};
 ghost use Rattle.fields.specs.between.Putting.{Places};
 ghost use Rattle.network_files.specs.Writing.{write-network, network-written};
 use fields::field::Numbers;
@@ -110,7 +110,7 @@ fn put_network(out: &mut [u8], n: Network) -> usize
 
 // 3 and 4 for a network that is not good, 13.
 pub fn write_network(n: Network, out: &mut [u8]) -> Output
-    ensures { λ r. ⌜ (r ≡ write-network n (now (out .entry))) × (now (out .exit) ≡ network-written n (now (out .entry))) ⌝ }
+    ensures { λ r. ⌜ (reply r ≡ write-network n (now (out .entry))) × (now (out .exit) ≡ network-written n (now (out .entry))) ⌝ }
 {
     let refusal = n.refusal();
     if refusal == 0 {

@@ -12,7 +12,7 @@ use Rattle.base.specs.Choice.{if_then_else_, _if_else_}
 use Rattle.base.specs.Lists as Lists
 use Rattle.timetable.specs.Formats.{Outcome, accepted, refused, number, place-of, value-or}
 use Rattle.timetable.specs.Machine.{Timetable}
-use Rattle.timetable.specs.Outputs.{output, output-after}
+use Rattle.timetable.specs.Outputs.{reply, output, output-after}
 use Rattle.timetable.specs.InspectFile.{Inspection, read-inspect}
 use Rattle.timetable.proofs.PutLaws.{refused-so}
 use Rattle.roundtrips.specs.RoundTrips.{Bytes}
@@ -41,7 +41,7 @@ input-read input sheet later r h e f = rw (le-ltb 16384 (length input) h) (e, f)
 
 module _ (n : Network) (sheet bytes : List ℕ) where
   abbrev Answers : ℕ → List ℕ → List ℕ → Output → List ℕ → Type 0
-  Answers k xs b r later = (r ≡ output k xs b) × (later ≡ output-after k xs b)
+  Answers k xs b r later = (reply r ≡ output k xs b) × (later ≡ output-after k xs b)
 
   pub too-long-part : 16384 < length bytes → (xs b : List ℕ) → Answers (part-refusal n sheet bytes) xs b (Output.Refused 5) b
   unfolding part-refusal

@@ -21,6 +21,7 @@ use Rattle.timetable.specs.Machine.{Timetable}
 use Rattle.timetable.specs.Good.{visit-good, entry-good, visits-good, table-good}
 use Rattle.timetable.specs.Projection.{from-arrival, projection}
 use Rattle.timetable.specs.Visits.{arr}
+use Rattle.timetable.specs.Outputs.{reply}
 use Rattle.sheet.specs.Sheets.{decode-sheet}
 use Rattle.network.proofs.AreaLaws.{listed-ok}
 use Rattle.records.specs.Records.{decode-entry}
@@ -67,7 +68,7 @@ module _ (n : Network) (sheet : List ℕ) (fine : sheet-list-refusal n sheet ≡
     fits : length (projected s t a sheet) ≤ length b
     fits = omega (arith, few, room)
 
-    module _ (r : Output) (answered : r ≡ project-answer n s t a sheet b) where
+    module _ (r : Output) (answered : reply r ≡ project-answer n s t a sheet b) where
       pub rows-many : (k : ℕ) → r ≡ Output.Written k → k ≡ length (projected s t a sheet)
       unfolding project-answer
       rows-many k e = written-many (project-refusal n s t a sheet) (projected s t a sheet) b not-refused fits r answered k e

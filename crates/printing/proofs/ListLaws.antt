@@ -17,7 +17,7 @@ use Rattle.network.specs.Networks.{network-refusal, area-of}
 use Rattle.timetable.specs.Machine.{Timetable}
 use Rattle.timetable.specs.Groups.{divide}
 use Rattle.timetable.specs.Findings.{numbers-of, group-findings, pair-findings}
-use Rattle.timetable.specs.Outputs.{output, output-after}
+use Rattle.timetable.specs.Outputs.{reply, output, output-after}
 use Rattle.theory.proofs.Reach.{own-part, pair-part}
 use Rattle.sheet.specs.Sheets.{decode-sheet, sheet-at, divided, area-part, after-divide}
 use Rattle.sheet.proofs.SheetLaws.{area-number, divided-size, divided-reads}
@@ -84,7 +84,7 @@ module _ (n : Network) (sheet : List ℕ) (fine : sheet-list-refusal n sheet ≡
 
     -- the call on it: d is the division, `part` the area's sheet, r what the call answers
     module _ (z d part b : List ℕ) (long : length z ≡ 49152) (made : d ≡ after-divide n sheet z) (lent : part ≡ area-part d a) (room : length b ≡ list-most)
-        (r : Output) (answered : r ≡ output (area-list-refusal n part a) (area-list n part a) b) where
+        (r : Output) (answered : reply r ≡ output (area-list-refusal n part a) (area-list n part a) b) where
       own-sheet : part ≡ area-part (divided n sheet) a
       own-sheet = lent ∙ ap (λ (x : List ℕ). area-part x a) (made ∙ divided-there z long)
 
@@ -131,7 +131,7 @@ module _ (n : Network) (sheet : List ℕ) (fine : sheet-list-refusal n sheet ≡
 
     -- the call on them
     module _ (z d first second out : List ℕ) (long : length z ≡ 49152) (made : d ≡ after-divide n sheet z) (lent : first ≡ area-part d a) (other : second ≡ area-part d b)
-        (room : length out ≡ list-most) (r : Output) (answered : r ≡ output (two-list-refusal n first second a b) (two-list n first second a b) out) where
+        (room : length out ≡ list-most) (r : Output) (answered : reply r ≡ output (two-list-refusal n first second a b) (two-list n first second a b) out) where
       first-sheet : first ≡ area-part (divided n sheet) a
       first-sheet = lent ∙ ap (λ (x : List ℕ). area-part x a) (made ∙ divided-there z long)
 

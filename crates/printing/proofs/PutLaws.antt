@@ -2,15 +2,12 @@
 -- Assumes nothing.
 use Prim.Native.Nat.{ℕ, _+_, _≤_, _<_}
 use mathlib.Core.Path.{_≡_, refl, sym, _∙_, ap}
-use mathlib.Core.Bool.{Bool, true, false}
 use mathlib.Core.List.{List, [], _++_, flatMap, append-nil}
 use native.Mathlib.Omega.{arith}
-use lib.Dec.{eqb, leb}
 use lib.ListN.{length, getD, take, drop}
 use lib.Seq.{take-append-seam}
-use borrow.Author.Tests.{leb-true}
-use Rattle.base.specs.Choice.{if_then_else_}
-use Rattle.timetable.specs.Outputs.{output, output-after, put}
+use Rattle.timetable.specs.Outputs.{reply, output, output-after, put}
+use Rattle.timetable.proofs.ReplyLaws.{written-alone}
 use Rattle.timetable.proofs.PutLaws.{put-whole, put-two, too-short, fits-in, each-on, each-length, each-over}
 use Rattle.findings.specs.between.Builder.{Puts}
 use Rattle.printing.specs.Types.{Output}
@@ -56,9 +53,10 @@ module _ {X : Type 0} (refusal : ℕ) (xs b : List X) (none : refusal ≡ 0) (fi
   pub written-whole : take (length xs) (output-after refusal xs b) ≡ xs
   written-whole = rw none (ap (take (length xs)) (sym (fits-in xs b (length xs) refl fits .1) ∙ put-whole xs b fits) ∙ take-append-seam xs (drop (length xs) b))
 
-  module _ (r : Output) (answered : r ≡ output refusal xs b) where
+  module _ (r : Output) (answered : reply r ≡ output refusal xs b) where
     is-written : r ≡ Output.Written (length xs)
-    is-written = answered ∙ rw none (sym (fits-in xs b (length xs) refl fits .0))
+    unfolding reply
+    is-written = written-alone r (length xs) (answered ∙ rw none (sym (fits-in xs b (length xs) refl fits .0)))
 
     pub written-many : (k : ℕ) → r ≡ Output.Written k → k ≡ length xs
     written-many k e = let q : Output.Written k ≡ Output.Written (length xs) = sym e ∙ is-written in cc
@@ -72,7 +70,7 @@ module _ {X : Type 0} (refusal : ℕ) (xs b : List X) (none : refusal ≡ 0) (fi
 -- a call that puts a text into a buffer with room for any; or counts first, and then leaves the buffer or puts the text
 module _ (xs b : List ℕ) (most : ℕ) where
   abbrev Answers : Output → List ℕ → Type 0
-  Answers r later = (r ≡ output 0 xs b) × (later ≡ output-after 0 xs b)
+  Answers r later = (reply r ≡ output 0 xs b) × (later ≡ output-after 0 xs b)
 
   pub put-at-once : (r : ℕ) (later : List ℕ) → Puts 0 xs b r later most → most ≤ length b → Answers (Output.Written r) later
   put-at-once r later w h = let x = fits-in xs b r (omega (arith, w .0)) (omega (arith, w .2, h)) in (x .0, w .1 ∙ x .1)
@@ -84,14 +82,3 @@ module _ (xs b : List ℕ) (most : ℕ) where
 
     pub put-counted : (r : ℕ) (later : List ℕ) → needed ≤ length b → Puts 0 xs b r later most → Answers (Output.Written needed) later
     put-counted r later h w = let x = fits-in xs b needed (omega (arith, counted .0)) h in (x .0, w .1 ∙ x .1)
-
--- what is written is within the buffer
-pub written-fits : (refusal : ℕ) (xs b : List ℕ) (k : ℕ) → Output.Written k ≡ output refusal xs b → k ≤ length b
-unfolding output
-written-fits refusal xs b k e = go (eqb refusal 0) (leb (length xs) (length b)) refl e
-  where
-    go : (c d : Bool) → leb (length xs) (length b) ≡ d
-        → Output.Written k ≡ (if c then (if d then Output.Written (length xs) else Output.TooShort (length xs)) else Output.Refused refusal) → k ≤ length b
-    go true true l q = let s : k ≡ length xs = cc in omega (arith, s, leb-true (length xs) (length b) l)
-    go true false l q = let z : _≡_ {A = ℕ} 0 1 = cc in absurd (omega arith)
-    go false d l q = let z : _≡_ {A = ℕ} 0 1 = cc in absurd (omega arith)

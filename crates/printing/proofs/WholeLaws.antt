@@ -10,7 +10,7 @@ use lib.ListN.{length, getD, take, length-append, length-take}
 use borrow.Author.Tests.{ltb-false}
 use Rattle.base.specs.Choice.{if_then_else_}
 use Rattle.timetable.specs.Findings.{numbers-of, findings}
-use Rattle.timetable.specs.Outputs.{output, output-after}
+use Rattle.timetable.specs.Outputs.{reply, output, output-after}
 use Rattle.sheet.specs.Sheets.{decode-sheet}
 use Rattle.page.proofs.FlatLaws.{flat-append}
 use Rattle.findings.specs.Lists.{sheet-list, sheet-list-refusal}
@@ -149,7 +149,7 @@ module _ (n : Network) (sheet : List ℕ) (good : sheet-list-refusal n sheet ≡
   unfolding sheet-list
   four = numbers-many fs
 
-  module _ (r : Output) (told : r ≡ output (sheet-list-refusal n sheet) xs buffer) where
+  module _ (r : Output) (told : reply r ≡ output (sheet-list-refusal n sheet) xs buffer) where
     pub never-refused {ℓ} : {P : Type ℓ} (k : ℕ) → r ≡ Output.Refused k → P
     never-refused k e = put-laws.never-refused (sheet-list-refusal n sheet) xs buffer good fits r told k e
 

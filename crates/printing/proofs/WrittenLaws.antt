@@ -12,7 +12,9 @@ use borrow.Author.Tests.{leb-true, leb-false}
 use Rattle.base.specs.Choice.{if_then_else_, _if_else_}
 use Rattle.base.specs.Lists.{same}
 use Rattle.timetable.specs.Refusals.{or-else, call-refusal}
-use Rattle.timetable.specs.Outputs.{output, output-after}
+use Rattle.timetable.specs.Outputs as outputs
+use Rattle.timetable.specs.Outputs.{Reply, reply, output, output-after}
+use Rattle.timetable.proofs.ReplyLaws.{clash, same-size}
 use Rattle.sheet.specs.Sheets.{decode-sheet}
 use Rattle.sheet.proofs.PassLaws.{same-not}
 use Rattle.findings.specs.Lists.{sheet-list-refusal}
@@ -38,34 +40,34 @@ module _ (n : Network) (sheet buffer : List ℕ) (good : sheet-list-refusal n sh
   unfolding timetable-written
   leaves = ap (λ (k : ℕ). output-after k bytes buffer) (not-refused n sheet good)
 
-  pub written : (k : ℕ) → Output.Written k ≡ write-timetable n sheet buffer → (k ≤ length buffer) × (take k (timetable-written n sheet buffer) ≡ bytes)
-  unfolding output output-after
+  pub written : (k : ℕ) → reply (Output.Written k) ≡ write-timetable n sheet buffer → (k ≤ length buffer) × (take k (timetable-written n sheet buffer) ≡ bytes)
+  unfolding reply output output-after
   written k e = go (leb (length bytes) (length buffer)) refl (e ∙ answers) leaves
     where
-      go : (b : Bool) → leb (length bytes) (length buffer) ≡ b → Output.Written k ≡ (if b then Output.Written (length bytes) else Output.TooShort (length bytes))
+      go : (b : Bool) → leb (length bytes) (length buffer) ≡ b → outputs.written k ≡ (if b then outputs.written (length bytes) else outputs.needed (length bytes))
           → timetable-written n sheet buffer ≡ (if b then bytes ++ drop (length bytes) buffer else buffer)
           → (k ≤ length buffer) × (take k (timetable-written n sheet buffer) ≡ bytes)
       go true t q w =
-          let s : k ≡ length bytes = cc in
+          let s : k ≡ length bytes = same-size (outputs.written k) (outputs.written (length bytes)) k (length bytes) q refl refl in
           (omega (arith, s, leb-true (length bytes) (length buffer) t), rw w (take-at bytes (drop (length bytes) buffer) k (sym s)))
-      go false t q w = let s : _≡_ {A = ℕ} 0 1 = cc in absurd (omega (arith, s))
+      go false t q w = let s : _≡_ {A = ℕ} 0 13 = ap (λ (r : Reply). r .number) q in absurd (omega (arith, s))
 
-  pub unwritten : (k : ℕ) → Output.TooShort k ≡ write-timetable n sheet buffer → (ys : List ℕ) → length ys ≤ length buffer → same bytes ys ≡ false
-  unfolding output
+  pub unwritten : (k : ℕ) → reply (Output.TooShort k) ≡ write-timetable n sheet buffer → (ys : List ℕ) → length ys ≤ length buffer → same bytes ys ≡ false
+  unfolding reply output
   unwritten k e ys h = go (leb (length bytes) (length buffer)) refl (e ∙ answers)
     where
-      go : (b : Bool) → leb (length bytes) (length buffer) ≡ b → Output.TooShort k ≡ (if b then Output.Written (length bytes) else Output.TooShort (length bytes))
+      go : (b : Bool) → leb (length bytes) (length buffer) ≡ b → outputs.needed k ≡ (if b then outputs.written (length bytes) else outputs.needed (length bytes))
           → same bytes ys ≡ false
-      go true t q = let s : _≡_ {A = ℕ} 0 1 = cc in absurd (omega (arith, s))
+      go true t q = let s : _≡_ {A = ℕ} 13 0 = ap (λ (r : Reply). r .number) q in absurd (omega (arith, s))
       go false t q = same-not bytes ys (λ s. omega (arith, s, h, leb-false (length bytes) (length buffer) t))
 
-  pub unrefused : (k : ℕ) → ¬ (Output.Refused k ≡ write-timetable n sheet buffer)
-  unfolding output
+  pub unrefused : (k : ℕ) → ¬ (reply (Output.Refused k) ≡ write-timetable n sheet buffer)
+  unfolding reply output
   unrefused k e = go (leb (length bytes) (length buffer)) (e ∙ answers)
     where
-      go : (b : Bool) → Output.Refused k ≡ (if b then Output.Written (length bytes) else Output.TooShort (length bytes)) → ⊥
-      go true q = let s : _≡_ {A = ℕ} 0 1 = cc in omega (arith, s)
-      go false q = let s : _≡_ {A = ℕ} 0 1 = cc in omega (arith, s)
+      go : (b : Bool) → outputs.refused k ≡ (if b then outputs.written (length bytes) else outputs.needed (length bytes)) → ⊥
+      go true q = clash (length bytes) (ap (λ (r : Reply). r .size) q)
+      go false q = clash (length bytes) (ap (λ (r : Reply). r .size) q)
 
 -- the line
 module _ (n : Network) (sheet ys : List ℕ) (b : Bool) (is : b ≡ same (timetable-bytes n sheet) ys) where

@@ -5,7 +5,7 @@ ghost use mathlib.Core.List.{[], _∷_};
 ghost use Prim.Native.Nat.{_<_, _≤_};
 ghost use lib.ListN.{length, getD};
 ghost use Rattle.base.specs.Lists.{pairs};
-ghost use Rattle.timetable.specs.Outputs.{output, output-after};
+ghost use Rattle.timetable.specs.Outputs.{reply, output, output-after};
 ghost use Rattle.sheet.specs.Sheets.{decode-sheet};
 ghost use Rattle.findings.specs.between.Builder.{Puts};
 ghost use Rattle.findings.specs.Lists.{sheet-list-refusal};
@@ -72,7 +72,7 @@ fn put_part(out: &mut [u8], k: usize, sheet: &[u8], n: Network, bytes: &[u8]) ->
 fn write_part(out: &mut [u8], k: usize, sheet: &[u8], n: Network, bytes: &[u8]) -> Output
     requires { ⌜ (sheet-list-refusal n (now sheet) ≡ 0) × (length (now bytes) ≤ 16384) ⌝ }
     ensures { λ r. ⌜
-        (r ≡ output 0 (part-text n (now (sheet .entry)) (now (bytes .entry)) k) (now (out .entry)))
+        (reply r ≡ output 0 (part-text n (now (sheet .entry)) (now (bytes .entry)) k) (now (out .entry)))
         × (now (out .exit) ≡ output-after 0 (part-text n (now (sheet .entry)) (now (bytes .entry)) k) (now (out .entry))) ⌝ }
 {
     if MOST <= out.len() {
@@ -108,7 +108,7 @@ fn sheet_refusal(sheet: &[u8], n: Network) -> u8
 // The part with index k of what is printed of a sheet and the bytes that were read as its timetable.
 pub fn inspect_part(sheet: &[u8], n: Network, bytes: &[u8], k: usize, out: &mut [u8]) -> Output
     ensures { λ r. ⌜
-        (r ≡ output (part-refusal n (now (sheet .entry)) (now (bytes .entry))) (part-text n (now (sheet .entry)) (now (bytes .entry)) k) (now (out .entry)))
+        (reply r ≡ output (part-refusal n (now (sheet .entry)) (now (bytes .entry))) (part-text n (now (sheet .entry)) (now (bytes .entry)) k) (now (out .entry)))
         × (now (out .exit) ≡ output-after (part-refusal n (now (sheet .entry)) (now (bytes .entry))) (part-text n (now (sheet .entry)) (now (bytes .entry)) k) (now (out .entry))) ⌝ }
 {
     if 16384 < bytes.len() {

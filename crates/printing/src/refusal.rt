@@ -1,7 +1,7 @@
 // "A file refusal prints only R, number, place."
 ghost use mathlib.Core.Path.{_≡_};
 ghost use Prim.Native.Nat.{_≤_};
-ghost use Rattle.timetable.specs.Outputs.{output, output-after};
+ghost use Rattle.timetable.specs.Outputs.{reply, output, output-after};
 ghost use Rattle.listings.specs.Shift.{refusal-text};
 ghost use Rattle.printing.specs.Parts.{line-refusal};
 use crate::text;
@@ -11,7 +11,7 @@ use timetable::Output;
 fn write_refusal(out: &mut [u8], number: u8, place: usize) -> Output
     requires { ⌜ place ≤ 16384 ⌝ }
     ensures { λ r. ⌜
-        (r ≡ output 0 (refusal-text number place) (now (out .entry)))
+        (reply r ≡ output 0 (refusal-text number place) (now (out .entry)))
         × (now (out .exit) ≡ output-after 0 (refusal-text number place) (now (out .entry))) ⌝ }
 {
     if 68 <= out.len() {
@@ -30,7 +30,7 @@ fn write_refusal(out: &mut [u8], number: u8, place: usize) -> Output
 // The line of a refusal; 3 for a place that no input has.
 pub fn refusal_line(number: u8, place: usize, out: &mut [u8]) -> Output
     ensures { λ r. ⌜
-        (r ≡ output (line-refusal place) (refusal-text number place) (now (out .entry)))
+        (reply r ≡ output (line-refusal place) (refusal-text number place) (now (out .entry)))
         × (now (out .exit) ≡ output-after (line-refusal place) (refusal-text number place) (now (out .entry))) ⌝ }
 {
     if 16384 < place {

@@ -5,7 +5,7 @@ ghost use Prim.Native.Nat.{_+_, _*_, _≤_};
 ghost use lib.ListN.{length};
 ghost use Rattle.network.specs.Networks.{network-refusal};
 ghost use Rattle.timetable.specs.Listing.{tally-line};
-ghost use Rattle.timetable.specs.Outputs.{output, output-after};
+ghost use Rattle.timetable.specs.Outputs.{reply, output, output-after};
 ghost use Rattle.sheet.specs.Sheets.{decode-sheet, merged};
 ghost use Rattle.machine.specs.Lists.{known-good};
 ghost use Rattle.machine.specs.between.Taken.{edits-at};
@@ -101,7 +101,7 @@ fn put_shift(out: &mut [u8], input: &[u8]) -> usize
 // short is left as it was.
 pub fn shift(input: &[u8], out: &mut [u8]) -> Output
     ensures { λ r. ⌜
-        (r ≡ output 0 (shift-text (now (input .entry))) (now (out .entry)))
+        (reply r ≡ output 0 (shift-text (now (input .entry))) (now (out .entry)))
         × (now (out .exit) ≡ output-after 0 (shift-text (now (input .entry))) (now (out .entry))) ⌝ }
 {
     if MOST <= out.len() {

@@ -14,7 +14,7 @@ use Rattle.base.specs.Choice.{_if_else_}
 use Rattle.network.specs.Networks.{network-refusal, listed}
 use Rattle.timetable.specs.Tables.{visit-of, has-visit}
 use Rattle.timetable.specs.Projection.{projection}
-use Rattle.timetable.specs.Outputs.{output, output-after, put}
+use Rattle.timetable.specs.Outputs.{reply, output, output-after, put}
 use Rattle.sheet.specs.Sheets.{decode-sheet, good-sheet}
 use Rattle.sheet.specs.declared.test.Extent.{Extent}
 use Rattle.sheet.specs.between.Passes.{sheet-passes}
@@ -68,7 +68,7 @@ module _ (s : Station) (t : Train) (a : Minute) (sheet : List ℕ) where
 -- the whole call
 
 module _ (n : Network) (s : Station) (t : Train) (a : Minute) (sheet : List ℕ) (b : List ℤ) where
-  pub call-refused : (k : ℕ) → project-refusal n s t a sheet ≡ k → ¬ (k ≡ 0) → (Output.Refused k ≡ project-answer n s t a sheet b) × (b ≡ project-after n s t a sheet b)
+  pub call-refused : (k : ℕ) → project-refusal n s t a sheet ≡ k → ¬ (k ≡ 0) → (reply (Output.Refused k) ≡ project-answer n s t a sheet b) × (b ≡ project-after n s t a sheet b)
   unfolding project-answer project-after
   call-refused k e z = rw e (refused-so (projected s t a sheet) b k z)
 
@@ -97,7 +97,7 @@ module _ (n : Network) (s : Station) (t : Train) (a : Minute) (sheet : List ℕ)
           (eq-eqb (length sheet) 8192 size) early (sym (whole-test n sheet size) ∙ e)
 
       pub call-good : sheet-passes n Extent.Whole sheet ≡ true → (r : Output) (later : List ℤ)
-          → (r ≡ output (visit-refusal s t sheet) (projected s t a sheet) b) × (later ≡ output-after (visit-refusal s t sheet) (projected s t a sheet) b)
-          → (r ≡ project-answer n s t a sheet b) × (later ≡ project-after n s t a sheet b)
+          → (reply r ≡ output (visit-refusal s t sheet) (projected s t a sheet) b) × (later ≡ output-after (visit-refusal s t sheet) (projected s t a sheet) b)
+          → (reply r ≡ project-answer n s t a sheet b) × (later ≡ project-after n s t a sheet b)
       unfolding project-answer project-after
       call-good e r later x = rw (call-late e) x

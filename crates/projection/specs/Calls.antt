@@ -12,9 +12,9 @@ use Rattle.network.specs.Networks.{network-refusal, listed}
 use Rattle.timetable.specs.Tables.{has-visit}
 use Rattle.timetable.specs.Projection.{projection}
 use Rattle.timetable.specs.Refusals.{early, call-refusal}
-use Rattle.timetable.specs.Outputs.{output, output-after}
+use Rattle.timetable.specs.Outputs.{Reply, output, output-after}
 use Rattle.sheet.specs.Sheets.{decode-sheet, good-sheet}
-use Rattle.projection.specs.Types.{Station, Train, Minute, Network, Output}
+use Rattle.projection.specs.Types.{Station, Train, Minute, Network}
 use Rattle.projection.specs.Numbers.{rows-numbers}
 
 -- "From s, t and an expected arrival 0..2879"
@@ -38,7 +38,7 @@ unfoldable pub projected : Station → Train → Minute → List ℕ → List �
 projected s t a sheet = rows-numbers (projection (decode-sheet sheet) t s (a .0))
 
 module _ (n : Network) (s : Station) (t : Train) (a : Minute) (sheet : List ℕ) (buffer : List ℤ) where
-  unfoldable pub project-answer : Output
+  unfoldable pub project-answer : Reply
   project-answer = output (project-refusal n s t a sheet) (projected s t a sheet) buffer
 
   unfoldable pub project-after : List ℤ

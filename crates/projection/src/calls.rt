@@ -2,7 +2,7 @@
 // "It refuses 5, 3, 4, 7, 6, 9, 13."
 ghost use mathlib.Core.Path.{_≡_};
 ghost use lib.ListN.{length};
-ghost use Rattle.timetable.specs.Outputs.{output, output-after};
+ghost use Rattle.timetable.specs.Outputs.{reply, output, output-after};
 ghost use Rattle.projection.specs.Calls.{values-fit, early-refusal, visit-refusal, projected, project-answer, project-after};
 use crate::journey;
 use crate::times;
@@ -47,7 +47,7 @@ fn early_refusal(n: Network, s: Station, t: Train, a: Minute) -> u8
 fn write_rows(sheet: &[u8], s: Station, t: Train, a: Minute, out: &mut [i32]) -> Output
     requires { ⌜ length (now sheet) ≡ 8192 ⌝ }
     ensures { λ r. ⌜
-        (r ≡ output 0 (projected s t a (now (sheet .entry))) (now (out .entry)))
+        (reply r ≡ output 0 (projected s t a (now (sheet .entry))) (now (out .entry)))
         × (now (out .exit) ≡ output-after 0 (projected s t a (now (sheet .entry))) (now (out .entry))) ⌝ }
 {
     let first = times::minutes(a);
@@ -64,7 +64,7 @@ fn write_rows(sheet: &[u8], s: Station, t: Train, a: Minute, out: &mut [i32]) ->
 fn project_visit(sheet: &[u8], s: Station, t: Train, a: Minute, out: &mut [i32]) -> Output
     requires { ⌜ length (now sheet) ≡ 8192 ⌝ }
     ensures { λ r. ⌜
-        (r ≡ output (visit-refusal s t (now (sheet .entry))) (projected s t a (now (sheet .entry))) (now (out .entry)))
+        (reply r ≡ output (visit-refusal s t (now (sheet .entry))) (projected s t a (now (sheet .entry))) (now (out .entry)))
         × (now (out .exit) ≡ output-after (visit-refusal s t (now (sheet .entry))) (projected s t a (now (sheet .entry))) (now (out .entry))) ⌝ }
 {
     let found = journey::visit_at(sheet, s, t);
@@ -77,7 +77,7 @@ fn project_visit(sheet: &[u8], s: Station, t: Train, a: Minute, out: &mut [i32])
 // From s, t and an expected arrival a.
 pub fn project(sheet: &[u8], n: Network, s: Station, t: Train, a: Minute, out: &mut [i32]) -> Output
     ensures { λ r. ⌜
-        (r ≡ project-answer n s t a (now (sheet .entry)) (now (out .entry)))
+        (reply r ≡ project-answer n s t a (now (sheet .entry)) (now (out .entry)))
         × (now (out .exit) ≡ project-after n s t a (now (sheet .entry)) (now (out .entry))) ⌝ }
 {
     if sheet.len() != 8192 {

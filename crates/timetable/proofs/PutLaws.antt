@@ -12,7 +12,7 @@ use borrow.Author.Tests.{le-leb, lt-leb, ne-eqb}
 use Rattle.base.specs.Choice.{if_then_else_}
 use Rattle.base.proofs.Lengths.{drop-next}
 use Rattle.timetable.specs.Types.{Output}
-use Rattle.timetable.specs.Outputs.{output, output-after, put}
+use Rattle.timetable.specs.Outputs.{reply, output, output-after, put}
 
 module _ {X : Type 0} where
   pub put-length : (at : ℕ) (xs b : List X) → length (put at xs b) ≡ length b
@@ -42,18 +42,18 @@ module _ {X : Type 0} where
 
   -- a call that fills a buffer: refused; with more numbers than there is room for; and with room for all
   module _ (xs b : List X) where
-    pub refused-so : (k : ℕ) → ¬ (k ≡ 0) → (Output.Refused k ≡ output k xs b) × (b ≡ output-after k xs b)
-    unfolding output output-after
+    pub refused-so : (k : ℕ) → ¬ (k ≡ 0) → (reply (Output.Refused k) ≡ output k xs b) × (b ≡ output-after k xs b)
+    unfolding reply output output-after
     refused-so k z = (sym (rw (ne-eqb k 0 z)), sym (rw (ne-eqb k 0 z)))
 
-    pub too-short : (k : ℕ) → k ≡ length xs → length b < k → (Output.TooShort k ≡ output 0 xs b) × (b ≡ output-after 0 xs b)
-    unfolding output output-after
+    pub too-short : (k : ℕ) → k ≡ length xs → length b < k → (reply (Output.TooShort k) ≡ output 0 xs b) × (b ≡ output-after 0 xs b)
+    unfolding reply output output-after
     too-short k e h =
         let l : length b < length xs = omega (arith, e, h) in
         (sym (rw (lt-leb (length xs) (length b) l, e)), sym (rw (lt-leb (length xs) (length b) l)))
 
-    pub fits-in : (k : ℕ) → k ≡ length xs → k ≤ length b → (Output.Written k ≡ output 0 xs b) × (put 0 xs b ≡ output-after 0 xs b)
-    unfolding output output-after
+    pub fits-in : (k : ℕ) → k ≡ length xs → k ≤ length b → (reply (Output.Written k) ≡ output 0 xs b) × (put 0 xs b ≡ output-after 0 xs b)
+    unfolding reply output output-after
     fits-in k e h =
         let l : length xs ≤ length b = omega (arith, e, h) in
         (sym (rw (le-leb (length xs) (length b) l, e)), put-whole xs b l ∙ sym (rw (le-leb (length xs) (length b) l)))

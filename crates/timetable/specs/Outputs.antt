@@ -4,21 +4,39 @@
 use Prim.Native.Nat.{ℕ, _+_}
 use mathlib.Core.Bool.{Bool, _&&_}
 use mathlib.Core.List.{List, [], _∷_, _++_}
+use mathlib.Core.Option.{Option, none, some}
 use lib.Dec.{leb, eqb}
 use lib.ListN.{length, drop, set}
 use Rattle.base.specs.Choice.{if_then_else_}
 use Rattle.timetable.specs.Types.{Output}
 
--- document 01's number of each case; 0 is accepted
-unfoldable pub number : Output → ℕ
-number (Output.Written k) = 0
-number (Output.Refused k) = k
-number (Output.TooShort k) = 13
+-- an answer as document 01 gives it: "a refusal number or 0", and what comes along: the place of a file's refusal, how
+-- many numbers are written or needed
+pub record Reply : Type 0 where
+  pub number : ℕ
+  pub place : Option ℕ
+  pub size : Option ℕ
+
+abbrev pub written : ℕ → Reply
+written k = record { number = 0; place = none; size = some k }
+
+abbrev pub refused : ℕ → Reply
+refused k = record { number = k; place = none; size = none }
+
+-- "its needed length comes along"
+abbrev pub needed : ℕ → Reply
+needed k = record { number = 13; place = none; size = some k }
+
+-- "When an answer is an enum, a definition gives this paper's number and values for each case of that enum."
+unfoldable pub reply : Output → Reply
+reply (Output.Written k) = written k
+reply (Output.Refused k) = refused k
+reply (Output.TooShort k) = needed k
 
 -- a call refused with k, or with 0 and these numbers to write; 13 comes last in "Order"
 module _ {X : Type 0} (k : ℕ) (xs : List X) (buffer : List X) where
-  unfoldable pub output : Output
-  output = if eqb k 0 then (if leb (length xs) (length buffer) then Output.Written (length xs) else Output.TooShort (length xs)) else Output.Refused k
+  unfoldable pub output : Reply
+  output = if eqb k 0 then (if leb (length xs) (length buffer) then written (length xs) else needed (length xs)) else refused k
 
   unfoldable pub output-after : List X
   output-after = if eqb k 0 && leb (length xs) (length buffer) then xs ++ drop (length xs) buffer else buffer
@@ -31,5 +49,5 @@ put at (x ∷ xs) buffer = put (at + 1) xs (set buffer at x)
 
 -- The key ring of this module: `unfolding opened` opens every definition above.
 unfoldable pub opened : Unit {0}
-unfolding number output output-after put
+unfolding reply output output-after put
 opened = tt

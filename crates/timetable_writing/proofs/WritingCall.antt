@@ -10,7 +10,7 @@ use borrow.Author.Tests.{eq-eqb, ne-eqb}
 use Rattle.base.specs.Choice.{if_then_else_, _if_else_}
 use Rattle.network.specs.Networks.{network-refusal, listed}
 use Rattle.timetable.specs.Formats.{bytes-of}
-use Rattle.timetable.specs.Outputs.{put}
+use Rattle.timetable.specs.Outputs.{reply, put}
 use Rattle.timetable.proofs.PutLaws.{refused-so, too-short, fits-in}
 use Rattle.sheet.specs.Sheets.{decode-sheet, good-sheet}
 use Rattle.sheet.specs.declared.test.Extent.{Extent}
@@ -25,7 +25,7 @@ use Rattle.timetable_writing.proofs.TimetableLaws.{rows-numbers}
 module _ (n : Network) (sheet out : List ℕ) where
   -- the answer and the buffer afterwards
   abbrev Answers : Output → List ℕ → Type 0
-  Answers r later = (r ≡ write-timetable n sheet out) × (later ≡ timetable-written n sheet out)
+  Answers r later = (reply r ≡ write-timetable n sheet out) × (later ≡ timetable-written n sheet out)
 
   refused : (k : ℕ) → sheet-refusal n sheet ≡ k → ¬ (k ≡ 0) → Answers (Output.Refused k) out
   unfolding write-timetable timetable-written

@@ -10,9 +10,9 @@ use Rattle.network.specs.Networks.{network-refusal, listed}
 use Rattle.timetable.specs.Count.{visit-count, relation-count}
 use Rattle.timetable.specs.Formats.{bytes-of}
 use Rattle.timetable.specs.TimetableFile.{timetable-numbers}
-use Rattle.timetable.specs.Outputs.{output, output-after}
+use Rattle.timetable.specs.Outputs.{Reply, output, output-after}
 use Rattle.sheet.specs.Sheets.{decode-sheet, good-sheet}
-use Rattle.timetable_writing.specs.Types.{Network, Output, Totals}
+use Rattle.timetable_writing.specs.Types.{Network, Totals}
 
 -- 5, 3, 4, 6, 13: "5 a wrong buffer length", "6 a sheet it reads isn't good"
 
@@ -26,7 +26,7 @@ sheet-refusal n sheet =
 unfoldable pub timetable-bytes : Network → List ℕ → List ℕ
 timetable-bytes n sheet = bytes-of (timetable-numbers n (decode-sheet sheet))
 
-unfoldable pub write-timetable : Network → List ℕ → List ℕ → Output
+unfoldable pub write-timetable : Network → List ℕ → List ℕ → Reply
 write-timetable n sheet buffer = output (sheet-refusal n sheet) (timetable-bytes n sheet) buffer
 
 unfoldable pub timetable-written : Network → List ℕ → List ℕ → List ℕ

@@ -5,7 +5,7 @@ ghost use mathlib.Core.Path.{_≡_};
 ghost use Prim.Native.Nat.{_≤_};
 ghost use lib.ListN.{length};
 ghost use Rattle.timetable.specs.Formats.{bytes-of};
-ghost use Rattle.timetable.specs.Outputs.{put};
+ghost use Rattle.timetable.specs.Outputs.{reply, put};
 ghost use Rattle.timetable.specs.TimetableFile.{in-link-numbers, out-link-numbers, visit-numbers};
 ghost use Rattle.page.specs.between.Changes.{table-in};
 ghost use Rattle.sheet.specs.Sheets.{decode-sheet};
@@ -294,7 +294,7 @@ fn put_timetable(out: &mut [u8], sheet: &[u8], n: Network) -> usize
 // 5, 3 and 4 for a network that is not good, 6, 13.
 pub fn write_timetable(sheet: &[u8], n: Network, out: &mut [u8]) -> Output
     ensures { λ r. ⌜
-        (r ≡ write-timetable n (now (sheet .entry)) (now (out .entry)))
+        (reply r ≡ write-timetable n (now (sheet .entry)) (now (out .entry)))
         × (now (out .exit) ≡ timetable-written n (now (sheet .entry)) (now (out .entry))) ⌝ }
 {
     if sheet.len() != 8192 {

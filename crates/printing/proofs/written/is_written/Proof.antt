@@ -5,6 +5,7 @@ use mathlib.Core.List.{List}
 use native.Mathlib.Omega.{arith}
 use lib.ListN.{take, length-replicate}
 use denote.Ref.{now}
+use Rattle.timetable.specs.Outputs.{reply}
 use Rattle.base.specs.Lists.{same}
 use Rattle.records.specs.Bytes.{zeros}
 use Rattle.printing.proofs.WrittenLaws.{written, unwritten, unrefused}
@@ -32,7 +33,7 @@ part-is-same-end c =
     let s = c .before .before .before .before .before .before .before .before .before .args in
     let w = c .before .before .before .before .before .write-timetable in
     let g = c .before .before .output .given in
-    let (l, e) = written (s .n) (now (s .sheet)) (zeros 16384) (c .before .before .before .before .before .before .before .before .before .pre .0) (g .0 .0) (sym (g .1) ∙ w .ensures .0) in
+    let (l, e) = written (s .n) (now (s .sheet)) (zeros 16384) (c .before .before .before .before .before .before .before .before .before .pre .0) (g .0 .0) (sym (ap reply (g .1)) ∙ w .ensures .0) in
     omega (arith, l, length-replicate {A = ℕ} 16384 0, w .kept .1 .1 .0)
 
 is-same-requires : tie.Need-is-same-requires
@@ -49,7 +50,7 @@ returns c =
     let s = c .before .before .before .before .before .before .before .before .before .before .before .args in
     let w = c .before .before .before .before .before .before .before .write-timetable in
     let g = c .before .before .before .before .output .given in
-    let (l, e) = written (s .n) (now (s .sheet)) (zeros 16384) (c .before .before .before .before .before .before .before .before .before .before .before .pre .0) (g .0 .0) (sym (g .1) ∙ w .ensures .0) in
+    let (l, e) = written (s .n) (now (s .sheet)) (zeros 16384) (c .before .before .before .before .before .before .before .before .before .before .before .pre .0) (g .0 .0) (sym (ap reply (g .1)) ∙ w .ensures .0) in
     let z : g .0 .0 - 0 ≡ g .0 .0 = omega arith in
     let file = w .last .1 .1 .0 in
     c .is-same .ensures ∙ ap (λ (l : List ℕ). same l (now (s .bytes))) (ap (λ (i : ℕ). take i file) z ∙ ap (take (g .0 .0)) (w .ensures .1) ∙ e)
@@ -59,14 +60,14 @@ returns-2 c =
     let s = c .before .before .before .before .before .before .before .before .args in
     let w = c .before .before .before .before .write-timetable in
     let g = c .before .output2 .given in
-    absurd (unrefused (s .n) (now (s .sheet)) (zeros 16384) (c .before .before .before .before .before .before .before .before .pre .0) (g .0 .0) (sym (g .1) ∙ w .ensures .0))
+    absurd (unrefused (s .n) (now (s .sheet)) (zeros 16384) (c .before .before .before .before .before .before .before .before .pre .0) (g .0 .0) (sym (ap reply (g .1)) ∙ w .ensures .0))
 
 returns-3 : tie.Need-returns-3
 returns-3 c =
     let s = c .before .before .before .before .before .before .before .before .args in
     let w = c .before .before .before .before .write-timetable in
     let g = c .before .output3 .given in
-    sym (unwritten (s .n) (now (s .sheet)) (zeros 16384) (c .before .before .before .before .before .before .before .before .pre .0) (g .0 .0) (sym (g .1) ∙ w .ensures .0) (now (s .bytes)) (omega (arith, c .before .before .before .before .before .before .before .before .pre .1, length-replicate {A = ℕ} 16384 0)))
+    sym (unwritten (s .n) (now (s .sheet)) (zeros 16384) (c .before .before .before .before .before .before .before .before .pre .0) (g .0 .0) (sym (ap reply (g .1)) ∙ w .ensures .0) (now (s .bytes)) (omega (arith, c .before .before .before .before .before .before .before .before .pre .1, length-replicate {A = ℕ} 16384 0)))
 
 pub is-written-spec : {M : Type 1} → statement M
 is-written-spec =
