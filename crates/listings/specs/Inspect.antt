@@ -10,6 +10,7 @@ use lib.IntN.{ℤ, pos, negsuc}
 use lib.ListN.{length, drop}
 use Rattle.base.specs.Choice.{if_then_else_, _if_else_}
 use Rattle.base.specs.Lists.{pairs, same}
+use Rattle.railway.specs.Ranges.{last-minute}
 use Rattle.network.specs.Networks.{stations-of, area-of}
 use Rattle.timetable.specs.Visits.{arr}
 use Rattle.timetable.specs.Tables.{Entry}
@@ -52,7 +53,7 @@ module _ (n : Network) (m : Timetable) where
 
   -- the projection from a visit, with its stored arrival plus 5, at most the last minute, as the expected one
   unfoldable pub visit-text : Station → Entry → List ℕ
-  visit-text s e = flatMap (row-text (s .0) (e .train .0)) (projection m (e .train) s (min (arr (e .visit) + 5) 2879))
+  visit-text s e = flatMap (row-text (s .0) (e .train .0)) (projection m (e .train) s (min (arr (e .visit) + 5) last-minute))
 
   unfoldable pub journeys-text : List ℕ
   journeys-text = flatMap (λ s. flatMap (visit-text s) (m s .visits)) (stations-of n)

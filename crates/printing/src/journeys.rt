@@ -5,7 +5,7 @@ ghost use Prim.Native.Nat.{_+_, _*_, _≤_, min};
 ghost use lib.ListN.{length, take};
 ghost use mathlib.Core.List.{flatMap};
 ghost use Rattle.base.specs.Lists.{every};
-ghost use Rattle.railway.specs.Ranges.{train-ok};
+ghost use Rattle.railway.specs.Ranges.{train-ok, last-minute};
 ghost use Rattle.network.specs.Networks.{listed};
 ghost use Rattle.timetable.specs.Tables.{has-visit};
 ghost use Rattle.sheet.specs.Sheets.{decode-sheet};
@@ -28,10 +28,10 @@ use timetable::Output;
 
 // The stored arrival plus 5, at most the last minute.
 fn expected(stored: Minute) -> Minute
-    ensures { λ r. ⌜ r .0 ≡ min (stored .0 + 5) 2879 ⌝ }
+    ensures { λ r. ⌜ r .0 ≡ min (stored .0 + 5) last-minute ⌝ }
 {
-    if 2874 < stored.0 {
-        return Minute(2879);
+    if Minute::LAST - 5 < stored.0 {
+        return Minute(Minute::LAST);
     }
     Minute(stored.0 + 5)
 }

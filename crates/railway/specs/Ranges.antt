@@ -24,8 +24,11 @@ abbrev pub track-ok : Track → Bool
 track-ok t = within 1 8 (t .0)
 
 -- "Times are whole minutes from 0 to 2879."
+abbrev pub last-minute : ℕ
+last-minute = 2879
+
 abbrev pub minute-ok : Minute → Bool
-minute-ok m = leb (m .0) 2879
+minute-ok m = leb (m .0) last-minute
 
 -- how many minutes the second is after the first, with its sign
 abbrev pub minutes-after : Minute → Minute → ℤ

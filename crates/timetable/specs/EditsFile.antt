@@ -7,6 +7,7 @@ use mathlib.Core.List.{List, [], _∷_, _++_, map, flatMap}
 use lib.Dec.{eqb}
 use lib.ListN.{length, getD, drop}
 use Rattle.base.specs.Choice.{if_then_else_, _if_else_}
+use Rattle.railway.specs.Ranges.{last-minute}
 use Rattle.railway.specs.Relations.{used}
 use Rattle.timetable.specs.Types.{Train, Trains, Pair, Relation, Connection, Disconnection, Dependency, Network}
 use Rattle.timetable.specs.Types.{Plan, Extension, Deletion, Report, StationRelation}
@@ -73,7 +74,7 @@ station-relation-numbers r = r .station .0 ∷ relation-numbers (r .relation)
 
 -- "(s, t, track, arrival, departure)"
 unfoldable pub plan-ranges : List Range
-plan-ranges = 1 to 16 ∷ 1 to 9999 ∷ 1 to 8 ∷ 0 to 2879 ∷ 0 to 2879 ∷ []
+plan-ranges = 1 to 16 ∷ 1 to 9999 ∷ 1 to 8 ∷ 0 to last-minute ∷ 0 to last-minute ∷ []
 
 unfoldable pub plan-of : List ℕ → Plan
 plan-of ns = record {
@@ -109,7 +110,7 @@ deletion-numbers d = d .station .0 ∷ d .train .0 ∷ d .other .0 ∷ []
 
 -- "(s, t, time)"
 unfoldable pub report-ranges : List Range
-report-ranges = 1 to 16 ∷ 1 to 9999 ∷ 0 to 2879 ∷ []
+report-ranges = 1 to 16 ∷ 1 to 9999 ∷ 0 to last-minute ∷ []
 
 unfoldable pub report-of : List ℕ → Report
 report-of ns = record { station = record { 0 = getD ns 0 0 }; train = record { 0 = getD ns 1 0 }; time = record { 0 = getD ns 2 0 } }

@@ -7,6 +7,7 @@ use mathlib.Core.List.{List, [], _∷_, _++_, map, flatMap}
 use lib.Dec.{eqb}
 use lib.ListN.{length, getD}
 use Rattle.base.specs.Choice.{if_then_else_, _if_else_}
+use Rattle.railway.specs.Ranges.{last-minute}
 use Rattle.network.specs.Networks.{stations-of, listed, track-known, network-refusal}
 use Rattle.timetable.specs.Types.{Station, Train, Inward, Outward, InLink, OutLink, Visit, StationRelation, Network}
 use Rattle.timetable.specs.Tables.{Entry, Table, add-visit, add-relation, full-visits, full-relations}
@@ -25,7 +26,7 @@ pub record StationVisit : Type 0 where
 
 -- "s, t, track, arrival, status, departure, status"
 unfoldable pub visit-ranges : List Range
-visit-ranges = 1 to 16 ∷ 1 to 9999 ∷ 1 to 8 ∷ 0 to 2879 ∷ 0 to 1 ∷ 0 to 2879 ∷ 0 to 1 ∷ []
+visit-ranges = 1 to 16 ∷ 1 to 9999 ∷ 1 to 8 ∷ 0 to last-minute ∷ 0 to 1 ∷ 0 to last-minute ∷ 0 to 1 ∷ []
 
 -- "pending (0) or occurred (1)"
 unfoldable pub status-number : Bool → ℕ

@@ -2,6 +2,7 @@
 -- nothing.
 use Prim.Native.Nat.{ℕ}
 use mathlib.Core.List.{List, [], _∷_}
+use Rattle.railway.specs.Ranges.{last-minute}
 use Rattle.timetable.specs.Formats.{Format, done, field, Outcome, accepted, refused, Range, _to_, row, _and-then_}
 use Rattle.timetable.specs.TimetableFile.{StationVisit, in-link-entry, out-link-entry, station-visit-of}
 use Rattle.timetable_files.specs.Types.{InLink, OutLink, Visit}
@@ -23,7 +24,7 @@ out-read (refused k p) = OutRead.Refused k p
 
 -- "track, arrival, status, departure, status"
 unfoldable pub value-ranges : List Range
-value-ranges = 1 to 8 ∷ 0 to 2879 ∷ 0 to 1 ∷ 0 to 2879 ∷ 0 to 1 ∷ []
+value-ranges = 1 to 8 ∷ 0 to last-minute ∷ 0 to 1 ∷ 0 to last-minute ∷ 0 to 1 ∷ []
 
 unfoldable pub visit-in : List ℕ → InLink → OutLink → Visit
 visit-in ns i o = station-visit-of (0 ∷ 0 ∷ ns) i o .visit
