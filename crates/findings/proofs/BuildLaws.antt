@@ -11,7 +11,7 @@ use lib.Seq.{getD-take}
 use borrow.Author.Tests.{eq-eqb, ne-eqb}
 use Rattle.base.specs.Choice.{if_then_else_}
 use Rattle.base.proofs.Lengths.{drop-next}
-use Rattle.network.specs.Networks.{station-rows, stations-of}
+use Rattle.network.specs.Networks.{blank-station, station-rows, stations-of}
 use Rattle.network.proofs.RowLaws.{used-rows}
 use Rattle.network.specs.declared.StationRow.{StationRow}
 use Rattle.timetable.specs.Visits.{with-out, outs}
@@ -181,7 +181,3 @@ stations-are n scope m k many e =
     sym
     (flat-map (station-numbers n scope m) (λ (r : StationRow). r .station) (take (n .stationcount) (n .stations))
     ∙ ap (flatMap (λ r. station-numbers n scope m (r .station))) (used-rows (n .stations) (n .stationcount) 16 k many e))
-
--- what an array of rows is read as past its end
-abbrev pub nowhere : StationRow
-nowhere = record { station = record { 0 = 0 }; area = record { 0 = 0 }; tracks = 0 }

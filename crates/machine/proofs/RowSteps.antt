@@ -12,7 +12,7 @@ use lib.Seq.{getD-take}
 use Rattle.base.specs.Lists.{any, every}
 use Rattle.base.proofs.Lengths.{drop-next, every-next}
 use Rattle.base.proofs.Tests.{every-head, every-tail}
-use Rattle.network.specs.Networks.{station-rows, stations-of}
+use Rattle.network.specs.Networks.{blank-station, station-rows, stations-of}
 use Rattle.network.specs.declared.StationRow.{StationRow}
 use Rattle.network.proofs.RowLaws.{used-rows}
 use Rattle.sheet.specs.Sheets.{six, sheet-at}
@@ -21,10 +21,6 @@ use Rattle.edits.specs.between.Pairs.{here-page}
 use Rattle.machine.specs.Types.{Edit, Network}
 use Rattle.machine.specs.between.PageEdits.{place-of, places, sweep, visits-on, swept, has-room, touches-at, touches-area, area-passes}
 use Rattle.sheet.specs.between.Frames.{frame, change-frame}
-
--- what an array of rows is read as past its end
-abbrev pub nowhere : StationRow
-nowhere = record { station = record { 0 = 0 }; area = record { 0 = 0 }; tracks = 0 }
 
 map-map : {A B C : Type 0} (f : B → C) (g : A → B) (xs : List A) → map f (map g xs) ≡ map (λ x. f (g x)) xs
 map-map f g [] = refl
@@ -53,20 +49,20 @@ module _ (n : Network) (k : ℕ) (many : length (n .stations) ≡ 16) (e : k ≡
   areas-are x a = any-map (touches-at n x a) (λ r. r .station) (station-rows n) ∙ ap (any (λ r. touches-at n x a (r .station))) in-use
 
 module _ (rows : List StationRow) (k : ℕ) (fits : k ≤ length rows) (i : ℕ) where
-  row-on : i < k → drop i (take k rows) ≡ getD rows i nowhere ∷ drop (i + 1) (take k rows)
+  row-on : i < k → drop i (take k rows) ≡ getD rows i blank-station ∷ drop (i + 1) (take k rows)
   row-on h =
-      drop-next (take k rows) i nowhere (simp length-take (omega arith))
-      ∙ ap (λ (x : StationRow). x ∷ drop (i + 1) (take k rows)) (getD-take k rows i nowhere h)
+      drop-next (take k rows) i blank-station (simp length-take (omega arith))
+      ∙ ap (λ (x : StationRow). x ∷ drop (i + 1) (take k rows)) (getD-take k rows i blank-station h)
 
   rows-over : k ≤ i → drop i (take k rows) ≡ []
   rows-over h = drop-of-length-le (take k rows) {i = i} (simp length-take (omega arith))
 
   module _ (f : StationRow → Bool) where
-    pub any-yes : i < k → f (getD rows i nowhere) ≡ true → any f (drop i (take k rows)) ≡ true
+    pub any-yes : i < k → f (getD rows i blank-station) ≡ true → any f (drop i (take k rows)) ≡ true
     unfolding any
     any-yes h e = rw (row-on h, e)
 
-    pub any-on : i < k → f (getD rows i nowhere) ≡ false → any f (drop i (take k rows)) ≡ any f (drop (i + 1) (take k rows))
+    pub any-on : i < k → f (getD rows i blank-station) ≡ false → any f (drop i (take k rows)) ≡ any f (drop (i + 1) (take k rows))
     unfolding any
     any-on h e = ap (any f) (row-on h) ∙ rw e
 
@@ -81,26 +77,26 @@ module _ (rows : List StationRow) (k : ℕ) (fits : k ≤ length rows) (i : ℕ)
     abbrev later : List ℕ
     later = map g (drop (i + 1) (take k rows))
 
-    left-on : i < k → left ≡ g (getD rows i nowhere) ∷ later
+    left-on : i < k → left ≡ g (getD rows i blank-station) ∷ later
     left-on h = ap (map g) (row-on h)
 
-    pub room-here : (size : ℕ) → i < k → T (every (has-room size) left) → 512 * g (getD rows i nowhere) + 512 ≤ size
+    pub room-here : (size : ℕ) → i < k → T (every (has-room size) left) → 512 * g (getD rows i blank-station) + 512 ≤ size
     unfolding has-room
     room-here size h t =
-        let u : T (every (has-room size) (g (getD rows i nowhere) ∷ later)) = rw (left-on h) at t in
-        leb→le (512 * g (getD rows i nowhere) + 512) size (every-head (has-room size) (g (getD rows i nowhere)) later u)
+        let u : T (every (has-room size) (g (getD rows i blank-station) ∷ later)) = rw (left-on h) at t in
+        leb→le (512 * g (getD rows i blank-station) + 512) size (every-head (has-room size) (g (getD rows i blank-station)) later u)
 
     pub room-later : (size : ℕ) → i < k → T (every (has-room size) left) → T (every (has-room size) later)
     room-later size h t =
-        let u : T (every (has-room size) (g (getD rows i nowhere) ∷ later)) = rw (left-on h) at t in
-        every-tail (has-room size) (g (getD rows i nowhere)) later u
+        let u : T (every (has-room size) (g (getD rows i blank-station) ∷ later)) = rw (left-on h) at t in
+        every-tail (has-room size) (g (getD rows i blank-station)) later u
 
     pub swept-on : (e : Edit) (b : List ℕ) → i < k
-        → swept e left b ≡ visits-on e (frame (g (getD rows i nowhere)) b) + swept e later (change-frame (g (getD rows i nowhere)) (here-page e) b)
+        → swept e left b ≡ visits-on e (frame (g (getD rows i blank-station)) b) + swept e later (change-frame (g (getD rows i blank-station)) (here-page e) b)
     unfolding swept
     swept-on e b h = ap (λ (l : List ℕ). swept e l b) (left-on h)
 
-    pub sweep-on : (e : Edit) (b : List ℕ) → i < k → sweep e left b ≡ sweep e later (change-frame (g (getD rows i nowhere)) (here-page e) b)
+    pub sweep-on : (e : Edit) (b : List ℕ) → i < k → sweep e left b ≡ sweep e later (change-frame (g (getD rows i blank-station)) (here-page e) b)
     unfolding sweep
     sweep-on e b h = ap (λ (l : List ℕ). sweep e l b) (left-on h)
 

@@ -11,6 +11,13 @@ use Rattle.base.specs.Lists.{any, every, first, is, within, rising}
 use Rattle.network.specs.Types.{Station, Track, Line, Area, StationRow, LineRow, Network, StationFound, LineFound, AreaFound}
 use Rattle.railway.specs.Ranges.{station-ok, area-ok, line-ok, run-ok, same-station, same-line}
 
+-- a row that is not used
+abbrev pub blank-station : StationRow
+blank-station = record { station = record { 0 = 0 }; area = record { 0 = 0 }; tracks = 0 }
+
+abbrev pub blank-line : LineRow
+blank-line = record { line = record { 0 = 0 }; first = record { 0 = 0 }; second = record { 0 = 0 }; kind = 0; least = 0; capacity = 0 }
+
 -- the rows in use
 unfoldable pub station-rows : Network → List StationRow
 station-rows n = take (n .stationcount) (n .stations)

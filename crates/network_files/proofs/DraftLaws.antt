@@ -12,10 +12,10 @@ use Rattle.base.specs.Lists.{first}
 use Rattle.network.specs.declared.StationRow.{StationRow}
 use Rattle.network.specs.declared.LineRow.{LineRow}
 use Rattle.network.specs.declared.Network.{Network}
-use Rattle.network.specs.Networks.{station-rows, stations-of, listed, ends-listed}
+use Rattle.network.specs.Networks.{blank-station, blank-line, station-rows, stations-of, listed, ends-listed}
 use Rattle.timetable.specs.Formats.{Format, done, Outcome, accepted, refused, _and-then_, behind, read, _to_, row, entries, Placed, placed}
 use Rattle.timetable.specs.NetworkFile.{station-ranges, station-of, station-entry, station-bar, line-ranges, line-of, line-fields, line-entry, line-bar}
-use Rattle.timetable.specs.NetworkFile.{Listed, stations-format, lines-format, lines-part, only-stations, with-headway, with-lines, blank-station, blank-line, blank-network, network-with, network-of, unjoined, unjoined-fault, network-fault}
+use Rattle.timetable.specs.NetworkFile.{Listed, stations-format, lines-format, lines-part, only-stations, with-headway, with-lines, blank-network, network-with, network-of, unjoined, unjoined-fault, network-fault}
 use Rattle.network_files.specs.declared.draft.StationRead.{StationRead}
 use Rattle.network_files.specs.declared.draft.LineRead.{LineRead}
 use Rattle.network_files.specs.declared.draft.StationsRead.{StationsRead}

@@ -9,10 +9,10 @@ use Rattle.base.specs.Lists.{first}
 use Rattle.network.specs.declared.StationRow.{StationRow}
 use Rattle.network.specs.declared.LineRow.{LineRow}
 use Rattle.network.specs.declared.Network.{Network}
-use Rattle.network.specs.Networks.{ends-listed}
+use Rattle.network.specs.Networks.{blank-station, blank-line, ends-listed}
 use Rattle.timetable.specs.Formats.{Outcome, accepted, refused, number, place-of, value-or, Placed}
 use Rattle.timetable.specs.declared.Fault.{Fault}
-use Rattle.timetable.specs.NetworkFile.{Listed, with-lines, blank-station, blank-line, blank-network, network-of, unjoined-fault, network-fault}
+use Rattle.timetable.specs.NetworkFile.{Listed, with-lines, blank-network, network-of, unjoined-fault, network-fault}
 use Rattle.fields.specs.between.Answers.{padded}
 use Rattle.network_files.specs.declared.draft.StationRead.{StationRead}
 use Rattle.network_files.specs.declared.draft.StationsRead.{StationsRead}

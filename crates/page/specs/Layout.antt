@@ -2,21 +2,20 @@
 -- nothing.
 use mathlib.Core.Path.{_≡_, refl}
 use mathlib.Core.Bool.{true, false, _&&_}
-use mathlib.Core.List.{List, [], _∷_, _++_, map}
-use Prim.Native.Nat.{ℕ, _-_}
-use lib.ListN.{length, replicate}
+use mathlib.Core.List.{List, [], _∷_, _++_}
+use Prim.Native.Nat.{ℕ}
 use Rattle.base.specs.Lists as Lists
 use Rattle.base.specs.Lists.{same}
 use Rattle.railway.specs.Relations as Relations
 use Rattle.network.specs.Networks as Networks
-use Rattle.network.specs.declared.StationRow.{StationRow}
-use Rattle.network.specs.declared.LineRow.{LineRow}
+use Rattle.timetable.specs.Cases as Cases
+use Rattle.timetable.specs.Cases.{net}
 use Rattle.timetable.specs.Visits as Visits
 use Rattle.timetable.specs.Good as Good
 use Rattle.timetable.specs.Tables.{Entry, Table}
 use Rattle.records.specs.Bytes.{zeros}
 use Rattle.records.specs.Records as Records
-use Rattle.page.specs.Types.{Network, InLink, OutLink, Relation, Connection}
+use Rattle.page.specs.Types.{InLink, OutLink, Relation, Connection}
 use Rattle.page.specs.Pages as Pages
 use Rattle.page.specs.Pages.{encode-page, decode-page, good-page}
 
@@ -51,22 +50,6 @@ page =
     ++ ((0x01 ∷ 0x05 ∷ 0x07 ∷ 0x00 ∷ 0x2c ∷ 0x01 ∷ 0x00 ∷ 0x00 ∷ 0x00 ∷ 0x00 ∷ 0x00 ∷ 0x00 ∷ 0x00 ∷ 0x00 ∷ 0x00 ∷ 0x00 ∷ [])
     ++ zeros 80)))
 
--- two stations, and a line of kind 3 between them
-pub net : Network
-net = record {
-  stationcount = 2;
-  stations = station 1 ∷ station 2 ∷ replicate 14 (station 0);
-  headway = 3;
-  linecount = 1;
-  lines = line 1 ∷ replicate 31 (line 0);
-}
-  where
-    station : ℕ → StationRow
-    station s = record { station = record { 0 = s }; area = record { 0 = s }; tracks = 2 }
-
-    line : ℕ → LineRow
-    line l = record { line = record { 0 = l }; first = record { 0 = 1 }; second = record { 0 = 2 }; kind = 3; least = 10; capacity = 1 }
-
 pub worked-page : (same (encode-page table) page && (same (encode-page (decode-page page)) page && good-page net (record { 0 = 1 }) page)) ≡ true
-unfolding visit table page net Lists.opened Relations.opened Networks.opened Visits.opened Good.opened Records.opened Pages.opened
+unfolding visit table page Cases.opened Lists.opened Relations.opened Networks.opened Visits.opened Good.opened Records.opened Pages.opened
 worked-page = refl

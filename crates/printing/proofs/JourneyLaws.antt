@@ -14,7 +14,7 @@ use borrow.Author.Tests.{le-leb}
 use Rattle.base.specs.Lists.{every, first, is}
 use Rattle.base.proofs.Tests.{by-value, T-true, true-T, and-l, and-r, parts, every-map}
 use Rattle.railway.specs.Ranges.{station-ok, train-ok, same-train}
-use Rattle.network.specs.Networks.{network-refusal, listed, station-rows, stations-of}
+use Rattle.network.specs.Networks.{blank-station, network-refusal, listed, station-rows, stations-of}
 use Rattle.network.proofs.NetworkLaws.{network-facts, stations-listed}
 use Rattle.timetable.specs.Tables.{Entry, Table, visit-of, has-visit}
 use Rattle.timetable.specs.Machine.{Timetable}
@@ -33,7 +33,7 @@ use Rattle.projection.specs.Numbers.{rows-numbers}
 use Rattle.projection.specs.Calls.{values-fit, visit-refusal, project-refusal, projected, project-answer, project-after}
 use Rattle.projection.proofs.ProjectionCall.{early-none}
 use Rattle.findings.specs.Lists.{sheet-list-refusal}
-use Rattle.findings.proofs.BuildLaws.{nowhere, flat-map}
+use Rattle.findings.proofs.BuildLaws.{flat-map}
 use Rattle.listings.specs.Inspect.{row-text, visit-text, journeys-text}
 use Rattle.printing.specs.Types.{Station, Train, Minute, Visit, StationRow, Network, Row, Output}
 use Rattle.printing.specs.between.Journeys.{small, rows-text}
@@ -127,13 +127,13 @@ module _ (n : Network) (good : network-refusal n ≡ 0) (m : Timetable) where
   pub count-high : n .stationcount ≤ 16
   count-high = leb→le (n .stationcount) 16 (and-r (leb 1 (n .stationcount)) (leb (n .stationcount) 16) (network-facts n good .station-count))
 
-  pub row-listed : (i : ℕ) → i < n .stationcount → length (n .stations) ≡ 16 → listed n (getD (n .stations) i nowhere .station) ≡ true
+  pub row-listed : (i : ℕ) → i < n .stationcount → length (n .stations) ≡ 16 → listed n (getD (n .stations) i blank-station .station) ≡ true
   unfolding stations-of station-rows
   row-listed i h many =
       let all : T (every (λ r. listed n (r .station)) (station-rows n)) = rw (every-map (listed n) (λ (r : StationRow). r .station) (station-rows n)) at (stations-listed n) in
-      T-true (listed n (getD (n .stations) i nowhere .station))
-      (rw (getD-take (n .stationcount) (n .stations) i nowhere h) at
-      (every-at (λ r. listed n (r .station)) (station-rows n) i nowhere all (simp length-take (omega (arith, h, many, count-high)))))
+      T-true (listed n (getD (n .stations) i blank-station .station))
+      (rw (getD-take (n .stationcount) (n .stations) i blank-station h) at
+      (every-at (λ r. listed n (r .station)) (station-rows n) i blank-station all (simp length-take (omega (arith, h, many, count-high)))))
 
   pub rows-journeys : flatMap (λ (r : StationRow). flatMap (visit-text n m (r .station)) (m (r .station) .visits)) (take (n .stationcount) (n .stations)) ≡ journeys-text n m
   unfolding journeys-text stations-of station-rows

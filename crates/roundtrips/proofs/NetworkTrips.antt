@@ -14,11 +14,11 @@ use Rattle.base.proofs.Tests.{T-true, both, parts, every-weaker, every-map}
 use Rattle.base.proofs.Sorted.{smaller, rising-map, two-map}
 use Rattle.numbers.specs.Numbers.{width}
 use Rattle.railway.specs.Edits.{edit-ok}
-use Rattle.network.specs.Networks.{station-rows, line-rows, stations-of, station-row-ok, line-row-ok, stations-rise, lines-rise, stations-in-range, lines-in-range}
+use Rattle.network.specs.Networks.{blank-station, blank-line, station-rows, line-rows, stations-of, station-row-ok, line-row-ok, stations-rise, lines-rise, stations-in-range, lines-in-range}
 use Rattle.network.specs.Networks.{network-in-range, ends-listed, lines-joined, network-refusal}
 use Rattle.network.proofs.NetworkLaws.{NetworkFacts, network-facts}
 use Rattle.timetable.specs.Formats.{Outcome, accepted, behind, _and-then_, done, read-file, bytes-of, Placed}
-use Rattle.timetable.specs.NetworkFile.{station-numbers, line-numbers, Listed, network-format, blank-station, blank-line, network-with, network-of, unjoined, network-fault, unless-fault}
+use Rattle.timetable.specs.NetworkFile.{station-numbers, line-numbers, Listed, network-format, network-with, network-of, unjoined, network-fault, unless-fault}
 use Rattle.timetable.specs.NetworkFile.{read-network, network-numbers}
 use Rattle.timetable.specs.EditsFile.{edits-format, edits-numbers, Shift, Input, shift-format, read-shift}
 use Rattle.roundtrips.specs.Types.{Edit, StationRow, LineRow, Network}

@@ -8,7 +8,7 @@ use lib.Dec.{eqb}
 use lib.ListN.{length, getD, replicate}
 use Rattle.base.specs.Choice.{if_then_else_}
 use Rattle.base.specs.Lists.{first}
-use Rattle.network.specs.Networks.{station-rows, line-rows, ends-listed}
+use Rattle.network.specs.Networks.{blank-station, blank-line, station-rows, line-rows, ends-listed}
 use Rattle.timetable.specs.Types.{StationRow, LineRow, Network, Fault}
 use Rattle.timetable.specs.Formats.{Format, done, field, _and-then_, Outcome, accepted, refused, behind, read-file, Range, _to_, row, entries, Placed, placed}
 
@@ -98,13 +98,6 @@ stations-part k = stations-format k and-then (λ ss. headway-part (only-stations
 unfoldable pub network-format : Format Listed
 network-format = field 1 16 (λ k. stations-part k)
 
--- rows that are not used
-unfoldable pub blank-station : StationRow
-blank-station = record { station = record { 0 = 0 }; area = record { 0 = 0 }; tracks = 0 }
-
-unfoldable pub blank-line : LineRow
-blank-line = record { line = record { 0 = 0 }; first = record { 0 = 0 }; second = record { 0 = 0 }; kind = 0; least = 0; capacity = 0 }
-
 -- a network of these rows, the rows that are not used blank
 unfoldable pub network-with : List StationRow → ℕ → List LineRow → Network
 network-with ss h ls = record {
@@ -152,6 +145,6 @@ network-numbers n =
 -- The key ring of this module: `unfolding opened` opens every definition above.
 unfoldable pub opened : Unit {0}
 unfolding station-ranges station-of station-numbers station-entry line-ranges line-of line-numbers line-fields line-entry station-bar line-bar stations-format lines-format
-    only-stations with-headway with-lines lines-part count-part headway-part stations-part network-format blank-station blank-line network-with network-of
+    only-stations with-headway with-lines lines-part count-part headway-part stations-part network-format network-with network-of
     blank-network unjoined unjoined-fault network-fault unless-fault read-network network-numbers
 opened = tt

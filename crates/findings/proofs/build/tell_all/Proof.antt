@@ -7,11 +7,12 @@ use mathlib.Core.Path.{_≡_, refl}
 use mathlib.Core.List.{flatMap}
 use denote.Ref.{now}
 use lib.ListN.{length, length-map, take, drop}
+use Rattle.network.specs.Networks.{blank-station}
 use Rattle.sheet.specs.Sheets.{decode-sheet}
 use Rattle.findings.specs.between.Builder.{station-numbers}
 use Rattle.findings.specs.between.Builder.{list-most, station-most}
 use Rattle.findings.proofs.PutLaws.{Left, left-start, left-on, left-end, puts-as}
-use Rattle.findings.proofs.BuildLaws.{nowhere, rows-next, rows-over, stations-are}
+use Rattle.findings.proofs.BuildLaws.{rows-next, rows-over, stations-are}
 use Rattle.findings.proofs.build.tell_all.Statement.{statement}
 use Rattle.findings.proofs.build.tell_all.Tie as tie
 
@@ -48,7 +49,7 @@ loop-again c =
     let l = c .before .before .before .before .before .before .loop in
     let k = c .before .before .before .before .before .before .before .in-use in
     let many : length (s .n .stations) ≡ 16 = simp length-map at (c .before .before .before .before .before .before .before .before .before .before .before .good .1 .1 .0 .1 .1 .1 .0 .1 .0 .1) in
-    let next = rows-next (λ r. station-numbers (s .n) (s .scope) (decode-sheet (now (s .sheet))) (r .station)) (s .n .stations) (k .result) (omega (arith, k .ensures)) (l .i) nowhere (c .before .before .before .before .before .loop-test .taken) in
+    let next = rows-next (λ r. station-numbers (s .n) (s .scope) (decode-sheet (now (s .sheet))) (r .station)) (s .n .stations) (k .result) (omega (arith, k .ensures)) (l .i) blank-station (c .before .before .before .before .before .loop-test .taken) in
     (omega arith, omega (arith, c .before .before .tell-station .ensures .2), omega (arith, c .before .before .tell-station .kept .0), left-on 0 _ (now (s .out)) (l .to) (c .before .before .tell-station .result) station-most _ _ _ (l .out) _ next (l .inv .3) (c .before .before .tell-station .ensures))
 
 same-length : tie.Need-same-length Inv-loop μ-loop

@@ -8,10 +8,11 @@ use mathlib.Core.List.{map}
 use lib.Dec.{T}
 use lib.ListN.{length, length-map, getD, take, drop}
 use Rattle.base.specs.Lists.{every}
+use Rattle.network.specs.Networks.{blank-station}
 use Rattle.edits.specs.between.Pairs.{here-page}
 use Rattle.machine.specs.between.PageEdits.{has-room, visits-on, swept, sweep}
 use Rattle.sheet.specs.between.Frames.{frame, change-frame}
-use Rattle.machine.proofs.RowSteps.{nowhere, spot, places-are, room-here, room-later, swept-on, sweep-on, swept-over, sweep-over}
+use Rattle.machine.proofs.RowSteps.{spot, places-are, room-here, room-later, swept-on, sweep-on, swept-over, sweep-over}
 use Rattle.machine.proofs.pages.sweep_all.Statement.{statement}
 use Rattle.machine.proofs.pages.sweep_all.Tie as tie
 
@@ -90,7 +91,7 @@ loop-again c =
       rw (w .kept .0)
           (room-later (s .n .stations) (u .result) (omega arith) (l .i) (spot (s .divided) (s .n)) (length (l .b)) (omega arith) (l .inv .3)),
       rw is
-          (l .inv .4 ∙ ap (λ (x : ℕ). l .removed + x) on ∙ ap (λ (x : ℕ). l .removed + (x + swept (s .e) (map (spot (s .divided) (s .n)) (drop (l .i + 1) (take (u .result) (s .n .stations)))) (change-frame (spot (s .divided) (s .n) (getD (s .n .stations) (l .i) nowhere)) (here-page (s .e)) (l .b)))) (sym told) ∙ omega arith),
+          (l .inv .4 ∙ ap (λ (x : ℕ). l .removed + x) on ∙ ap (λ (x : ℕ). l .removed + (x + swept (s .e) (map (spot (s .divided) (s .n)) (drop (l .i + 1) (take (u .result) (s .n .stations)))) (change-frame (spot (s .divided) (s .n) (getD (s .n .stations) (l .i) blank-station)) (here-page (s .e)) (l .b)))) (sym told) ∙ omega arith),
       rw is (l .inv .5 ∙ sweep-on (s .n .stations) (u .result) (omega arith) (l .i) (spot (s .divided) (s .n)) (s .e) (l .b) (omega arith)),
     )
 

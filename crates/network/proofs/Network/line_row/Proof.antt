@@ -8,7 +8,7 @@ use borrow.Author.Needs.{needs}
 use borrow.Author.Tests.{eq-eqb, ne-eqb}
 use Rattle.base.specs.Lists.{first}
 use Rattle.network.specs.Types.{LineRow}
-use Rattle.network.specs.Networks.{line-found, line-row, line-rows}
+use Rattle.network.specs.Networks.{blank-line, line-found, line-row, line-rows}
 use Rattle.railway.specs.Ranges.{same-station, same-line}
 use Rattle.network.proofs.RowLaws.{used-rows, first-here, first-later, first-nowhere}
 use Rattle.network.proofs.Network.line_row.Statement.{statement}
@@ -16,10 +16,6 @@ use Rattle.network.proofs.Network.line_row.Tie as tie
 use Rattle.network.proofs.Network.line_row.Reads as reads
 use Rattle.network.proofs.Network.line_row.Lts as lts
 use Rattle.network.proofs.in_use.Reads as in-use-reads
-
--- what an array of rows is read as past its end
-abbrev nowhere : LineRow
-nowhere = record { line = record { 0 = 0 }; first = record { 0 = 0 }; second = record { 0 = 0 }; kind = 0; least = 0; capacity = 0 }
 
 abbrev Inv-loop : tie.InvT-loop
 Inv-loop l rows n i₀ i = (i ≤ n) × (first (λ r. same-line (r .line) l) (take n rows) ≡ first (λ r. same-line (r .line) l) (drop i (take n rows)))
@@ -49,7 +45,7 @@ returns c =
     sym (ap line-found (
     ap (first (λ r. same-line (r .line) (s .l))) (used-rows (s .self .lines) (s .self .linecount) 32 (u .result) many (u .ensures))
     ∙ l .inv .1
-    ∙ first-here (s .self .lines) (u .result) (omega arith) (l .i) (λ r. same-line (r .line) (s .l)) nowhere (omega arith) (eq-eqb _ _ (c .if1 .taken))))
+    ∙ first-here (s .self .lines) (u .result) (omega arith) (l .i) (λ r. same-line (r .line) (s .l)) blank-line (omega arith) (eq-eqb _ _ (c .if1 .taken))))
 
 add-i : tie.Need-add-i Inv-loop μ-loop
 add-i c = omega arith
@@ -63,7 +59,7 @@ loop-again c =
     let u = c .before .before .before .before .before .before .in-use in
     let s = c .before .before .before .before .before .before .before .before .args in
     let many : length (s .self .lines) ≡ 32 = simp length-map at (c .before .before .before .before .before .before .before .before .good .0 .1 .1 .1 .1 .1 .1 .0 .1 .0 .1) in
-    (omega arith, l .inv .1 ∙ first-later (s .self .lines) (u .result) (omega arith) (l .i) (λ r. same-line (r .line) (s .l)) nowhere (omega arith) (ne-eqb _ _ (c .if1 .left)))
+    (omega arith, l .inv .1 ∙ first-later (s .self .lines) (u .result) (omega arith) (l .i) (λ r. same-line (r .line) (s .l)) blank-line (omega arith) (ne-eqb _ _ (c .if1 .left)))
 
 returns-2 : tie.Need-returns-2 Inv-loop μ-loop
 unfolding line-row line-rows

@@ -7,14 +7,10 @@ use lib.ListN.{length, length-map, take, drop}
 use borrow.Author.Needs.{needs}
 use Rattle.base.specs.Lists.{every}
 use Rattle.network.specs.Types.{LineRow}
-use Rattle.network.specs.Networks.{ends-listed, lines-joined, line-rows}
+use Rattle.network.specs.Networks.{blank-line, ends-listed, lines-joined, line-rows}
 use Rattle.network.proofs.RowLaws.{used-rows, every-later, every-not, every-over}
 use Rattle.network.proofs.Network.lines_joined.Statement.{statement}
 use Rattle.network.proofs.Network.lines_joined.Tie as tie
-
--- what an array of rows is read as past its end
-abbrev nowhere : LineRow
-nowhere = record { line = record { 0 = 0 }; first = record { 0 = 0 }; second = record { 0 = 0 }; kind = 0; least = 0; capacity = 0 }
 
 abbrev Inv-loop : tie.InvT-loop
 Inv-loop self rows n i₀ i = (i ≤ n) × (every (ends-listed self) (take n rows) ≡ every (ends-listed self) (drop i (take n rows)))
@@ -49,7 +45,7 @@ loop-again c =
     let u = c .before .before .before .before .before .in-use in
     let s = c .before .before .before .before .before .before .before .args in
     let many : length (s .self .lines) ≡ 32 = simp length-map at (c .before .before .before .before .before .before .before .good .0 .1 .1 .1 .1 .1 .1 .0 .1 .0 .1) in
-    (omega arith, l .inv .1 ∙ every-later (s .self .lines) (u .result) (omega arith) (l .i) (ends-listed (s .self)) nowhere (omega arith) (sym (c .before .ends-listed .ensures) ∙ c .if1 .taken))
+    (omega arith, l .inv .1 ∙ every-later (s .self .lines) (u .result) (omega arith) (l .i) (ends-listed (s .self)) blank-line (omega arith) (sym (c .before .ends-listed .ensures) ∙ c .if1 .taken))
 
 returns : tie.Need-returns Inv-loop μ-loop
 unfolding lines-joined line-rows
@@ -59,7 +55,7 @@ returns c =
     let s = c .before .before .before .before .before .before .before .args in
     let many : length (s .self .lines) ≡ 32 = simp length-map at (c .before .before .before .before .before .before .before .good .0 .1 .1 .1 .1 .1 .1 .0 .1 .0 .1) in
     sym (ap (every (ends-listed (s .self))) (used-rows (s .self .lines) (s .self .linecount) 32 (u .result) many (u .ensures)) ∙ l .inv .1
-    ∙ every-not (s .self .lines) (u .result) (omega arith) (l .i) (ends-listed (s .self)) nowhere (omega arith) (sym (c .before .ends-listed .ensures) ∙ c .if1 .left))
+    ∙ every-not (s .self .lines) (u .result) (omega arith) (l .i) (ends-listed (s .self)) blank-line (omega arith) (sym (c .before .ends-listed .ensures) ∙ c .if1 .left))
 
 returns-2 : tie.Need-returns-2 Inv-loop μ-loop
 unfolding lines-joined line-rows

@@ -9,14 +9,10 @@ use lib.ListN.{length, length-map, take, drop}
 use borrow.Author.Needs.{needs}
 use Rattle.base.proofs.Tests.{true-T, and-l}
 use Rattle.network.specs.Types.{LineRow, Network}
-use Rattle.network.specs.Networks.{line-row-ok, line-rows, lines-rise}
+use Rattle.network.specs.Networks.{blank-line, line-row-ok, line-rows, lines-rise}
 use Rattle.network.proofs.RowLaws.{used-rows, chained, chained-not, chained-falls, chained-later, chained-over, rises}
 use Rattle.network.proofs.Network.lines_rise.Statement.{statement}
 use Rattle.network.proofs.Network.lines_rise.Tie as tie
-
--- what an array of rows is read as past its end
-abbrev nowhere : LineRow
-nowhere = record { line = record { 0 = 0 }; first = record { 0 = 0 }; second = record { 0 = 0 }; kind = 0; least = 0; capacity = 0 }
 
 -- a row in range has a number above 0
 above-zero : (r : LineRow) → line-row-ok r ≡ true → 0 < r .line .0
@@ -59,7 +55,7 @@ returns c =
     let s = c .before .before .before .before .before .before .before .before .before .args in
     let many : length (s .self .lines) ≡ 32 = simp length-map at (c .before .before .before .before .before .before .before .before .before .good .0 .1 .1 .1 .1 .1 .1 .0 .1 .0 .1) in
     sym (decided (s .self) (u .result) many (u .ensures) ∙ l .inv .1
-    ∙ chained-falls (s .self .lines) (u .result) (omega arith) (l .i) line-row-ok (λ r. r .line .0) (l .least) nowhere (omega arith) (c .if2 .left))
+    ∙ chained-falls (s .self .lines) (u .result) (omega arith) (l .i) line-row-ok (λ r. r .line .0) (l .least) blank-line (omega arith) (c .if2 .left))
 
 returns-2 : tie.Need-returns-2 Inv-loop μ-loop
 returns-2 c =
@@ -68,7 +64,7 @@ returns-2 c =
     let s = c .before .before .before .before .before .before .before .args in
     let many : length (s .self .lines) ≡ 32 = simp length-map at (c .before .before .before .before .before .before .before .good .0 .1 .1 .1 .1 .1 .1 .0 .1 .0 .1) in
     sym (decided (s .self) (u .result) many (u .ensures) ∙ l .inv .1
-    ∙ chained-not (s .self .lines) (u .result) (omega arith) (l .i) line-row-ok (λ r. r .line .0) (l .least) nowhere (omega arith) (sym (c .before .valid .ensures) ∙ c .if1 .left))
+    ∙ chained-not (s .self .lines) (u .result) (omega arith) (l .i) line-row-ok (λ r. r .line .0) (l .least) blank-line (omega arith) (sym (c .before .valid .ensures) ∙ c .if1 .left))
 
 add-i : tie.Need-add-i Inv-loop μ-loop
 add-i c = omega arith
@@ -84,7 +80,7 @@ loop-again c =
     let many : length (s .self .lines) ≡ 32 = simp length-map at (c .before .before .before .before .before .before .before .before .before .good .0 .1 .1 .1 .1 .1 .1 .0 .1 .0 .1) in (
       omega arith,
       l .inv .1
-          ∙ chained-later (s .self .lines) (u .result) (omega arith) (l .i) line-row-ok (λ r. r .line .0) (l .least) nowhere (omega arith)
+          ∙ chained-later (s .self .lines) (u .result) (omega arith) (l .i) line-row-ok (λ r. r .line .0) (l .least) blank-line (omega arith)
           (sym (c .before .before .before .valid .ensures) ∙ c .before .before .if1 .taken) (c .if2 .taken),
     )
 

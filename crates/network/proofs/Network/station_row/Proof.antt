@@ -8,7 +8,7 @@ use borrow.Author.Needs.{needs}
 use borrow.Author.Tests.{eq-eqb, ne-eqb}
 use Rattle.base.specs.Lists.{first}
 use Rattle.network.specs.Types.{StationRow}
-use Rattle.network.specs.Networks.{station-found, station-row, station-rows}
+use Rattle.network.specs.Networks.{blank-station, station-found, station-row, station-rows}
 use Rattle.railway.specs.Ranges.{same-station, same-line}
 use Rattle.network.proofs.RowLaws.{used-rows, first-here, first-later, first-nowhere}
 use Rattle.network.proofs.Network.station_row.Statement.{statement}
@@ -16,10 +16,6 @@ use Rattle.network.proofs.Network.station_row.Tie as tie
 use Rattle.network.proofs.Network.station_row.Reads as reads
 use Rattle.network.proofs.Network.station_row.Lts as lts
 use Rattle.network.proofs.in_use.Reads as in-use-reads
-
--- what an array of rows is read as past its end
-abbrev nowhere : StationRow
-nowhere = record { station = record { 0 = 0 }; area = record { 0 = 0 }; tracks = 0 }
 
 abbrev Inv-loop : tie.InvT-loop
 Inv-loop s rows n i₀ i = (i ≤ n) × (first (λ r. same-station (r .station) s) (take n rows) ≡ first (λ r. same-station (r .station) s) (drop i (take n rows)))
@@ -49,7 +45,7 @@ returns c =
     sym (ap station-found (
     ap (first (λ r. same-station (r .station) (s .s))) (used-rows (s .self .stations) (s .self .stationcount) 16 (u .result) many (u .ensures))
     ∙ l .inv .1
-    ∙ first-here (s .self .stations) (u .result) (omega arith) (l .i) (λ r. same-station (r .station) (s .s)) nowhere (omega arith) (eq-eqb _ _ (c .if1 .taken))))
+    ∙ first-here (s .self .stations) (u .result) (omega arith) (l .i) (λ r. same-station (r .station) (s .s)) blank-station (omega arith) (eq-eqb _ _ (c .if1 .taken))))
 
 add-i : tie.Need-add-i Inv-loop μ-loop
 add-i c = omega arith
@@ -63,7 +59,7 @@ loop-again c =
     let u = c .before .before .before .before .before .before .in-use in
     let s = c .before .before .before .before .before .before .before .before .args in
     let many : length (s .self .stations) ≡ 16 = simp length-map at (c .before .before .before .before .before .before .before .before .good .0 .1 .1 .1 .0 .1 .0 .1) in
-    (omega arith, l .inv .1 ∙ first-later (s .self .stations) (u .result) (omega arith) (l .i) (λ r. same-station (r .station) (s .s)) nowhere (omega arith) (ne-eqb _ _ (c .if1 .left)))
+    (omega arith, l .inv .1 ∙ first-later (s .self .stations) (u .result) (omega arith) (l .i) (λ r. same-station (r .station) (s .s)) blank-station (omega arith) (ne-eqb _ _ (c .if1 .left)))
 
 returns-2 : tie.Need-returns-2 Inv-loop μ-loop
 unfolding station-row station-rows

@@ -1,11 +1,10 @@
 -- `network_files::draft::empty_line` meets its contract by computation. Assumes nothing.
 use mathlib.Core.Path.{refl}
-use Rattle.timetable.specs.NetworkFile.{blank-line}
+use Rattle.network.specs.Networks.{blank-line}
 use Rattle.network_files.proofs.draft.empty_line.Statement.{statement}
 use Rattle.network_files.proofs.draft.empty_line.Tie as tie
 
 returns : tie.Need-returns
-unfolding blank-line
 returns c = refl
 
 pub empty-line-spec : {M : Type 1} → statement M

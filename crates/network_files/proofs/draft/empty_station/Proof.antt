@@ -1,11 +1,10 @@
 -- `network_files::draft::empty_station` meets its contract by computation. Assumes nothing.
 use mathlib.Core.Path.{refl}
-use Rattle.timetable.specs.NetworkFile.{blank-station}
+use Rattle.network.specs.Networks.{blank-station}
 use Rattle.network_files.proofs.draft.empty_station.Statement.{statement}
 use Rattle.network_files.proofs.draft.empty_station.Tie as tie
 
 returns : tie.Need-returns
-unfolding blank-station
 returns c = refl
 
 pub empty-station-spec : {M : Type 1} → statement M

@@ -11,9 +11,9 @@ use borrow.Author.Needs.{needs}
 use Rattle.base.specs.Lists.{first}
 use Rattle.network.specs.declared.LineRow.{LineRow}
 use Rattle.network.specs.declared.Network.{Network}
-use Rattle.network.specs.Networks.{ends-listed}
+use Rattle.network.specs.Networks.{blank-line, ends-listed}
 use Rattle.timetable.specs.Formats.{Outcome, accepted, refused, read, entries, Placed}
-use Rattle.timetable.specs.NetworkFile.{unjoined-fault, line-fields, line-entry, line-bar, lines-format, blank-line}
+use Rattle.timetable.specs.NetworkFile.{unjoined-fault, line-fields, line-entry, line-bar, lines-format}
 use Rattle.network_files.specs.declared.draft.LinesRead.{LinesRead}
 use Rattle.timetable.specs.declared.Fault.{Fault}
 use Rattle.fields.specs.between.Answers.{padded}

@@ -8,9 +8,10 @@ use native.Mathlib.Omega.{arith}
 use lib.ListN.{length, set}
 use denote.Ref.{now}
 use borrow.Author.Needs.{needs}
+use Rattle.network.specs.Networks.{blank-station}
 use Rattle.network.specs.declared.StationRow.{StationRow}
 use Rattle.timetable.specs.Formats.{Outcome, accepted, refused, read, entries}
-use Rattle.timetable.specs.NetworkFile.{station-entry, station-bar, stations-format, blank-station}
+use Rattle.timetable.specs.NetworkFile.{station-entry, station-bar, stations-format}
 use Rattle.network_files.specs.declared.draft.StationsRead.{StationsRead}
 use Rattle.fields.specs.between.Answers.{padded}
 use Rattle.network_files.specs.Answers.{stations-read}

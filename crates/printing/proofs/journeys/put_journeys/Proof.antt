@@ -7,8 +7,8 @@ use native.Mathlib.Omega.{arith}
 use denote.Ref.{now}
 use lib.ListN.{length, length-map, take}
 use borrow.Author.Needs.{needs}
+use Rattle.network.specs.Networks.{blank-station}
 use Rattle.sheet.specs.Sheets.{decode-sheet}
-use Rattle.findings.proofs.BuildLaws.{nowhere}
 use Rattle.listings.specs.Inspect.{visit-text}
 use Rattle.printing.specs.Types.{StationRow}
 use Rattle.printing.proofs.PutLaws.{Unwritten, one-on, all-put}
@@ -70,7 +70,7 @@ loop-again c =
       omega arith,
       omega (arith, w .ensures .2),
       w .kept .0 ∙ l .inv .2,
-      one-on (λ (r : StationRow). flatMap (visit-text (s .n) (decode-sheet (now (s .sheet))) (r .station)) (decode-sheet (now (s .sheet)) (r .station) .visits)) (s .n .stations) (k .result) 0 (now (s .out)) (omega (arith, many, k .ensures .0, count-high (c .before .before .before .before .before .before .before .before .before .before .before .args .n) (fine-network (c .before .before .before .before .before .before .before .before .before .before .before .args .n) (now (c .before .before .before .before .before .before .before .before .before .before .before .args .sheet)) (c .before .before .before .before .before .before .before .before .before .before .before .pre)) (decode-sheet (now (c .before .before .before .before .before .before .before .before .before .before .before .args .sheet))))) (l .i) nowhere (l .next) (l .out) (l .inv .3)
+      one-on (λ (r : StationRow). flatMap (visit-text (s .n) (decode-sheet (now (s .sheet))) (r .station)) (decode-sheet (now (s .sheet)) (r .station) .visits)) (s .n .stations) (k .result) 0 (now (s .out)) (omega (arith, many, k .ensures .0, count-high (c .before .before .before .before .before .before .before .before .before .before .before .args .n) (fine-network (c .before .before .before .before .before .before .before .before .before .before .before .args .n) (now (c .before .before .before .before .before .before .before .before .before .before .before .args .sheet)) (c .before .before .before .before .before .before .before .before .before .before .before .pre)) (decode-sheet (now (c .before .before .before .before .before .before .before .before .before .before .before .args .sheet))))) (l .i) blank-station (l .next) (l .out) (l .inv .3)
           (c .before .before .before .before .before .loop-test .taken) _ refl (w .result) (w .last .0) 27648 (w .ensures),
     )
 
@@ -87,7 +87,7 @@ returns c =
     let k = c .before .before .size in
     let l = c .before .loop in
     let text : StationRow → List ℕ = (λ (r : StationRow). flatMap (visit-text (s .n) (decode-sheet (now (s .sheet))) (r .station)) (decode-sheet (now (s .sheet)) (r .station) .visits)) in
-    all-put text (s .n .stations) (k .result) 0 (now (s .out)) (omega (arith, many, k .ensures .0, high)) (l .i) nowhere (l .next) (l .out) (l .inv .3) (c .loop-test .left) _
+    all-put text (s .n .stations) (k .result) 0 (now (s .out)) (omega (arith, many, k .ensures .0, high)) (l .i) blank-station (l .next) (l .out) (l .inv .3) (c .loop-test .left) _
     (ap (λ (j : ℕ). flatMap text (take j (s .n .stations))) (k .ensures .0) ∙ rows-journeys (s .n) net (decode-sheet (now (s .sheet)))) 442368 (omega (arith, l .inv .0, l .inv .1, k .ensures .0, high))
 
 pub put-journeys-spec : {M : Type 1} → statement M

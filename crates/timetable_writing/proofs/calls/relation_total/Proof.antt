@@ -6,9 +6,8 @@ use native.Mathlib.Omega.{arith}
 use denote.Ref.{now}
 use lib.ListN.{length, length-map}
 use borrow.Author.Needs.{needs}
-use Rattle.network.specs.Networks.{station-rows}
+use Rattle.network.specs.Networks.{blank-station, station-rows}
 use Rattle.timetable.specs.Tables.{Table}
-use Rattle.timetable.specs.NetworkFile.{blank-station}
 use Rattle.page.specs.between.Changes.{table-in}
 use Rattle.sheet.specs.Sheets.{decode-sheet}
 use Rattle.sheet.proofs.StationLaws.{station-table}
@@ -54,7 +53,6 @@ loop-less : tie.Need-loop-less Inv-loop μ-loop
 loop-less c = omega arith
 
 loop-again : tie.Need-loop-again Inv-loop μ-loop
-unfolding blank-station
 loop-again c =
     let q = c .before .before .before .before .before .before .before .before .before in
     let s = q .args in
