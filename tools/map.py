@@ -20,6 +20,7 @@ from itertools import pairwise
 from pathlib import Path
 from typing import NamedTuple
 
+sys.dont_write_bytecode = True  # Leaves nothing beside the tools.
 from encode import Damaged, decode, parse
 
 
@@ -139,26 +140,24 @@ def read_relation(numbers):
     return station, Relation(kind, interval, row(numbers, count))
 
 
-def read_day(listed):
-    """The network and the timetable that `inspect` did not refuse."""
-    numbers = iter(listed)
-    stations = {number: Station(*row(numbers, 2)) for number in each(numbers)}
-    headway = one(numbers)
-    lines = {number: Line(*row(numbers, 5)) for number in each(numbers)}
+def read_rows(numbers, kind, fields):
+    """A count, then rows by their first number."""
+    rows = [row(numbers, 1 + fields) for _ in range(one(numbers))]
+    return {first: kind(*rest) for first, *rest in rows}
+
+
+def read_day(numbers):
+    """The network and the timetable of a file that `inspect` did not refuse."""
+    numbers = iter(numbers)
+    stations, headway, lines = read_rows(numbers, Station, 2), one(numbers), read_rows(numbers, Line, 5)
     visits = dict(read_visit(numbers) for _ in range(one(numbers)))
-    relations = {station: [] for station in stations}
+    relations = {}
     for _ in range(one(numbers)):
         station, relation = read_relation(numbers)
         relations.setdefault(station, []).append(relation)
     if any(True for _ in numbers):
         raise Damaged("the numbers go on behind the timetable")
     return Day(stations, headway, lines, visits, relations)
-
-
-def each(numbers):
-    """A count, then the first number of each row, the reader taking the rest of the row in between."""
-    for _ in range(one(numbers)):
-        yield one(numbers)
 
 
 def run_inspect(numbers):
@@ -194,23 +193,28 @@ def read_findings(said):
     return found, areas, counts
 
 
+# Rules whose train has an out-link.
+LEAVING = (3, 5, 6, 7, 9, 10)
+
+
 def fits(day, finding):
     """Whether the timetable has what a finding names."""
     station, rule, first, second = finding
     if rule == 4:
         return 1 <= first <= len(day.relations.get(station, []))
     visit = day.visits.get((station, first))
-    if visit is None or rule not in RULES or rule in LEAVING and not visit.after or rule == 8 and not visit.before:
+    if visit is None or rule in LEAVING and not visit.after or rule == 8 and not visit.before:
         return False
     if rule in (2, 3, 10):
         other = day.visits.get((visit.after.station if rule == 10 else station, second))
         return other is not None and (rule == 2 or other.after is not None)
-    return True
+    return 1 <= rule <= 10
 
 
-def compare(day, found, counts):
+def test_match(day, found, counts):
     """Refuses findings of another timetable."""
-    if counts != [len(day.visits), sum(map(len, day.relations.values()))] or not all(fits(day, one) for one in found):
+    relations = sum(len(listed) for listed in day.relations.values())
+    if counts != [len(day.visits), relations] or not all(fits(day, finding) for finding in found):
         raise Damaged("the findings are those of another timetable")
 
 
@@ -285,12 +289,6 @@ def walks_of(day):
 
 # Words.
 
-KINDS = {1: "connection", 2: "disconnection", 3: "dependency"}
-
-# Rules whose train has an out-link.
-LEAVING = (3, 5, 6, 7, 9, 10)
-
-
 def clock(time):
     """Minutes as hours and minutes; the second day's are marked."""
     return f"{time // 60 % 24:02}:{time % 60:02}" + (" +1" if time >= 1440 else "")
@@ -300,7 +298,7 @@ def moment_words(moment):
     return f"{clock(moment.time)} ({'occurred' if moment.occurred else 'pending'})"
 
 
-def listed(numbers):
+def listing(numbers):
     *most, last = map(str, numbers)
     return f"{', '.join(most)} and {last}" if most else last
 
@@ -316,12 +314,12 @@ def rule_2(_day, _station, train, visit, other):
 
 def rule_3(day, station, train, visit, other):
     times = [day.visits[station, one].departure.time for one in (train, other)]
-    return (f"trains {train} and {other} leave on line {visit.after.line} at {listed(map(clock, times))}, "
+    return (f"trains {train} and {other} leave on line {visit.after.line} at {listing(map(clock, times))}, "
             f"closer than the headway of {day.headway} min")
 
 
 def rule_4(relation):
-    trains = listed(relation.trains)
+    trains = listing(relation.trains)
     least = f"{relation.interval} min or more"
     if relation.kind == 1:
         return f"unmet connection of trains {trains}: all should visit and stop, each two together for {least}"
@@ -368,7 +366,7 @@ def rule_10(_day, station, train, visit, other):
             f"before that nor departs from station {there} after train {train}'s departure + run")
 
 
-RULES = {1: rule_1, 2: rule_2, 3: rule_3, 4: rule_4, 5: rule_5, 6: rule_6, 7: rule_7, 8: rule_8, 9: rule_9, 10: rule_10}
+RULES = {1: rule_1, 2: rule_2, 3: rule_3, 5: rule_5, 6: rule_6, 7: rule_7, 8: rule_8, 9: rule_9, 10: rule_10}
 
 
 def finding_words(day, finding, areas):
@@ -378,7 +376,7 @@ def finding_words(day, finding, areas):
         said = rule_4(day.relations[station][first - 1])
     else:
         said = RULES[rule](day, station, first, day.visits[station, first], second)
-    falls = f" ({'areas' if len(areas) > 1 else 'area'} {listed(areas)})" if areas else ""
+    falls = f" ({'areas' if len(areas) > 1 else 'area'} {listing(areas)})" if areas else ""
     return f"Rule {rule} at station {station}: {said}{falls}"
 
 
@@ -417,7 +415,7 @@ class Plan:
         times += [run.arrival.time for run in runs_of(day)]
         self.begin = max(min(times, default=0) - 3, 0) // 10 * 10
         self.end = max(-(-(max(times, default=0) + 3) // 10) * 10, self.begin + 30)
-        self.scale = scale or min(max(1200 / (self.end - self.begin), 2), 20)
+        self.scale = scale or min(max(1200 / (self.end - self.begin), 2), 36)
         self.tops, y = [], TOP
         for walk in self.walks:
             self.tops.append(self.spread(walk, y))
@@ -848,6 +846,12 @@ def draw(day, found, areas, scale):
                viewBox=f"0 0 {width:.0f} {height:.0f}", font_family="sans-serif") + "\n"
 
 
+def pixels(said):
+    if not 0.5 <= float(said) <= 100:
+        raise ValueError
+    return float(said)
+
+
 def options():
     about, _, more = __doc__.partition("\n\n")
     parser = argparse.ArgumentParser(
@@ -856,7 +860,7 @@ def options():
     parser.add_argument("-o", "--output", metavar="SVG", help="where the picture goes; without it, standard output")
     parser.add_argument("--findings", metavar="FILE", help="what inspect printed, - for standard input; without it, "
                         "tools/run.sh runs inspect")
-    parser.add_argument("--scale", type=float, metavar="PIXELS", help="the width of a minute")
+    parser.add_argument("--scale", type=pixels, metavar="PIXELS", help="the width of a minute, 0.5 to 100")
     return parser.parse_args()
 
 
@@ -867,10 +871,10 @@ def main():
         if arguments.findings is None:
             said = run_inspect(numbers)
         else:
-            said = sys.stdin.read() if arguments.findings == "-" else Path(arguments.findings).read_text()
+            said = Path("/dev/stdin" if arguments.findings == "-" else arguments.findings).read_text(errors="replace")
         found, areas, counts = read_findings(said)
         day = read_day(numbers)
-        compare(day, found, counts)
+        test_match(day, found, counts)
         picture = draw(day, found, areas, arguments.scale)
         if arguments.output:
             Path(arguments.output).write_text(picture, encoding="utf-8")
