@@ -1,5 +1,5 @@
 #!/usr/bin/env bash
-# Builds the second implementation and compares the programs with it.
+# Builds the second implementation, tries the drawing of running maps with it, and compares the programs with it.
 #
 #   tests/run.sh SHIFT INSPECT [options of compare.py]
 #   SHIFT=.. INSPECT=.. tests/run.sh
@@ -10,6 +10,7 @@ here=$(cd "$(dirname "${BASH_SOURCE[0]}")" && pwd)
 built="$here/../reference/target/release"
 
 (cd "$here/../reference" && cargo build --release --offline --quiet)
+python3 "$here/maps.py" "$built/inspect"
 
 if [ $# -ge 2 ] && [ "${1#-}" = "$1" ]; then
     SHIFT=$1 INSPECT=$2
