@@ -45,7 +45,7 @@ def faults(inspect):
         yield "the visits drawn aren't those of the timetable"
     if not {train for _, train in visits} <= {text.text for text in root.iter(SVG + "text")}:
         yield "a train has no number"
-    bad = [("day.txt", "R 3 17\n", "with 3 at byte 17"), ("timetable.txt", said, "another timetable")]
+    bad = [("day.txt", "R 3 17\n", "with 3 at byte 17"), ("timetable.txt", said, "another file")]
     for name, given, wanted in bad:
         status, picture, complaint = drawn(name, given)
         if status != 1 or picture or wanted not in complaint:

@@ -114,23 +114,23 @@ def read_numbers(path):
         raise Damaged(f"byte {fault.start}: the text is not UTF-8") from None
 
 
-def one(numbers):
+def take(numbers):
     for number in numbers:
         return number
     raise Damaged("the numbers end early")
 
 
 def row(numbers, count):
-    return [one(numbers) for _ in range(count)]
+    return [take(numbers) for _ in range(count)]
 
 
 def read_visit(numbers):
     station, train, track, arrival, arrived, departure, departed = row(numbers, 7)
-    previous = one(numbers)
-    before = Link(previous, one(numbers)) if previous else None
-    following = one(numbers)
-    after = Link(following, one(numbers)) if following else None
-    run = one(numbers) if following else 0
+    previous = take(numbers)
+    before = Link(previous, take(numbers)) if previous else None
+    following = take(numbers)
+    after = Link(following, take(numbers)) if following else None
+    run = take(numbers) if following else 0
     moments = Moment(arrival, arrived == 1), Moment(departure, departed == 1)
     return (station, train), Visit(track, *moments, before, after, run)
 
@@ -142,17 +142,17 @@ def read_relation(numbers):
 
 def read_rows(numbers, kind, fields):
     """A count, then rows by their first number."""
-    rows = [row(numbers, 1 + fields) for _ in range(one(numbers))]
+    rows = [row(numbers, 1 + fields) for _ in range(take(numbers))]
     return {first: kind(*rest) for first, *rest in rows}
 
 
 def read_day(numbers):
     """The network and the timetable of a file that `inspect` did not refuse."""
     numbers = iter(numbers)
-    stations, headway, lines = read_rows(numbers, Station, 2), one(numbers), read_rows(numbers, Line, 5)
-    visits = dict(read_visit(numbers) for _ in range(one(numbers)))
+    stations, headway, lines = read_rows(numbers, Station, 2), take(numbers), read_rows(numbers, Line, 5)
+    visits = dict(read_visit(numbers) for _ in range(take(numbers)))
     relations = {}
-    for _ in range(one(numbers)):
+    for _ in range(take(numbers)):
         station, relation = read_relation(numbers)
         relations.setdefault(station, []).append(relation)
     if any(True for _ in numbers):
@@ -171,14 +171,19 @@ def run_inspect(numbers):
     return said
 
 
+def read_line(line):
+    """The letter and the numbers of a line of `inspect`."""
+    letter, *words = line.split() or [""]
+    try:
+        return letter, [int(word) for word in words]
+    except ValueError:
+        raise Damaged(f"not a line of inspect: {line!r}") from None
+
+
 def read_findings(said):
     """Of what `inspect` prints: the findings, to whom each falls (areas), and the counts of visits and relations."""
     found, areas, counts = [], {}, None
-    for line in said.splitlines():
-        letter, *words = line.split() or [""]
-        if not all(word.lstrip("-").isdecimal() for word in words):
-            raise Damaged(f"not a line of inspect: {line!r}")
-        numbers = [int(word) for word in words]
+    for letter, numbers in map(read_line, said.splitlines()):
         if letter == "R" and len(numbers) == 2:
             number, place = numbers
             raise Damaged(f"inspect refuses the file with {number} at byte {place}: {REFUSALS.get(number, 'refused')}")
@@ -211,11 +216,21 @@ def fits(day, finding):
     return 1 <= rule <= 10
 
 
-def test_match(day, found, counts):
-    """Refuses findings of another timetable."""
-    relations = sum(len(listed) for listed in day.relations.values())
-    if counts != [len(day.visits), relations] or not all(fits(day, finding) for finding in found):
-        raise Damaged("the findings are those of another timetable")
+def joined(day, station, link):
+    """Whether a link goes by a line between its two stations."""
+    line = day.lines.get(link.line)
+    return line is not None and {line.first, line.second} == {station, link.station}
+
+
+def check_match(day, found, counts):
+    """Refuses findings of another file; `inspect` refuses one that names unknown stations or lines."""
+    relations = sum(len(ranked) for ranked in day.relations.values())
+    links = [(at, link) for (at, _), visit in day.visits.items() for link in (visit.before, visit.after) if link]
+    known = (all(at in day.stations for at, _ in day.visits) and all(at in day.stations for at in day.relations)
+             and all({line.first, line.second} <= set(day.stations) for line in day.lines.values())
+             and all(joined(day, *link) for link in links))
+    if counts != [len(day.visits), relations] or not known or not all(fits(day, finding) for finding in found):
+        raise Damaged("the findings are those of another file")
 
 
 # The railway.
@@ -304,7 +319,8 @@ def listing(numbers):
 
 
 def rule_1(_day, _station, train, visit, _other):
-    return f"train {train} departs at {moment_words(visit.departure)}, arrives at {moment_words(visit.arrival)}"
+    return (f"train {train} arrives {moment_words(visit.arrival)} and departs {moment_words(visit.departure)}: "
+            "departure before arrival, or occurred with arrival pending")
 
 
 def rule_2(_day, _station, train, visit, other):
@@ -376,7 +392,7 @@ def finding_words(day, finding, areas):
         said = rule_4(day.relations[station][first - 1])
     else:
         said = RULES[rule](day, station, first, day.visits[station, first], second)
-    falls = f" ({'areas' if len(areas) > 1 else 'area'} {listing(areas)})" if areas else ""
+    falls = f" (falls to {'areas' if len(areas) > 1 else 'area'} {listing(areas)})" if areas else ""
     return f"Rule {rule} at station {station}: {said}{falls}"
 
 
@@ -599,7 +615,7 @@ def draw_station(plan, at, station):
     """A station's name and its tracks."""
     area, tracks = plan.day.stations[station]
     ys = [plan.y(at, station, track) for track in range(1, tracks + 1)]
-    words = f"Station {station}: area {area}, {tracks} tracks"
+    words = f"Station {station}, area {area}; count of tracks: {tracks}"
     return told(words, text(10, (ys[0] + ys[-1]) / 2 + 4, f"Station {station}", 13, font_weight="bold"),
                 *(stroke((LEFT, y), (plan.right, y), stroke="#8a8a8a", stroke_width=0.7) for y in ys))
 
@@ -618,7 +634,7 @@ def draw_lines(plan, at, above, below):
 
 def draw_walk(plan, at):
     walk = plan.walks[at]
-    title = f"Stations {walk[0]} to {walk[-1]}" if len(walk) > 1 else f"Station {walk[0]}, without lines"
+    title = f"Stations {walk[0]} to {walk[-1]}" if len(walk) > 1 else "No lines"
     parts = [*draw_areas(plan, at), *draw_times(plan, at), text(10, plan.tops[at][walk[0]] - 19, title)]
     parts += [draw_station(plan, at, station) for station in walk]
     return parts + [draw_lines(plan, at, *pair) for pair in pairwise(walk)]
@@ -703,7 +719,7 @@ def crowd_of(plan):
 
 def label_choices(ends, number):
     """Places for a train's number along a run, above it, with the points that it covers; one too short costs more."""
-    (ax, ay), (bx, by) = ends
+    (ax, ay), (bx, by) = sorted(ends)
     length, width = math.dist(*ends), 7 * len(number)
     if length == 0:
         return []
@@ -835,12 +851,12 @@ def draw(day, found, areas, scale):
     marks = draw_marks(plan, found, areas, crowd)
     parts += draw_labels(plan, crowd) + marks
     trains = len({train for _, train in day.visits})
-    parts.append(text(10, 26, f"Running map, {clock(plan.begin)} to {clock(plan.end)}: {trains} trains", 15,
-                      font_weight="bold"))
+    span = f"{clock(plan.begin)} to {clock(plan.end)}{' (+1: the next day)' if plan.end >= 1440 else ''}"
+    parts.append(text(10, 26, f"Running map, {span}; trains: {trains}", 15, font_weight="bold"))
     legend, wide = draw_legend(plan.bottom + 8, now, len(plan.walks))
     parts += legend + draw_list(plan, found, areas, plan.bottom + 44)
     width, height = max(plan.right + RIGHT, wide), plan.bottom + 64 + 20 * len(found)
-    return tag("svg", tag("style", ".train:hover { stroke-width: 3.4 }"),
+    return tag("svg", tag("style", ".train:hover g { stroke-width: 3.4 }"),
                tag("rect", width=float(width), height=float(height), fill="white"), "\n", "\n".join(parts), "\n",
                xmlns="http://www.w3.org/2000/svg", width=float(width), height=float(height),
                viewBox=f"0 0 {width:.0f} {height:.0f}", font_family="sans-serif") + "\n"
@@ -874,7 +890,7 @@ def main():
             said = Path("/dev/stdin" if arguments.findings == "-" else arguments.findings).read_text(errors="replace")
         found, areas, counts = read_findings(said)
         day = read_day(numbers)
-        test_match(day, found, counts)
+        check_match(day, found, counts)
         picture = draw(day, found, areas, arguments.scale)
         if arguments.output:
             Path(arguments.output).write_text(picture, encoding="utf-8")
