@@ -1,4 +1,2 @@
 pub mod EditLaws
-pub mod ListLaws
-pub mod WritingLaws
-pub mod RoundTrip
+pub mod EditsParts

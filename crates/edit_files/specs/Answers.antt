@@ -1,4 +1,5 @@
--- What the calls on edits in files answer, for each outcome of reading. Assumes nothing.
+-- The outcome that each answer of an enum tells, and what the other calls on edits in files answer for each outcome of
+-- reading. Assumes nothing.
 use Prim.Native.Nat.{ℕ}
 use mathlib.Core.Bool.{Bool, true, false}
 use mathlib.Core.List.{List, []}
@@ -16,18 +17,23 @@ use Rattle.edit_files.specs.declared.list.EditsPart.{EditsPart}
 use Rattle.edit_files.specs.declared.list.EditsRead.{EditsRead}
 use Rattle.edit_files.specs.declared.input.ShiftRead.{ShiftRead}
 
-unfoldable pub edit-read : Outcome Edit → EditRead
-edit-read (accepted e next) = EditRead.Entry e next
-edit-read (refused k p) = EditRead.Refused k p
+-- document 01's number and values for each case of an answer
 
-unfoldable pub next-read : Outcome Edit → NextEdit
-next-read (accepted e next) = NextEdit.Entry e (record { at = next })
-next-read (refused k p) = NextEdit.Refused k p
+unfoldable pub edit-outcome : EditRead → Outcome Edit
+edit-outcome (EditRead.Entry e next) = accepted e next
+edit-outcome (EditRead.Refused k p) = refused k p
 
--- lists of edits: their end
-unfoldable pub scan-read : Outcome (List Edit) → Scan
-scan-read (accepted es next) = Scan.End next
-scan-read (refused k p) = Scan.Refused k p
+-- the place behind the edit is the cursor's
+unfoldable pub next-outcome : NextEdit → Outcome Edit
+next-outcome (NextEdit.Entry e c) = accepted e (c .at)
+next-outcome (NextEdit.Refused k p) = refused k p
+
+-- of a list of edits, its end alone
+unfoldable pub scan-outcome : Scan → Outcome (Unit {0})
+scan-outcome (Scan.End next) = accepted tt next
+scan-outcome (Scan.Refused k p) = refused k p
+
+-- lists of edits
 
 unfoldable pub edits-read : Outcome (Placed (List Edit)) → EditsPart
 edits-read (accepted es next) = record { accepted = true; refusal = 0; place = next; first = es .place; count = length (es .entry) }
@@ -49,5 +55,5 @@ shift-answer o =
 
 -- The key ring of this module: `unfolding opened` opens every definition above.
 unfoldable pub opened : Unit {0}
-unfolding edit-read next-read scan-read edits-read edits-answer shift-answer
+unfolding edit-outcome next-outcome scan-outcome edits-read edits-answer shift-answer
 opened = tt

@@ -8,7 +8,7 @@ ghost use Rattle.timetable.specs.EditsFile.{station-relation-entry, plan-ranges
 ghost use Rattle.railway.specs.declared.edit.Edit.the-variants.{AddRelation, RemoveRelation};
 ghost use Rattle.timetable.specs.EditsFile.{plan-of, extension-of, deletion-of, report-of, edit-ranges, edit-of, edit-fields, edit-entry};
 ghost use Rattle.fields.specs.between.Answers.{ranges-of};
-ghost use Rattle.edit_files.specs.Answers.{edit-read, next-read};
+ghost use Rattle.edit_files.specs.Answers.{edit-outcome, next-outcome};
 use fields::bar::no_bar;
 use fields::field::FieldRead;
 use fields::field::Span;
@@ -97,7 +97,10 @@ fn plan_spans() -> Spans
     let station = Span { lo: 1, hi: 16 };
     let train = Span { lo: 1, hi: 9999 };
     let track = Span { lo: 1, hi: 8 };
-    let time = Span { lo: 0, hi: 2879 };
+    let time = Span {
+        lo: 0,
+        hi: Minute::LAST,
+    };
     Spans {
         count: 5,
         spans: [station, train, track, time, time, none, none, none],
@@ -110,7 +113,10 @@ fn extension_spans() -> Spans
     let station = Span { lo: 1, hi: 16 };
     let train = Span { lo: 1, hi: 9999 };
     let track = Span { lo: 1, hi: 8 };
-    let time = Span { lo: 0, hi: 2879 };
+    let time = Span {
+        lo: 0,
+        hi: Minute::LAST,
+    };
     let line = Span { lo: 1, hi: 32 };
     let run = Span { lo: 1, hi: 240 };
     Spans {
@@ -170,10 +176,10 @@ fn edit_spans(kind: u16) -> Spans
         return plan_spans();
     }
     if kind == 7 {
-        return three_spans(0, 2879);
+        return three_spans(0, Minute::LAST);
     }
     if kind == 8 {
-        return three_spans(0, 2879);
+        return three_spans(0, Minute::LAST);
     }
     train_spans()
 }
@@ -210,7 +216,7 @@ fn edit_from(kind: u16, v: [u16; 12]) -> Edit
 }
 
 fn fields_edit(file: &[u8], at: usize, kind: u16) -> EditRead
-    ensures { λ r. ⌜ r ≡ edit-read (read (row (edit-ranges kind) [] and-then (λ ns. done (edit-of kind ns))) (now (file .entry)) at) ⌝ }
+    ensures { λ r. ⌜ edit-outcome r ≡ read (row (edit-ranges kind) [] and-then (λ ns. done (edit-of kind ns))) (now (file .entry)) at ⌝ }
 {
     let read = row(file, at, edit_spans(kind));
     if read.accepted {
@@ -221,7 +227,7 @@ fn fields_edit(file: &[u8], at: usize, kind: u16) -> EditRead
 }
 
 fn add_edit(file: &[u8], at: usize) -> EditRead
-    ensures { λ r. ⌜ r ≡ edit-read (read (station-relation-entry [] and-then (λ x. done (AddRelation x))) (now (file .entry)) at) ⌝ }
+    ensures { λ r. ⌜ edit-outcome r ≡ read (station-relation-entry [] and-then (λ x. done (AddRelation x))) (now (file .entry)) at ⌝ }
 {
     let read = relation_entry(file, at, no_bar());
     match read {
@@ -231,7 +237,7 @@ fn add_edit(file: &[u8], at: usize) -> EditRead
 }
 
 fn remove_edit(file: &[u8], at: usize) -> EditRead
-    ensures { λ r. ⌜ r ≡ edit-read (read (station-relation-entry [] and-then (λ x. done (RemoveRelation x))) (now (file .entry)) at) ⌝ }
+    ensures { λ r. ⌜ edit-outcome r ≡ read (station-relation-entry [] and-then (λ x. done (RemoveRelation x))) (now (file .entry)) at ⌝ }
 {
     let read = relation_entry(file, at, no_bar());
     match read {
@@ -241,7 +247,7 @@ fn remove_edit(file: &[u8], at: usize) -> EditRead
 }
 
 fn edit_of_kind(file: &[u8], at: usize, kind: u16) -> EditRead
-    ensures { λ r. ⌜ r ≡ edit-read (read (edit-fields kind) (now (file .entry)) at) ⌝ }
+    ensures { λ r. ⌜ edit-outcome r ≡ read (edit-fields kind) (now (file .entry)) at ⌝ }
 {
     if kind == 9 {
         return add_edit(file, at);
@@ -253,7 +259,7 @@ fn edit_of_kind(file: &[u8], at: usize, kind: u16) -> EditRead
 }
 
 pub fn read_edit(file: &[u8], at: usize) -> EditRead
-    ensures { λ r. ⌜ r ≡ edit-read (read edit-entry (now (file .entry)) at) ⌝ }
+    ensures { λ r. ⌜ edit-outcome r ≡ read edit-entry (now (file .entry)) at ⌝ }
 {
     let kind = field(file, at, 1, 11);
     match kind {
@@ -264,7 +270,7 @@ pub fn read_edit(file: &[u8], at: usize) -> EditRead
 
 // The edit at a cursor, tested by itself.
 pub fn next_edit(file: &[u8], c: Cursor) -> NextEdit
-    ensures { λ r. ⌜ r ≡ next-read (read edit-entry (now (file .entry)) (c .at)) ⌝ }
+    ensures { λ r. ⌜ next-outcome r ≡ read edit-entry (now (file .entry)) (c .at) ⌝ }
 {
     let read = read_edit(file, c.at);
     match read {

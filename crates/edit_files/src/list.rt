@@ -2,7 +2,8 @@
 ghost use mathlib.Core.Path.{_≡_};
 ghost use Rattle.timetable.specs.Formats.{refused, read, placed};
 ghost use Rattle.timetable.specs.EditsFile.{edits-on, edits-format, read-edits};
-ghost use Rattle.edit_files.specs.Answers.{scan-read, edits-read, edits-answer};
+ghost use Rattle.fields.specs.Outcomes.{end-of};
+ghost use Rattle.edit_files.specs.Answers.{scan-outcome, edits-read, edits-answer};
 use crate::edit::EditRead;
 use crate::edit::read_edit;
 use fields::field::FieldRead;
@@ -34,7 +35,7 @@ pub struct EditsRead {
 
 // So many edits, each tested.
 fn scan_edits(file: &[u8], at: usize, count: u16) -> Scan
-    ensures { λ r. ⌜ r ≡ scan-read (read (edits-on count) (now (file .entry)) at) ⌝ }
+    ensures { λ r. ⌜ scan-outcome r ≡ end-of (read (edits-on count) (now (file .entry)) at) ⌝ }
 {
     let mut place = at;
     let mut i: u16 = 0;

@@ -1,5 +1,4 @@
--- One field: what each outcome of reading its number makes of it, and what an answer says of the outcome. A number ends
--- within the bytes. Assumes nothing.
+-- One field: what each outcome of reading its number makes of it. A number ends within the bytes. Assumes nothing.
 use Prim.Native.Nat.{ℕ, zero, suc, _+_, _*_, _-_, _<_, _≤_}
 use mathlib.Core.Path.{_≡_, refl, sym, _∙_, ap}
 use mathlib.Core.Bool.{Bool, true, false, _&&_}
@@ -15,8 +14,6 @@ use Rattle.numbers.specs.Numbers.{group-before, read-groups, read-number}
 use Rattle.numbers.specs.declared.Reading.{Reading}
 use Rattle.numbers.specs.declared.Reading.the-variants.{Value, Refused}
 use Rattle.timetable.specs.Formats.{Outcome, accepted, refused, placed-field, field-at}
-use Rattle.fields.specs.between.Answers.{field-read}
-use Rattle.fields.specs.declared.field.FieldRead.{FieldRead}
 
 -- a number takes bytes that are there
 groups-within : (k : ℕ) (b : List ℕ) (n w : ℕ) → read-groups k b ≡ Value n w → w ≤ length b
@@ -75,14 +72,3 @@ module _ (lo hi : ℕ) (file : List ℕ) (at : ℕ) where
       pub field-high : lo ≤ n → hi < n → field-at lo hi file at ≡ refused 3 at
       unfolding field-at placed-field
       field-high h k = ap (placed-field lo hi (length file) at) (at-hand (Value n w) p) ∙ rw (le-leb lo n h, lt-leb n hi k)
-
--- what an answer says of the outcome
-pub field-value : (o : Outcome ℕ) (n next : ℕ) → field-read o ≡ FieldRead.Value n next → o ≡ accepted n next
-unfolding field-read
-field-value (accepted m p) n next e = cc
-field-value (refused k p) n next e = let z : _≡_ {A = ℕ} 0 1 = cc in absurd (omega arith)
-
-pub field-refused : (o : Outcome ℕ) (k p : ℕ) → field-read o ≡ FieldRead.Refused k p → o ≡ refused k p
-unfolding field-read
-field-refused (accepted m q) k p e = let z : _≡_ {A = ℕ} 0 1 = cc in absurd (omega arith)
-field-refused (refused j q) k p e = cc

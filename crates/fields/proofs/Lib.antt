@@ -1,6 +1,7 @@
 pub mod FieldLaws
 pub mod ReadLaws
 pub mod EntryLaws
+pub mod EndLaws
 pub mod BarLaws
 pub mod ByteLaws
-pub mod PutLaws
+pub mod NumbersPut

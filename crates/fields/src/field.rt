@@ -3,7 +3,7 @@ ghost use mathlib.Core.Path.{_≡_};
 ghost use mathlib.Core.List.{[]};
 ghost use Prim.Native.Nat.{min, _%_};
 ghost use Rattle.timetable.specs.Formats.{field-at, read, row, refused};
-ghost use Rattle.fields.specs.between.Answers.{field-read, ranges-of, row-read};
+ghost use Rattle.fields.specs.between.Answers.{field-outcome, ranges-of, row-read};
 use numbers::Reading;
 
 // The number at a place and the place behind it, or a refusal's number and place.
@@ -48,7 +48,7 @@ pub fn narrow(n: u16) -> u8
 
 // The number of lo..hi at a place of the file.
 pub fn field(file: &[u8], at: usize, lo: u32, hi: u16) -> FieldRead
-    ensures { λ r. ⌜ r ≡ field-read (field-at lo hi (now (file .entry)) at) ⌝ }
+    ensures { λ r. ⌜ field-outcome r ≡ field-at lo hi (now (file .entry)) at ⌝ }
 {
     let end = file.len();
     if end < at {

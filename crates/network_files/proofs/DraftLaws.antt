@@ -1,4 +1,4 @@
--- Rows of stations and lines: the formats as the code reads them, and what an answer says of its outcome. Assumes
+-- Rows of stations and lines: the formats as the code reads them, and what an answer says of many rows. Assumes
 -- nothing.
 use Prim.Native.Nat.{ℕ, zero, suc, _+_, _-_, _<_, _≤_}
 use mathlib.Core.Path.{_≡_, refl, sym, _∙_, ap}
@@ -16,14 +16,12 @@ use Rattle.network.specs.Networks.{blank-station, blank-line, station-rows, sta
 use Rattle.timetable.specs.Formats.{Format, done, Outcome, accepted, refused, _and-then_, behind, read, _to_, row, entries, Placed, placed}
 use Rattle.timetable.specs.NetworkFile.{station-ranges, station-of, station-entry, station-bar, line-ranges, line-of, line-fields, line-entry, line-bar}
 use Rattle.timetable.specs.NetworkFile.{Listed, stations-format, lines-format, lines-part, only-stations, with-headway, with-lines, blank-network, network-with, network-of, unjoined, unjoined-fault, network-fault}
-use Rattle.network_files.specs.declared.draft.StationRead.{StationRead}
-use Rattle.network_files.specs.declared.draft.LineRead.{LineRead}
 use Rattle.network_files.specs.declared.draft.StationsRead.{StationsRead}
 use Rattle.network_files.specs.declared.draft.LinesRead.{LinesRead}
 use Rattle.timetable.specs.declared.Fault.{Fault}
 use Rattle.network_files.specs.declared.draft.Draft.{Draft}
 use Rattle.fields.specs.between.Answers.{padded}
-use Rattle.network_files.specs.Answers.{station-read, stations-read, line-read, fault-next, lines-read, before-lines, draft-read}
+use Rattle.network_files.specs.Answers.{stations-read, fault-next, lines-read, before-lines, draft-read}
 use Rattle.fields.proofs.ReadLaws.{read-then}
 use Rattle.fields.proofs.EntryLaws.{row-above, padded-at, made, entries-many}
 
@@ -37,16 +35,6 @@ pub station-padded : (ns : List ℕ) → station-of (padded 12 0 ns) ≡ station
 unfolding station-of
 station-padded ns = rw (padded-at 12 ns 0, padded-at 12 ns 1, padded-at 12 ns 2)
 
-pub station-some : (o : Outcome StationRow) (r : StationRow) (next : ℕ) → station-read o ≡ StationRead.Row r next → o ≡ accepted r next
-unfolding station-read
-station-some (accepted q p) r next e = cc
-station-some (refused k p) r next e = let z : _≡_ {A = ℕ} 0 1 = cc in absurd (omega arith)
-
-pub station-none : (o : Outcome StationRow) (k p : ℕ) → station-read o ≡ StationRead.Refused k p → o ≡ refused k p
-unfolding station-read
-station-none (accepted q p′) k p e = let z : _≡_ {A = ℕ} 0 1 = cc in absurd (omega arith)
-station-none (refused j q) k p e = cc
-
 -- lines
 
 pub line-format : (b : ℕ) → line-fields (b ∷ []) ≡ (row ((b + 1) to 32 ∷ 1 to 16 ∷ 1 to 16 ∷ 1 to 3 ∷ 1 to 240 ∷ 1 to 9 ∷ []) [] and-then (λ ns. done (line-of ns)))
@@ -57,16 +45,6 @@ line-format b =
 pub line-padded : (ns : List ℕ) → line-of (padded 12 0 ns) ≡ line-of ns
 unfolding line-of
 line-padded ns = rw (padded-at 12 ns 0, padded-at 12 ns 1, padded-at 12 ns 2, padded-at 12 ns 3, padded-at 12 ns 4, padded-at 12 ns 5)
-
-pub line-some : (o : Outcome LineRow) (r : LineRow) (next : ℕ) → line-read o ≡ LineRead.Row r next → o ≡ accepted r next
-unfolding line-read
-line-some (accepted q p) r next e = cc
-line-some (refused k p) r next e = let z : _≡_ {A = ℕ} 0 1 = cc in absurd (omega arith)
-
-pub line-none : (o : Outcome LineRow) (k p : ℕ) → line-read o ≡ LineRead.Refused k p → o ≡ refused k p
-unfolding line-read
-line-none (accepted q p′) k p e = let z : _≡_ {A = ℕ} 0 1 = cc in absurd (omega arith)
-line-none (refused j q) k p e = cc
 
 -- the first line that is not joined, one line more
 pub fault-snoc : (n : Network) (ls : List (Placed LineRow)) (l : Placed LineRow)

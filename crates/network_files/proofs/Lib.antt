@@ -1,4 +1,2 @@
 pub mod DraftLaws
 pub mod ReadingLaws
-pub mod WritingLaws
-pub mod RoundTrip

@@ -1,4 +1,5 @@
--- What the calls on network files answer, for each outcome of reading. Assumes nothing.
+-- The outcome that the answers of the readers of rows tell, and what the calls on network files answer for each outcome
+-- of reading. Assumes nothing.
 use Prim.Native.Nat.{ℕ}
 use mathlib.Core.Bool.{Bool, true, false, not}
 use mathlib.Core.List.{List, [], map}
@@ -21,17 +22,21 @@ use Rattle.network_files.specs.declared.draft.LinesRead.{LinesRead}
 use Rattle.network_files.specs.declared.draft.Draft.{Draft}
 use Rattle.network_files.specs.declared.reading.NetworkRead.{NetworkRead}
 
-unfoldable pub station-read : Outcome StationRow → StationRead
-station-read (accepted r next) = StationRead.Row r next
-station-read (refused k p) = StationRead.Refused k p
+-- document 01's number and values for each case of an answer
+
+unfoldable pub station-outcome : StationRead → Outcome StationRow
+station-outcome (StationRead.Row r next) = accepted r next
+station-outcome (StationRead.Refused k p) = refused k p
+
+unfoldable pub line-outcome : LineRead → Outcome LineRow
+line-outcome (LineRead.Row r next) = accepted r next
+line-outcome (LineRead.Refused k p) = refused k p
+
+-- rows and drafts
 
 unfoldable pub stations-read : Outcome (List StationRow) → StationsRead
 stations-read (accepted rs next) = record { accepted = true; refusal = 0; place = next; rows = padded 16 blank-station rs }
 stations-read (refused k p) = record { accepted = false; refusal = k; place = p; rows = padded 16 blank-station [] }
-
-unfoldable pub line-read : Outcome LineRow → LineRead
-line-read (accepted r next) = LineRead.Row r next
-line-read (refused k p) = LineRead.Refused k p
 
 -- one line more: an earlier fault stays
 unfoldable pub fault-next : Network → LineRow → ℕ → Fault → Fault
@@ -62,5 +67,5 @@ network-answer o = record { refusal = number o; place = place-of o; network = va
 
 -- The key ring of this module: `unfolding opened` opens every definition above.
 unfoldable pub opened : Unit {0}
-unfolding station-read stations-read line-read fault-next lines-read before-lines draft-read network-answer
+unfolding station-outcome line-outcome stations-read fault-next lines-read before-lines draft-read network-answer
 opened = tt

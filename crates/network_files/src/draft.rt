@@ -10,7 +10,7 @@ ghost use Rattle.timetable.specs.Formats.{Range, _to_, refused, read};
 ghost use Rattle.timetable.specs.NetworkFile.{station-of, station-entry, stations-format, line-of, line-fields, lines-format};
 ghost use Rattle.timetable.specs.NetworkFile.{Listed, lines-part, count-part, headway-part, stations-part, network-format, blank-network, unjoined-fault};
 ghost use Rattle.fields.specs.between.Answers.{ranges-of};
-ghost use Rattle.network_files.specs.Answers.{station-read, stations-read, line-read, fault-next, lines-read, before-lines, draft-read};
+ghost use Rattle.network_files.specs.Answers.{station-outcome, stations-read, line-outcome, fault-next, lines-read, before-lines, draft-read};
 use fields::field::FieldRead;
 use fields::field::Span;
 use fields::field::Spans;
@@ -134,7 +134,7 @@ fn station_spans(before: u8) -> Spans
 }
 
 fn station_row(file: &[u8], at: usize, before: u8) -> StationRead
-    ensures { λ r. ⌜ r ≡ station-read (read (station-entry (before ∷ [])) (now (file .entry)) at) ⌝ }
+    ensures { λ r. ⌜ station-outcome r ≡ read (station-entry (before ∷ [])) (now (file .entry)) at ⌝ }
 {
     let read = row(file, at, station_spans(before));
     if read.accepted {
@@ -219,7 +219,7 @@ fn line_spans(before: u8) -> Spans
 }
 
 fn line_row(file: &[u8], at: usize, before: u8) -> LineRead
-    ensures { λ r. ⌜ r ≡ line-read (read (line-fields (before ∷ [])) (now (file .entry)) at) ⌝ }
+    ensures { λ r. ⌜ line-outcome r ≡ read (line-fields (before ∷ [])) (now (file .entry)) at ⌝ }
 {
     let read = row(file, at, line_spans(before));
     if read.accepted {

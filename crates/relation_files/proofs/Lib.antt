@@ -1,2 +1,2 @@
 pub mod ReadingLaws
-pub mod RowLaws
+pub mod TrainNumbers

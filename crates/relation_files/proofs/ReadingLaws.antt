@@ -15,8 +15,7 @@ use Rattle.timetable.specs.EditsFile.{trains-format, pair-of, group-of, relatio
 use Rattle.fields.specs.between.Answers.{padded}
 use Rattle.fields.proofs.ReadLaws.{read-then, prefixed, prefixed-one}
 use Rattle.fields.proofs.EntryLaws.{padded-at, field-on, field-stop, then-on, then-stop}
-use Rattle.relation_files.specs.declared.reading.RelationRead.{RelationRead}
-use Rattle.relation_files.specs.between.Answers.{relation-trains, relation-fields, relation-read}
+use Rattle.relation_files.specs.between.Answers.{relation-trains, relation-fields}
 
 -- trains
 
@@ -117,15 +116,3 @@ module _ (bar file : List ℕ) (at : ℕ) where
     pub kind-then : (kind later : ℕ) → field-at (least 1 (bar-after s bar)) 3 file next ≡ accepted kind later
         → read (station-relation-entry bar) file at ≡ read (relation-fields s kind (bar-after kind (bar-after s bar))) file later
     kind-then kind later q = place-then ∙ field-on (least 1 (bar-after s bar)) 3 (λ kind. relation-fields s kind (bar-after kind (bar-after s bar))) file next kind later q
-
--- what an answer says of the outcome
-
-pub relation-some : (o : Outcome StationRelation) (r : StationRelation) (next : ℕ) → relation-read o ≡ RelationRead.Entry r next → o ≡ accepted r next
-unfolding relation-read
-relation-some (accepted q p) r next e = cc
-relation-some (refused k p) r next e = let z : _≡_ {A = ℕ} 0 1 = cc in absurd (omega arith)
-
-pub relation-none : (o : Outcome StationRelation) (k p : ℕ) → relation-read o ≡ RelationRead.Refused k p → o ≡ refused k p
-unfolding relation-read
-relation-none (accepted q p′) k p e = let z : _≡_ {A = ℕ} 0 1 = cc in absurd (omega arith)
-relation-none (refused j q) k p e = cc

@@ -7,7 +7,7 @@ ghost use Rattle.base.specs.Choice.{if_then_else_};
 ghost use Rattle.timetable.specs.Formats.{read};
 ghost use Rattle.timetable.specs.EditsFile.{trains-format, most-trains, group-of, relation-of, station-relation-entry};
 ghost use Rattle.fields.specs.between.Answers.{in-use, row-read};
-ghost use Rattle.relation_files.specs.between.Answers.{relation-trains, relation-fields, relation-read};
+ghost use Rattle.relation_files.specs.between.Answers.{relation-trains, relation-fields, relation-outcome};
 use fields::bar;
 use fields::field::Numbers;
 use fields::field::RowRead;
@@ -116,7 +116,7 @@ fn relation_trains(
     bar: Numbers,
 ) -> RelationRead
     requires { ⌜ count ≤ 12 ⌝ }
-    ensures { λ r. ⌜ (s ≤ 16 → interval ≤ 240 → r ≡ relation-read (read (relation-trains s kind interval count (in-use bar)) (now (file .entry)) at)) ⌝ }
+    ensures { λ r. ⌜ (s ≤ 16 → interval ≤ 240 → relation-outcome r ≡ read (relation-trains s kind interval count (in-use bar)) (now (file .entry)) at) ⌝ }
 {
     let found = trains(file, at, kind != 3, count as usize, bar);
     if found.accepted {
@@ -134,7 +134,7 @@ fn relation_trains(
 
 // Behind the station and the kind.
 fn relation_fields(file: &[u8], at: usize, s: u16, kind: u16, bar: Numbers) -> RelationRead
-    ensures { λ r. ⌜ (s ≤ 16 → r ≡ relation-read (read (relation-fields s kind (in-use bar)) (now (file .entry)) at)) ⌝ }
+    ensures { λ r. ⌜ (s ≤ 16 → relation-outcome r ≡ read (relation-fields s kind (in-use bar)) (now (file .entry)) at) ⌝ }
 {
     let i = bar::compared(file, at, 0, 240, bar);
     if i.accepted {
@@ -158,7 +158,7 @@ fn relation_fields(file: &[u8], at: usize, s: u16, kind: u16, bar: Numbers) -> R
 
 // The relation entry at a place, behind the numbers of the entry before.
 pub fn relation_entry(file: &[u8], at: usize, bar: Numbers) -> RelationRead
-    ensures { λ r. ⌜ r ≡ relation-read (read (station-relation-entry (in-use bar)) (now (file .entry)) at) ⌝ }
+    ensures { λ r. ⌜ relation-outcome r ≡ read (station-relation-entry (in-use bar)) (now (file .entry)) at ⌝ }
 {
     let s = bar::compared(file, at, 1, 16, bar);
     if s.accepted {

@@ -1,18 +1,17 @@
 -- Pages in a row: writing one page changes just that page, and a sheet's pages and a division's are such pages. Assumes
 -- nothing.
-use Prim.Native.Nat.{ℕ, _+_, _*_, _-_, _≤_, _<_}
-use mathlib.Core.Path.{_≡_, refl, sym, _∙_, ap}
+use Prim.Native.Nat.{ℕ, _+_, _*_, _-_, _≤_, _<_, min}
+use mathlib.Core.Path.{_≡_, refl, sym, _∙_, ap, ap₂}
 use mathlib.Core.List.{List, _++_, append-assoc}
 use mathlib.Core.Logic.{by-cases}
 use native.Mathlib.Nat.{add-sub-cancel-left}
 use native.Mathlib.Decide.{decLt}
 use native.Mathlib.Omega.{arith}
 use lib.Dec.{T}
-use lib.ListN.{length, take, drop, length-append, length-drop}
-use lib.Seq.{length-take-le, take-at, drop-at, take-append-le, drop-append-le, drop-append-add, take-take, drop-drop}
+use lib.ListN.{length, take, drop, length-append, length-drop, drop-of-length-le}
+use lib.Seq.{length-take-le, take-all, take-at, drop-at, take-append-le, drop-append-le, drop-append-add, take-take, drop-drop}
 use Rattle.railway.specs.Ranges.{station-ok}
 use Rattle.records.specs.Bytes.{splice}
-use Rattle.records.proofs.ByteLaws.{part-back}
 use Rattle.sheet.specs.Sheets.{page-at, sheet-at}
 use Rattle.sheet.proofs.FillLaws.{drop-take, deep-page}
 use Rattle.sheet.proofs.SheetLaws.{mk, station-low, station-high}
@@ -94,14 +93,39 @@ pub lent-frame : (i : ℕ) (b : List ℕ) → take (512 * i + 512 - 512 * i) (dr
 unfolding frame
 lent-frame i b = rw (add-sub-cancel-left (512 * i) 512)
 
--- what a callee that was lent a page left there, said of the whole
+-- a part that is lent from a page's start up to the next one's, both no further than the buffer's end, is that page:
+-- short or empty where the buffer ends
+module _ (i at end : ℕ) (b : List ℕ) (start : at ≡ min (512 * i) (length b)) (stop : end ≡ min (512 * i + 512) (length b)) where
+  cut-front : take at b ≡ take (512 * i) b
+  cut-front = by-cases (decLt (512 * i) (length b))
+      (λ h. let e : at ≡ 512 * i = omega arith in ap (λ (k : ℕ). take k b) e)
+      (λ h. take-all at b (omega arith) ∙ sym (take-all (512 * i) b (omega arith)))
+
+  cut-rest : (k : ℕ) → drop k (drop at b) ≡ drop k (drop (512 * i) b)
+  cut-rest k = ap (drop k) (by-cases (decLt (512 * i) (length b))
+      (λ h. let e : at ≡ 512 * i = omega arith in ap (λ (j : ℕ). drop j b) e)
+      (λ h. drop-of-length-le b {i = at} (omega arith) ∙ sym (drop-of-length-le b {i = 512 * i} (omega arith))))
+
+  pub cut-frame : take (end - at) (drop at b) ≡ frame i b
+  unfolding frame
+  cut-frame = by-cases (decLt (length b) (512 * i + 512))
+      (λ h. take-all (end - at) (drop at b) (omega (arith, length-drop at b)) ∙ cut-rest 0 ∙ sym (take-all 512 (drop (512 * i) b) (omega (arith, length-drop (512 * i) b))))
+      (λ h. let p : end - at ≡ 512 = omega arith in rw p (ap (take 512) (cut-rest 0)))
+
+  -- what a callee that was lent it left there, said of the whole
+  pub cut-back : (f : List ℕ → List ℕ) (new : List ℕ) → length new ≡ length (take (end - at) (drop at b)) → new ≡ f (take (end - at) (drop at b))
+      → take at b ++ (new ++ drop (end - at) (drop at b)) ≡ change-frame i f b
+  unfolding change-frame put-frame splice
+  cut-back f new size is =
+      let long : length new ≡ end - at = size ∙ length-take-le (end - at) (drop at b) (omega (arith, length-drop at b)) in
+      ap₂ (λ (x y : List ℕ). x ++ (new ++ y)) cut-front (cut-rest (end - at) ∙ drop-drop (end - at) (512 * i) b ∙ ap (λ (k : ℕ). drop (512 * i + k) b) (sym long))
+      ∙ ap (λ (x : List ℕ). splice (512 * i) x b) (is ∙ ap f cut-frame)
+
+-- of a page that is there whole
 pub lent-back : (i : ℕ) (f : List ℕ → List ℕ) (b new : List ℕ) → 512 * i + 512 ≤ length b
     → length new ≡ length (take (512 * i + 512 - 512 * i) (drop (512 * i) b)) → new ≡ f (take (512 * i + 512 - 512 * i) (drop (512 * i) b))
     → take (512 * i) b ++ (new ++ drop (512 * i + 512 - 512 * i) (drop (512 * i) b)) ≡ change-frame i f b
-unfolding change-frame put-frame
-lent-back i f b new room size is =
-    part-back b new (512 * i) 512 (size ∙ ap length (lent-frame i b) ∙ frame-size i b room)
-    ∙ ap (λ (x : List ℕ). splice (512 * i) x b) (is ∙ ap f (lent-frame i b))
+lent-back i f b new room size is = cut-back i (512 * i) (512 * i + 512) b (omega arith) (omega arith) f new size is
 
 -- the pages of a sheet and of a division
 

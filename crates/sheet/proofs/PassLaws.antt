@@ -20,7 +20,7 @@ use Rattle.network.specs.Networks.{listed, area-of}
 use Rattle.railway.specs.Relations.{relation-ok, precedes}
 use Rattle.timetable.specs.Tables.{Entry, Table}
 use Rattle.timetable.specs.Good.{in-good, out-good, links-good, values-good, visit-good, entry-good, table-good}
-use Rattle.timetable.specs.Groups.{in-group}
+use Rattle.timetable.specs.Groups.{six, in-group}
 use Rattle.timetable.specs.Visits.{ins, outs}
 use Rattle.timetable.proofs.TableLaws.{number, precedes-across, table-facts, table-fits}
 use Rattle.records.specs.Bytes.{zeros, chunk, blank}
@@ -28,7 +28,7 @@ use Rattle.records.specs.Records.{decode-train, decode-visit, visit-bytes, enco
 use Rattle.records.proofs.RecordLaws.{entry-length, relation-length, entry-back, relation-back}
 use Rattle.sheet.specs.Types.{Station, Area, Train, Visit, InLink, OutLink, Relation, Network}
 use Rattle.page.specs.Pages.{slots, encode-page, records-of, visit-records, relation-records, visits-of, relations-of, decode-page, good-page}
-use Rattle.sheet.specs.Sheets.{sixteen, six, page-at, good-sheet, sheet-at, good-division}
+use Rattle.sheet.specs.Sheets.{sixteen, page-at, good-sheet, sheet-at, good-division}
 use Rattle.sheet.specs.declared.test.Extent.{Extent}
 use Rattle.sheet.specs.between.Passes.{covers, place-passes, sheet-passes, division-passes}
 use Rattle.sheet.specs.between.Passes.{visit-run, relation-run, in-passes, out-passes, visit-passes, relation-passes, train-after, relation-after, earlier, record-passes, comes-after, each-index, records-pass, slots-passes, visits-pass, relations-pass, content-passes, page-passes}

@@ -17,12 +17,12 @@ use Rattle.railway.specs.Ranges.{station-ok}
 use Rattle.network.specs.Networks.{network-refusal, listed, area-of}
 use Rattle.timetable.specs.Tables.{empty}
 use Rattle.timetable.specs.Machine.{Timetable}
-use Rattle.timetable.specs.Groups.{in-group, divide, merge}
+use Rattle.timetable.specs.Groups.{six, in-group, divide, merge}
 use Rattle.timetable.specs.Good.{Good, table-good}
 use Rattle.records.specs.Bytes.{zeros, blank}
 use Rattle.sheet.specs.Types.{Station, Network}
 use Rattle.page.specs.Pages.{encode-page, decode-page, good-page}
-use Rattle.sheet.specs.Sheets.{sixteen, six, page-at, encode-sheet, decode-sheet, good-sheet, sheet-at, good-division, divided, merged}
+use Rattle.sheet.specs.Sheets.{sixteen, page-at, encode-sheet, decode-sheet, good-sheet, sheet-at, good-division, divided, merged}
 use Rattle.network.proofs.AreaLaws.{area-high, listed-placed}
 use Rattle.page.proofs.PageLaws.{Coded, page-length, page-back, blank-page, blank-back, empty-coded, good-coded, encoded-good, good-table, good-same}
 

@@ -12,17 +12,14 @@ use Rattle.network.specs.Networks.{network-refusal, listed, area-of}
 use Rattle.timetable.specs.Refusals.{call-refusal}
 use Rattle.timetable.specs.Tables.{Table, empty}
 use Rattle.timetable.specs.Machine.{Timetable}
-use Rattle.timetable.specs.Groups.{in-group}
+use Rattle.timetable.specs.Groups.{six, in-group}
 use Rattle.records.specs.Bytes.{zeros, blank}
 use Rattle.sheet.specs.Types.{Station, Area, Network}
 use Rattle.page.specs.Pages.{encode-page, decode-page, good-page}
 
--- stations 1 to 16, areas 1 to 6
+-- stations 1 to 16
 unfoldable pub sixteen : List Station
 sixteen = map (λ k. record { 0 = k }) (1 ∷ 2 ∷ 3 ∷ 4 ∷ 5 ∷ 6 ∷ 7 ∷ 8 ∷ 9 ∷ 10 ∷ 11 ∷ 12 ∷ 13 ∷ 14 ∷ 15 ∷ 16 ∷ [])
-
-abbrev pub six : List ℕ
-six = 1 ∷ 2 ∷ 3 ∷ 4 ∷ 5 ∷ 6 ∷ []
 
 -- the page of station k at byte (k - 1) * 512
 unfoldable pub page-at : List ℕ → Station → List ℕ
@@ -64,6 +61,11 @@ unfoldable pub station-part : List ℕ → Station → List ℕ
 station-part sheet s = if eqb (length sheet) 8192 && station-ok s then page-at sheet s else []
 
 -- 5, 3, 4, 6 in this order
+
+-- of a call that reads the sheet of a whole timetable
+abbrev pub whole-refusal : Network → List ℕ → ℕ
+whole-refusal n sheet = call-refusal (eqb (length sheet) 8192) (network-refusal n) (good-sheet n (listed n) sheet) 0
+
 unfoldable pub divide-refusal : Network → List ℕ → List ℕ → ℕ
 divide-refusal n sheet division =
     call-refusal (eqb (length sheet) 8192 && eqb (length division) 49152) (network-refusal n) (good-sheet n (listed n) sheet) 0

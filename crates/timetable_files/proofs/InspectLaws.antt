@@ -1,12 +1,15 @@
--- The input of `inspect`, by what its network and its entries say: the first faulty number of either, then bytes too
--- many, then what only the whole network shows, then the entries' own refusals, else the sheet of the timetable.
+-- The input of `inspect`: 5, a faulty number of its network, and then the timetable behind the network as a whole.
 -- Assumes nothing.
-use Prim.Native.Nat.{ℕ, _<_, _≤_}
-use mathlib.Core.Path.{_≡_, refl, sym, _∙_, ap}
-use mathlib.Core.Bool.{true, false}
+use Prim.Native.Nat.{ℕ}
+use mathlib.Core.Path.{_≡_, refl, sym, _∙_, ap, ap₂}
+use mathlib.Core.Bool.{Bool, true, false}
 use mathlib.Core.List.{List}
+use lib.Dec.{leb, eqb}
 use lib.ListN.{length}
 use borrow.Author.Tests.{eq-eqb, ne-eqb}
+use Rattle.base.specs.Choice.{if_then_else_}
+use Rattle.network.specs.declared.Network.{Network}
+use Rattle.timetable.specs.declared.Fault.{Fault}
 use Rattle.timetable.specs.Formats.{Format, done, Outcome, accepted, refused, _and-then_, behind, read, ended, read-file, number, place-of, value-or, Placed, placed}
 use Rattle.timetable.specs.NetworkFile.{Listed, network-format, network-of, network-fault, unless-fault}
 use Rattle.timetable.specs.Machine.{Timetable}
@@ -14,149 +17,100 @@ use Rattle.timetable.specs.TimetableFile.{Entries, timetable-format, timetable-
 use Rattle.timetable.specs.InspectFile.{Inspection, Both, inspect-format, inspection, read-inspect}
 use Rattle.network_files.specs.declared.draft.Draft.{Draft}
 use Rattle.network_files.specs.Answers.{draft-read}
-use Rattle.fields.proofs.EntryLaws.{then-on, then-stop, made, unmade}
-use Rattle.fields.proofs.EntryLaws.{placed-some, placed-none}
-use Rattle.timetable.proofs.OutcomeLaws.{fault-found, fault-free}
-use Rattle.fields.proofs.EntryLaws.{ends-there, goes-on}
 use Rattle.network_files.proofs.ReadingLaws.{draft-value, draft-refusal}
-use Rattle.records.specs.Bytes.{zeros}
-use Rattle.timetable.specs.declared.Fault.{Fault}
-use Rattle.timetable_files.specs.declared.read.EntriesRead.{EntriesRead}
-use Rattle.timetable_files.specs.between.Entering.{Progress, no-fault, all-through, timetable-entries, timetable-sheet}
+use Rattle.fields.specs.Outcomes.{end-of}
+use Rattle.fields.proofs.EndLaws.{end-accepted, end-refused}
+use Rattle.fields.proofs.EntryLaws.{then-on, then-stop, made, unmade, placed-some, placed-none}
+use Rattle.sheet.specs.Sheets.{encode-sheet}
+use Rattle.timetable_entries.specs.Answers.{sheet-of}
+use Rattle.timetable_entries.specs.between.Rest.{rest-of, rest-outcome}
+use Rattle.timetable_files.specs.declared.input.InspectRead.{InspectRead}
 use Rattle.timetable_files.specs.Inspect.{inspect-outcome, inspect-read, inspect-sheet, inspect-answer, inspect-after}
-use Rattle.timetable_files.proofs.SheetEntries.{progress, Held, timetable-held}
-use Rattle.timetable_files.proofs.ReadingCall.{timetable-took, timetable-refusal, stations-fit, timetable-next}
 
--- the call refuses and leaves the sheet
-abbrev pub Refuses : List ℕ → List ℕ → ℕ → ℕ → Type 0
-Refuses file sheet k p = (inspect-read (refused k p) ≡ inspect-answer file sheet) × (sheet ≡ inspect-after file sheet)
+-- what the call answers, and the sheet then
+abbrev pub Tells : List ℕ → List ℕ → InspectRead → List ℕ → Type 0
+Tells file sheet r later = (r ≡ inspect-answer file sheet) × (later ≡ inspect-after file sheet)
 
--- an empty sheet, and no entry refused
-abbrev start : Progress
-start = progress (zeros 8192) no-fault
+-- the network and the place of the timetable, told beside it
+abbrev beside : Network → ℕ → Timetable → ℕ → Outcome Inspection
+beside n at m next = accepted (record { network = n; first = at; timetable = m }) next
 
 abbrev both : Listed → ℕ → Entries → Both
 both x at es = record { listed = x; entries = record { place = at; entry = es } }
 
+abbrev behind-network : Listed → Format Both
+behind-network x = placed timetable-format and-then (λ es. done (record { listed = x; entries = es }))
+
 module _ (file sheet : List ℕ) where
-  is-refused : (k p : ℕ) → inspect-outcome file sheet ≡ refused k p → Refuses file sheet k p
+  is-refused : (k p : ℕ) → inspect-outcome file sheet ≡ refused k p → Tells file sheet (inspect-read (refused k p)) sheet
   unfolding inspect-answer inspect-after inspect-sheet
   is-refused k p e = (sym (ap inspect-read e), sym (ap (λ (o : Outcome Inspection). inspect-sheet o sheet) e))
 
-  pub wrong-length : ¬ (length sheet ≡ 8192) → Refuses file sheet 5 0
+  pub wrong-length : ¬ (length sheet ≡ 8192) → Tells file sheet (inspect-read (refused 5 0)) sheet
   unfolding inspect-outcome
   wrong-length d = is-refused 5 0 (rw (ne-eqb (length sheet) 8192 d))
 
-  module _ (size : length sheet ≡ 8192) (d : Draft) (e : d ≡ draft-read (read network-format file 0)) where
-    sized : (o : Outcome Inspection) → read-inspect file ≡ o → inspect-outcome file sheet ≡ o
-    unfolding inspect-outcome
-    sized o q = rw (eq-eqb (length sheet) 8192 size) q
+  module _ (d : Draft) (e : d ≡ draft-read (read network-format file 0)) where
+    pub network-faulty : length sheet ≡ 8192 → d .accepted ≡ false → Tells file sheet (inspect-read (refused (d .refusal) (d .place))) sheet
+    unfolding inspect-outcome read-inspect read-file inspect-format behind ended
+    network-faulty size t =
+        let q = then-stop network-format behind-network file 0 (d .refusal) (d .place) (draft-refusal (read network-format file 0) d e t) in
+        is-refused (d .refusal) (d .place) (rw (eq-eqb (length sheet) 8192 size, q))
 
-    -- what is tested behind the file's end
-    abbrev tested : Both → ℕ → Outcome Inspection
-    tested x next = unless-fault (network-fault (x .listed)) (inspection x next)
+    module _ (t : d .accepted ≡ true) where
+      -- the timetable decides
+      decided : (x : Listed) → read network-format file 0 ≡ accepted x (d .place)
+          → read-inspect file ≡ behind (rest-of (network-of x) (network-fault x) file (d .place)) (beside (network-of x) (d .place))
+      unfolding read-inspect read-file rest-of behind ended inspect-format inspection unless-fault
+      decided x o =
+          ap (λ (z : Outcome Both). behind (ended file z) (λ x next. unless-fault (network-fault (x .listed)) (inspection x next))) (then-on network-format behind-network file 0 x (d .place) o)
+          ∙ go (read timetable-format file (d .place)) refl
+        where
+          fault : (b : Bool) (c : Outcome Timetable) (k p : ℕ) → (if b then behind c (beside (network-of x) (d .place)) else refused k p) ≡ behind (if b then c else refused k p) (beside (network-of x) (d .place))
+          fault true c k p = refl
+          fault false c k p = refl
 
-    abbrev ending : Outcome Both → Outcome Inspection
-    ending o = behind (ended file o) tested
+          end : (b : Bool) (es : Entries) (next : ℕ)
+              → behind (if b then accepted (both x (d .place) es) next else refused 1 next) (λ x next. unless-fault (network-fault (x .listed)) (inspection x next))
+              ≡ behind (behind (if b then accepted es next else refused 1 next) (λ es next. unless-fault (network-fault x) (timetable-of (network-of x) es next))) (beside (network-of x) (d .place))
+          end true es next = fault (eqb (network-fault x .number) 0) (timetable-of (network-of x) es next) (network-fault x .number) (network-fault x .place)
+          end false es next = refl
 
-    abbrev behind-network : Listed → Format Both
-    behind-network x = placed timetable-format and-then (λ es. done (record { listed = x; entries = es }))
+          go : (o : Outcome Entries) → read timetable-format file (d .place) ≡ o
+              → behind (ended file (read (behind-network x) file (d .place))) (λ x next. unless-fault (network-fault (x .listed)) (inspection x next))
+              ≡ behind (behind (ended file o) (λ es next. unless-fault (network-fault x) (timetable-of (network-of x) es next))) (beside (network-of x) (d .place))
+          go (accepted es next) q =
+              rw (made {A = Both} (λ (es : Placed Entries). record { listed = x; entries = es }) (placed timetable-format) file (d .place) _ next (placed-some timetable-format file (d .place) es next q))
+              (end (leb (length file) next) es next)
+          go (refused k p) q =
+              rw (unmade {A = Both} (λ (es : Placed Entries). record { listed = x; entries = es }) (placed timetable-format) file (d .place) k p (placed-none timetable-format file (d .place) k p q)) refl
 
-    pub network-faulty : d .accepted ≡ false → Refuses file sheet (d .refusal) (d .place)
-    unfolding read-inspect read-file inspect-format behind ended
-    network-faulty t =
-        is-refused (d .refusal) (d .place) (sized (refused (d .refusal) (d .place))
-        (ap ending (then-stop network-format behind-network file 0 (d .refusal) (d .place) (draft-refusal (read network-format file 0) d e t))))
-
-    module _ (t : d .accepted ≡ true) (r : EntriesRead) (q : r ≡ timetable-entries (d .network) start (read timetable-format file (d .place))) where
-      pub entries-faulty : r .accepted ≡ false → Refuses file sheet (r .refusal) (r .place)
-      unfolding read-inspect read-file inspect-format behind ended
-      entries-faulty u =
+      as-rest : inspect-outcome file sheet ≡ behind (rest-outcome (d .network) (d .fault) file (d .place) sheet) (beside (d .network) (d .place))
+      unfolding inspect-outcome rest-outcome behind
+      as-rest =
           let (x, o, n, f) = draft-value (read network-format file 0) d e t in
-          is-refused (r .refusal) (r .place) (sized (refused (r .refusal) (r .place))
-          (ap ending (then-on network-format behind-network file 0 x (d .place) o
-          ∙ unmade {A = Both} (λ (es : Placed Entries). record { listed = x; entries = es }) (placed timetable-format) file (d .place) (r .refusal) (r .place)
-          (placed-none timetable-format file (d .place) (r .refusal) (r .place)
-          (timetable-refusal (d .network) start (read timetable-format file (d .place)) r q u)))))
+          go (eqb (length sheet) 8192) (decided x o ∙ ap₂ (λ (m : Network) (g : Fault). behind (rest-of m g file (d .place)) (beside m (d .place))) (sym n) (sym f))
+        where
+          go : (b : Bool) → read-inspect file ≡ behind (rest-of (d .network) (d .fault) file (d .place)) (beside (d .network) (d .place))
+              → (if b then read-inspect file else refused 5 0)
+              ≡ behind (if b then rest-of (d .network) (d .fault) file (d .place) else refused 5 0) (beside (d .network) (d .place))
+          go true q = q
+          go false q = refl
 
-      module _ (u : r .accepted ≡ true) where
-        whole : (x : Listed) → read network-format file 0 ≡ accepted x (d .place) → (es : Entries) → read timetable-format file (d .place) ≡ accepted es (r .place)
-            → read inspect-format file 0 ≡ accepted (both x (d .place) es) (r .place)
-        unfolding inspect-format
-        whole x o es p =
-            then-on network-format behind-network file 0 x (d .place) o
-            ∙ made {A = Both} (λ (es : Placed Entries). record { listed = x; entries = es }) (placed timetable-format) file (d .place) _ (r .place)
-            (placed-some timetable-format file (d .place) es (r .place) p)
+      abbrev rest : Outcome Timetable
+      rest = rest-outcome (d .network) (d .fault) file (d .place) sheet
 
-        pub file-goes-on : r .place < length file → Refuses file sheet 1 (r .place)
-        unfolding read-inspect read-file behind
-        file-goes-on h =
-            let (x, o, n, f) = draft-value (read network-format file 0) d e t in
-            let (es, p, g) = timetable-took (d .network) start (read timetable-format file (d .place)) r q u in
-            is-refused 1 (r .place) (sized (refused 1 (r .place))
-            (ap ending (whole x o es p) ∙ ap (λ (z : Outcome Both). behind z tested) (goes-on file (both x (d .place) es) (r .place) h)))
+      pub rest-refused : (k p : ℕ) → refused k p ≡ end-of rest → (later : List ℕ) → later ≡ sheet-of rest sheet → Tells file sheet (inspect-read (refused k p)) later
+      unfolding behind sheet-of
+      rest-refused k p u later v =
+          let z = end-refused rest k p (sym u) in
+          let (a, b) = is-refused k p (as-rest ∙ ap (λ (o : Outcome Timetable). behind o (beside (d .network) (d .place))) z) in
+          (a, v ∙ ap (λ (o : Outcome Timetable). sheet-of o sheet) z ∙ b)
 
-        module _ (h : length file ≤ r .place) where
-          -- what is left to test at the file's end
-          ended-there : (x : Listed) → read network-format file 0 ≡ accepted x (d .place) → (es : Entries) → read timetable-format file (d .place) ≡ accepted es (r .place)
-              → read-inspect file ≡ tested (both x (d .place) es) (r .place)
-          unfolding read-inspect read-file behind
-          ended-there x o es p = ap ending (whole x o es p) ∙ ap (λ (z : Outcome Both). behind z tested) (ends-there file (both x (d .place) es) (r .place) h)
-
-          pub network-at-fault : ¬ (d .fault .number ≡ 0) → Refuses file sheet (d .fault .number) (d .fault .place)
-          network-at-fault j =
-              let (x, o, n, f) = draft-value (read network-format file 0) d e t in
-              let (es, p, g) = timetable-took (d .network) start (read timetable-format file (d .place)) r q u in
-              is-refused (d .fault .number) (d .fault .place) (sized (refused (d .fault .number) (d .fault .place))
-              (ended-there x o es p ∙ ap (λ (f : Fault). unless-fault f (inspection (both x (d .place) es) (r .place))) (sym f) ∙ fault-found (d .fault) (inspection (both x (d .place) es) (r .place)) j))
-
-          module _ (j : d .fault .number ≡ 0) where
-            -- the timetable decides
-            decided : (x : Listed) → read network-format file 0 ≡ accepted x (d .place) → d .network ≡ network-of x → d .fault ≡ network-fault x
-                → (es : Entries) → read timetable-format file (d .place) ≡ accepted es (r .place)
-                → read-inspect file
-                ≡ behind (timetable-of (d .network) es (r .place)) (λ m next. accepted (record { network = d .network; first = d .place; timetable = m }) next)
-            unfolding inspection
-            decided x o n f es p = rw n (ended-there x o es p ∙ ap (λ (f : Fault). unless-fault f (inspection (both x (d .place) es) (r .place))) (sym f) ∙ fault-free (d .fault) (inspection (both x (d .place) es) (r .place)) j)
-
-            reached : (es : Entries) → read timetable-format file (d .place) ≡ accepted es (r .place)
-                → Held (timetable-of (d .network) es (r .place)) (all-through (d .network) es start)
-            reached es p = let (a, b) = stations-fit file (d .place) es (r .place) p in timetable-held (d .network) es a b (r .place)
-
-            pub entry-refused : ¬ (r .fault .number ≡ 0) → Refuses file sheet (r .fault .number) (r .fault .place)
-            unfolding Held behind
-            entry-refused z =
-                let (x, o, n, f) = draft-value (read network-format file 0) d e t in
-                let (es, p, g) = timetable-took (d .network) start (read timetable-format file (d .place)) r q u in
-                go es g (decided x o n f es p) (timetable-of (d .network) es (r .place)) refl (reached es p)
-              where
-                go : (es : Entries) → r .fault ≡ all-through (d .network) es start .fault
-                    → read-inspect file
-                    ≡ behind (timetable-of (d .network) es (r .place)) (λ m next. accepted (record { network = d .network; first = d .place; timetable = m }) next)
-                    → (o : Outcome Timetable) → timetable-of (d .network) es (r .place) ≡ o → Held o (all-through (d .network) es start)
-                    → Refuses file sheet (r .fault .number) (r .fault .place)
-                go es g w (accepted m end) v (k, i) = absurd (z (ap (λ (y : Fault). y .number) g ∙ ap (λ (y : Progress). y .fault .number) k))
-                go es g w (refused k p) v (l, i) =
-                    let s : r .fault ≡ record { number = k; place = p } = g ∙ l in
-                    rw s (is-refused k p (sized (refused k p) (w ∙ rw v)))
-
-            pub all-entered : r .fault .number ≡ 0 → (own : List ℕ) → own ≡ timetable-sheet (d .network) start (read timetable-format file (d .place))
-                → (record { refusal = 0; place = r .place; network = d .network; first = d .place } ≡ inspect-answer file sheet) × (own ≡ inspect-after file sheet)
-            unfolding Held behind timetable-sheet inspect-answer inspect-after inspect-read number place-of value-or inspect-sheet
-            all-entered z own same =
-                let (x, o, n, f) = draft-value (read network-format file 0) d e t in
-                let (es, p, g) = timetable-took (d .network) start (read timetable-format file (d .place)) r q u in
-                go es g (same ∙ ap (timetable-sheet (d .network) start) p) (decided x o n f es p) (timetable-of (d .network) es (r .place)) refl (reached es p)
-              where
-                go : (es : Entries) → r .fault ≡ all-through (d .network) es start .fault → own ≡ all-through (d .network) es start .sheet
-                    → read-inspect file
-                    ≡ behind (timetable-of (d .network) es (r .place)) (λ m next. accepted (record { network = d .network; first = d .place; timetable = m }) next)
-                    → (o : Outcome Timetable) → timetable-of (d .network) es (r .place) ≡ o → Held o (all-through (d .network) es start)
-                    → (record { refusal = 0; place = r .place; network = d .network; first = d .place } ≡ inspect-read (inspect-outcome file sheet))
-                    × (own ≡ inspect-sheet (inspect-outcome file sheet) sheet)
-                go es g b w (accepted m end) v (k, i) =
-                    let a = sized (accepted (record { network = d .network; first = d .place; timetable = m }) end) (w ∙ rw v) in (
-                      rw (← timetable-next (d .network) es (r .place) m end v) (sym (ap inspect-read a)),
-                      b ∙ ap (λ (y : Progress). y .sheet) k ∙ sym (ap (λ (o : Outcome Inspection). inspect-sheet o sheet) a),
-                    )
-                go es g b w (refused k p) v (l, i) = absurd (i (sym (ap (λ (y : Fault). y .number) (g ∙ l)) ∙ z))
+      pub rest-taken : (next : ℕ) → accepted tt next ≡ end-of rest → (later : List ℕ) → later ≡ sheet-of rest sheet
+          → Tells file sheet (record { refusal = 0; place = next; network = d .network; first = d .place }) later
+      unfolding behind sheet-of inspect-answer inspect-after inspect-read inspect-sheet number place-of value-or
+      rest-taken next u later v =
+          let (m, z) = end-accepted rest next (sym u) in
+          let w : inspect-outcome file sheet ≡ beside (d .network) (d .place) m next = as-rest ∙ ap (λ (o : Outcome Timetable). behind o (beside (d .network) (d .place))) z in
+          (sym (ap inspect-read w), v ∙ ap (λ (o : Outcome Timetable). sheet-of o sheet) z ∙ sym (ap (λ (o : Outcome Inspection). inspect-sheet o sheet) w))

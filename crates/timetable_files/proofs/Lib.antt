@@ -1,7 +1,3 @@
-pub mod VisitLaws
-pub mod EnterLaws
-pub mod LoopLaws
-pub mod SheetEntries
+pub mod CallLaws
 pub mod InspectLaws
 pub mod PlaceLaws
-pub mod ReadingCall

@@ -1,21 +1,34 @@
 // Reading a timetable file into a sheet.
 ghost use mathlib.Core.Path.{_≡_};
+ghost use Rattle.timetable_entries.specs.Answers.{timetable-outcome};
 ghost use Rattle.timetable_files.specs.Calls.{read-answer, read-after};
-use crate::read;
+ghost use Rattle.timetable_files.specs.between.Apart.{apart};
 use network::Network;
-use records::bytes;
+use timetable::Fault;
+use timetable_entries::rest;
+use timetable_entries::rest::TimetableRead;
 
-// The place behind the file's last number, or document 01's number and its place.
-pub enum TimetableRead {
-    Read(usize),
-    Refused(u8, usize),
+// What a network refused with 4 is told by: 4, or 0, at place 0.
+fn apart(refused: u8) -> Fault
+    ensures { λ r. ⌜ r ≡ apart refused ⌝ }
+{
+    if refused == 4 {
+        return Fault {
+            number: 4,
+            place: 0,
+        };
+    }
+    Fault {
+        number: 0,
+        place: 0,
+    }
 }
 
 // The file's timetable, put into the sheet. 5, 3 of the network, the file's first faulty number, 4 of the network, then
 // 7 and 12 entry by entry; on each of these the sheet is left as it was.
 pub fn read_timetable(file: &[u8], n: Network, sheet: &mut [u8]) -> TimetableRead
     ensures { λ r. ⌜
-        (r ≡ read-answer n (now (file .entry)) (now (sheet .entry)))
+        (timetable-outcome r ≡ read-answer n (now (file .entry)) (now (sheet .entry)))
         × (now (sheet .exit) ≡ read-after n (now (file .entry)) (now (sheet .entry))) ⌝ }
 {
     if sheet.len() != 8192 {
@@ -25,20 +38,5 @@ pub fn read_timetable(file: &[u8], n: Network, sheet: &mut [u8]) -> TimetableRea
     if refused == 3 {
         return TimetableRead::Refused(3, 0);
     }
-    let mut own = [0u8; 8192];
-    let found = read::entries(file, 0, n, &mut own);
-    if found.accepted {
-        if found.place < file.len() {
-            return TimetableRead::Refused(1, found.place);
-        }
-        if refused == 4 {
-            return TimetableRead::Refused(4, 0);
-        }
-        if found.fault.number == 0 {
-            bytes::copy(sheet, &own);
-            return TimetableRead::Read(found.place);
-        }
-        return TimetableRead::Refused(found.fault.number, found.fault.place);
-    }
-    TimetableRead::Refused(found.refusal, found.place)
+    rest::read_rest(file, 0, n, apart(refused), sheet)
 }

@@ -2,10 +2,10 @@
 ghost use mathlib.Core.Path.{_≡_};
 ghost use Rattle.timetable.specs.Formats.{refused};
 ghost use Rattle.timetable_files.specs.Inspect.{inspect-read, inspect-answer, inspect-after};
-use crate::read;
 use network::Network;
 use network_files::draft;
-use records::bytes;
+use timetable_entries::rest;
+use timetable_entries::rest::TimetableRead;
 
 // Refusal 0 with the place behind the file, the network and the place of the timetable's first byte; or a refusal's
 // number and place beside a blank network.
@@ -41,28 +41,18 @@ pub fn read_inspect(file: &[u8], sheet: &mut [u8]) -> InspectRead
     if head.accepted {
         let network = head.network;
         let first = head.place;
-        let mut own = [0u8; 8192];
-        let found = read::entries(file, first, network, &mut own);
-        if found.accepted {
-            if found.place < file.len() {
-                return refused_inspect(1, found.place);
-            }
-            let whole = head.fault;
-            if whole.number != 0 {
-                return refused_inspect(whole.number, whole.place);
-            }
-            if found.fault.number == 0 {
-                bytes::copy(sheet, &own);
-                return InspectRead {
-                    refusal: 0,
-                    place: found.place,
-                    network: network,
-                    first: first,
-                };
-            }
-            return refused_inspect(found.fault.number, found.fault.place);
+        let fault = head.fault;
+        let found = rest::read_rest(file, first, network, fault, sheet);
+        match found {
+            TimetableRead::Refused(k, p) => refused_inspect(k, p),
+            TimetableRead::Read(place) => InspectRead {
+                refusal: 0,
+                place: place,
+                network: network,
+                first: first,
+            },
         }
-        return refused_inspect(found.refusal, found.place);
+    } else {
+        refused_inspect(head.refusal, head.place)
     }
-    refused_inspect(head.refusal, head.place)
 }

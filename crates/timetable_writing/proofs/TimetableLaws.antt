@@ -8,29 +8,23 @@ use native.Mathlib.Omega.{arith}
 use lib.ListN.{length, getD, take, drop, length-map, length-append}
 use lib.Seq.{take-all}
 use Rattle.network.specs.Networks.{station-rows, stations-of}
-use Rattle.network.proofs.RowLaws.{used-rows}
+use Rattle.network.proofs.RowsInUse.{used-rows}
 use Rattle.timetable.specs.Tables.{Entry}
 use Rattle.timetable.specs.Machine.{Timetable}
 use Rattle.timetable.specs.Formats.{bytes-of}
 use Rattle.timetable.specs.EditsFile.{station-relation-numbers}
-use Rattle.timetable.specs.TimetableFile.{StationVisit, status-number, visit-numbers, visits-at, relations-at, timetable-numbers}
+use Rattle.timetable.specs.TimetableFile.{StationVisit, visit-numbers, visits-at, relations-at, timetable-numbers}
 use Rattle.timetable.specs.Outputs.{put}
-use Rattle.timetable.proofs.PutLaws.{put-two, each-length, each-over}
-use Rattle.records.specs.Bytes.{flag}
+use Rattle.timetable.proofs.BuffersFilled.{put-two, each-length, each-over}
 use Rattle.fields.specs.between.Putting.{Places}
 use Rattle.timetable_writing.specs.Types.{Station, Relation, StationRelation, StationRow, Network}
 use Rattle.timetable_writing.specs.between.Parts.{entry-numbers, relation-row, visits-here, relations-here, visit-total, relation-total, visit-part, relation-part, file-rows}
-use Rattle.fields.proofs.PutLaws.{bytes-two, Left, row-put, rows-put}
+use Rattle.fields.proofs.NumbersPut.{bytes-two, Left, row-put, rows-put}
 
 -- an entry
 
-pub status : (b : Bool) → flag b ≡ status-number b
-unfolding status-number
-status true = refl
-status false = refl
-
 -- numbers one behind the other; and the same numbers
-pub writes-two : (at r s : ℕ) (xs ys b c d : List ℕ) (j k : ℕ) → Places at xs b r c j → Places r ys c s d k → Places at (xs ++ ys) b s d (j + k)
+writes-two : (at r s : ℕ) (xs ys b c d : List ℕ) (j k : ℕ) → Places at xs b r c j → Places r ys c s d k → Places at (xs ++ ys) b s d (j + k)
 writes-two at r s xs ys b c d j k x y =
     let w = put-two at r s (bytes-of xs) (bytes-of ys) b c d (x .0) (x .1) (y .0) (y .1) in
     rw (bytes-two xs ys) (w .0, w .1, omega (arith, x .2, y .2))

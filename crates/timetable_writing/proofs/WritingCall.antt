@@ -11,14 +11,15 @@ use Rattle.base.specs.Choice.{if_then_else_, _if_else_}
 use Rattle.network.specs.Networks.{network-refusal, listed}
 use Rattle.timetable.specs.Formats.{bytes-of}
 use Rattle.timetable.specs.Outputs.{reply, put}
-use Rattle.timetable.proofs.PutLaws.{refused-so, too-short, fits-in}
-use Rattle.sheet.specs.Sheets.{decode-sheet, good-sheet}
+use Rattle.timetable.specs.Refusals.{or-else, call-refusal}
+use Rattle.timetable.proofs.BuffersFilled.{refused-so, too-short, fits-in}
+use Rattle.sheet.specs.Sheets.{decode-sheet, good-sheet, whole-refusal}
 use Rattle.sheet.specs.declared.test.Extent.{Extent}
 use Rattle.sheet.specs.between.Passes.{sheet-passes}
 use Rattle.sheet.proofs.PassLaws.{whole-test}
 use Rattle.timetable_writing.specs.Types.{Network, Output}
 use Rattle.timetable_writing.specs.between.Parts.{file-rows}
-use Rattle.timetable_writing.specs.Writing.{sheet-refusal, timetable-bytes, write-timetable, timetable-written}
+use Rattle.timetable_writing.specs.Writing.{timetable-bytes, write-timetable, timetable-written}
 use Rattle.timetable_writing.proofs.TimetableLaws.{rows-numbers}
 
 -- the timetable that a sheet holds
@@ -27,31 +28,31 @@ module _ (n : Network) (sheet out : List ℕ) where
   abbrev Answers : Output → List ℕ → Type 0
   Answers r later = (reply r ≡ write-timetable n sheet out) × (later ≡ timetable-written n sheet out)
 
-  refused : (k : ℕ) → sheet-refusal n sheet ≡ k → ¬ (k ≡ 0) → Answers (Output.Refused k) out
+  refused : (k : ℕ) → whole-refusal n sheet ≡ k → ¬ (k ≡ 0) → Answers (Output.Refused k) out
   unfolding write-timetable timetable-written
   refused k e z = rw e (refused-so (timetable-bytes n sheet) out k z)
 
   pub timetable-no-sheet : ¬ (length sheet ≡ 8192) → Answers (Output.Refused 5) out
-  unfolding sheet-refusal
+  unfolding call-refusal
   timetable-no-sheet d = refused 5 (rw (ne-eqb (length sheet) 8192 d)) (λ z. omega arith)
 
   module _ (size : length sheet ≡ 8192) where
-    tested : sheet-refusal n sheet ≡ (if eqb (network-refusal n) 0 then 6 if not (good-sheet n (listed n) sheet) else 0 else network-refusal n)
-    unfolding sheet-refusal
+    tested : whole-refusal n sheet ≡ (if eqb (network-refusal n) 0 then 6 if not (good-sheet n (listed n) sheet) else 0 else network-refusal n)
+    unfolding call-refusal or-else
     tested = rw (eq-eqb (length sheet) 8192 size)
 
     pub timetable-bad-network : (r : ℕ) → r ≡ network-refusal n → ¬ (r ≡ 0) → Answers (Output.Refused r) out
     timetable-bad-network r e z = refused r (tested ∙ rw (← e, ne-eqb r 0 z)) z
 
     module _ (good : network-refusal n ≡ 0) where
-      passed : sheet-refusal n sheet ≡ (6 if not (sheet-passes n Extent.Whole sheet) else 0)
+      passed : whole-refusal n sheet ≡ (6 if not (sheet-passes n Extent.Whole sheet) else 0)
       passed = tested ∙ rw (good, ← whole-test n sheet size)
 
       pub timetable-bad-sheet : sheet-passes n Extent.Whole sheet ≡ false → Answers (Output.Refused 6) out
       timetable-bad-sheet e = refused 6 (passed ∙ rw e) (λ z. omega arith)
 
       module _ (pass : sheet-passes n Extent.Whole sheet ≡ true) (k : ℕ) (needed : k ≡ length (bytes-of (file-rows n (decode-sheet sheet)))) where
-        accepted : sheet-refusal n sheet ≡ 0
+        accepted : whole-refusal n sheet ≡ 0
         accepted = passed ∙ rw pass
 
         written : bytes-of (file-rows n (decode-sheet sheet)) ≡ timetable-bytes n sheet

@@ -6,13 +6,12 @@ ghost use Prim.Native.Nat.{_≤_};
 ghost use lib.ListN.{length};
 ghost use Rattle.timetable.specs.Formats.{bytes-of};
 ghost use Rattle.timetable.specs.Outputs.{reply, put};
-ghost use Rattle.timetable.specs.TimetableFile.{in-link-numbers, out-link-numbers, visit-numbers};
+ghost use Rattle.timetable.specs.TimetableFile.{visit-numbers};
 ghost use Rattle.page.specs.between.Changes.{table-in};
 ghost use Rattle.sheet.specs.Sheets.{decode-sheet};
 ghost use Rattle.fields.specs.between.Putting.{Places};
 ghost use Rattle.timetable_writing.specs.between.Parts.{relation-row, visits-here, relations-here, visit-total, relation-total, visit-part, relation-part, file-rows};
 ghost use Rattle.timetable_writing.specs.Writing.{write-timetable, timetable-written, sheet-totals};
-use fields::field::Numbers;
 use fields::field::in_use;
 use fields::put;
 use network::Network;
@@ -21,16 +20,14 @@ use railway::edit::StationRelation;
 use railway::relation::Relation;
 use railway::sorts::Station;
 use railway::sorts::Train;
-use railway::visit::InLink;
-use railway::visit::OutLink;
 use railway::visit::Visit;
-use records::bytes;
 use records::record;
 use relation_files::row;
 use sheet::station_page;
 use sheet::test;
 use sheet::test::Extent;
 use timetable::Output;
+use visit_files::row::visit_numbers;
 
 // How many visits and relations a sheet holds, and refusal 0; or refusal 5 beside zeros.
 pub struct Totals {
@@ -41,102 +38,11 @@ pub struct Totals {
 
 // An entry
 
-// "(fields as listed, or a single 0 for none)"
-fn put_inward(out: &mut [u8], at: usize, l: InLink) -> usize
-    requires { ⌜ at ≤ 900000000 ⌝ }
-    ensures { λ q. ⌜ Places at (in-link-numbers l) (now (out .entry)) q (now (out .exit)) 36 ⌝ }
-{
-    match l {
-        InLink::Nothing => put::put_row(
-            out,
-            at,
-            Numbers {
-                from: 0,
-                to: 1,
-                values: [0; 12],
-            },
-        ),
-        InLink::From(i) => {
-            let station = i.station.0 as u16;
-            let line = i.line.0 as u16;
-            put::put_row(
-                out,
-                at,
-                Numbers {
-                    from: 0,
-                    to: 2,
-                    values: [station, line, 0, 0, 0, 0, 0, 0, 0, 0, 0, 0],
-                },
-            )
-        }
-    }
-}
-
-fn put_outward(out: &mut [u8], at: usize, l: OutLink) -> usize
-    requires { ⌜ at ≤ 900000000 ⌝ }
-    ensures { λ q. ⌜ Places at (out-link-numbers l) (now (out .entry)) q (now (out .exit)) 36 ⌝ }
-{
-    match l {
-        OutLink::Nothing => put::put_row(
-            out,
-            at,
-            Numbers {
-                from: 0,
-                to: 1,
-                values: [0; 12],
-            },
-        ),
-        OutLink::To(o) => {
-            let station = o.station.0 as u16;
-            let line = o.line.0 as u16;
-            let run = o.run as u16;
-            put::put_row(
-                out,
-                at,
-                Numbers {
-                    from: 0,
-                    to: 3,
-                    values: [station, line, run, 0, 0, 0, 0, 0, 0, 0, 0, 0],
-                },
-            )
-        }
-    }
-}
-
-// "s, t, track, arrival, status, departure, status, in-link, out-link"
 fn put_visit(out: &mut [u8], at: usize, s: Station, t: Train, v: Visit) -> usize
     requires { ⌜ at ≤ 800000000 ⌝ }
     ensures { λ q. ⌜ Places at (visit-numbers (record { station = s; train = t; visit = v })) (now (out .entry)) q (now (out .exit)) 108 ⌝ }
 {
-    let arrived = bytes::status_byte(v.arrived) as u16;
-    let departed = bytes::status_byte(v.departed) as u16;
-    let station = s.0 as u16;
-    let track = v.track.0 as u16;
-    let arrival = v.arrival.0;
-    let departure = v.departure.0;
-    let head = Numbers {
-        from: 0,
-        to: 7,
-        values: [
-            station,
-            t.0,
-            track,
-            arrival,
-            arrived,
-            departure,
-            departed,
-            0,
-            0,
-            0,
-            0,
-            0,
-        ],
-    };
-    let from = v.inward;
-    let to = v.outward;
-    let inward = put::put_row(out, at, head);
-    let outward = put_inward(out, inward, from);
-    put_outward(out, outward, to)
+    put::put_row(out, at, visit_numbers(s, t, v))
 }
 
 fn put_relation(out: &mut [u8], at: usize, s: Station, r: Relation) -> usize

@@ -1,5 +1,5 @@
--- What the readers of numbers answer, for each outcome of reading; and the numbers of a row that are in use. Assumes
--- nothing.
+-- The outcome that the answer of a field tells, what the readers of numbers answer for each outcome, and the numbers of
+-- a row that are in use. Assumes nothing.
 use Prim.Native.Nat.{ℕ, _-_}
 use mathlib.Core.Bool.{Bool, true, false}
 use mathlib.Core.List.{List, [], _++_, map}
@@ -12,9 +12,10 @@ use Rattle.fields.specs.declared.field.RowRead.{RowRead}
 use Rattle.fields.specs.declared.field.Numbers.{Numbers}
 use Rattle.fields.specs.declared.bar.Number.{Number}
 
-unfoldable pub field-read : Outcome ℕ → FieldRead
-field-read (accepted n next) = FieldRead.Value n next
-field-read (refused k p) = FieldRead.Refused k p
+-- document 01's number and values for each case
+unfoldable pub field-outcome : FieldRead → Outcome ℕ
+field-outcome (FieldRead.Value n next) = accepted n next
+field-outcome (FieldRead.Refused k p) = refused k p
 
 unfoldable pub number-read : Outcome ℕ → Number
 number-read (accepted n next) = record { accepted = true; refusal = 0; place = next; value = n }
@@ -38,5 +39,5 @@ in-use f = drop (f .from) (take (f .to) (f .values))
 
 -- The key ring of this module: `unfolding opened` opens every definition above.
 unfoldable pub opened : Unit {0}
-unfolding field-read number-read ranges-of padded row-read in-use
+unfolding field-outcome number-read ranges-of padded row-read in-use
 opened = tt

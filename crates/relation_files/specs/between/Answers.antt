@@ -1,4 +1,4 @@
--- What the reader of a relation answers, for each outcome of reading; and the parts of an entry. Assumes nothing.
+-- The outcome that the answer of the reader of a relation tells; and the parts of an entry. Assumes nothing.
 use Prim.Native.Nat.{ℕ}
 use mathlib.Core.Bool.{Bool, not}
 use mathlib.Core.List.{List}
@@ -19,11 +19,12 @@ relation-trains s kind i k bar =
 unfoldable pub relation-fields : ℕ → ℕ → List ℕ → Format StationRelation
 relation-fields s kind bar = compared 0 240 bar (λ i left. compared 2 (most-trains kind) left (λ k left. relation-trains s kind i k left))
 
-unfoldable pub relation-read : Outcome StationRelation → RelationRead
-relation-read (accepted r next) = RelationRead.Entry r next
-relation-read (refused k p) = RelationRead.Refused k p
+-- document 01's number and values for each case
+unfoldable pub relation-outcome : RelationRead → Outcome StationRelation
+relation-outcome (RelationRead.Entry r next) = accepted r next
+relation-outcome (RelationRead.Refused k p) = refused k p
 
 -- The key ring of this module: `unfolding opened` opens every definition above.
 unfoldable pub opened : Unit {0}
-unfolding relation-trains relation-fields relation-read
+unfolding relation-trains relation-fields relation-outcome
 opened = tt

@@ -5,11 +5,10 @@ use mathlib.Core.List.{List, []}
 use denote.Ref.{now}
 use borrow.Author.Needs.{needs}
 use Rattle.railway.specs.declared.edit.Edit.{Edit}
-use Rattle.timetable.specs.Formats.{Range, read, row}
+use Rattle.timetable.specs.Formats.{Range, read, row, accepted}
 use Rattle.timetable.specs.EditsFile.{edit-ranges, edit-of}
-use Rattle.edit_files.specs.declared.edit.EditRead.{EditRead}
 use Rattle.fields.specs.between.Answers.{row-read}
-use Rattle.edit_files.specs.Answers.{edit-read}
+use Rattle.edit_files.specs.Answers.{edit-outcome}
 use Rattle.fields.proofs.EntryLaws.{row-took, row-refusal, made, unmade}
 use Rattle.edit_files.proofs.EditLaws.{edit-padded}
 use Rattle.edit_files.proofs.edit.fields_edit.Statement.{statement}
@@ -25,24 +24,24 @@ edit-from-requires : tie.Need-edit-from-requires
 edit-from-requires c κs = search needs
 
 returns : tie.Need-returns
-unfolding edit-read
+unfolding edit-outcome
 returns c =
     let s = c .before .before .before .before .before .before .args in
     let r = c .before .before .before .row in
     let e = r .ensures ∙ ap (λ (l : List Range). row-read (read (row l []) (now (s .file)) (s .at))) (c .before .before .before .before .edit-spans .ensures) in
     let w = row-took (edit-ranges (s .kind)) (now (s .file)) (s .at) (r .result) e (c .before .before .if1 .taken) in
     let u = c .edit-from .ensures (w .at-most) ∙ ap (edit-of (s .kind)) (w .stored) ∙ edit-padded (s .kind) (w .numbers) in
-    ap (λ (x : Edit). EditRead.Entry x (r .result .place)) u
-    ∙ sym (ap edit-read (made (edit-of (s .kind)) (row (edit-ranges (s .kind)) []) (now (s .file)) (s .at) (w .numbers) (r .result .place) (w .outcome)))
+    ap (λ (x : Edit). accepted x (r .result .place)) u
+    ∙ sym (made (edit-of (s .kind)) (row (edit-ranges (s .kind)) []) (now (s .file)) (s .at) (w .numbers) (r .result .place) (w .outcome))
 
 returns-2 : tie.Need-returns-2
-unfolding edit-read
+unfolding edit-outcome
 returns-2 c =
     let s = c .before .before .before .before .args in
     let r = c .before .row in
     let e = r .ensures ∙ ap (λ (l : List Range). row-read (read (row l []) (now (s .file)) (s .at))) (c .before .before .edit-spans .ensures) in
     let u = row-refusal _ (r .result) e (c .if1 .left) in
-    sym (ap edit-read (unmade (edit-of (s .kind)) (row (edit-ranges (s .kind)) []) (now (s .file)) (s .at) (r .result .refusal) (r .result .place) u))
+    sym (unmade (edit-of (s .kind)) (row (edit-ranges (s .kind)) []) (now (s .file)) (s .at) (r .result .refusal) (r .result .place) u)
 
 pub fields-edit-spec : {M : Type 1} → statement M
 fields-edit-spec =

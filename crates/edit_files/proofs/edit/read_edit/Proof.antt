@@ -4,8 +4,8 @@ use mathlib.Core.Path.{sym, _∙_, ap}
 use denote.Ref.{now}
 use borrow.Author.Needs.{needs}
 use Rattle.timetable.specs.EditsFile.{edit-fields, edit-entry}
-use Rattle.edit_files.specs.Answers.{edit-read}
-use Rattle.fields.proofs.FieldLaws.{field-value, field-refused}
+use Rattle.fields.specs.between.Answers.{field-outcome}
+use Rattle.edit_files.specs.Answers.{edit-outcome}
 use Rattle.fields.proofs.EntryLaws.{field-on, field-stop}
 use Rattle.edit_files.proofs.edit.read_edit.Statement.{statement}
 use Rattle.edit_files.proofs.edit.read_edit.Tie as tie
@@ -23,20 +23,20 @@ edit-of-kind-requires : tie.Need-edit-of-kind-requires
 edit-of-kind-requires c κs = search needs
 
 returns : tie.Need-returns
-unfolding edit-read edit-entry
+unfolding edit-outcome edit-entry field-outcome
 returns c =
     let s = c .before .before .before .before .before .args in
     let g = c .before .kind .given in
-    let o = field-refused _ (g .0 .0) (g .0 .1 .0) (sym (c .before .before .before .field .ensures) ∙ g .1) in
-    sym (ap edit-read (field-stop 1 11 edit-fields (now (s .file)) (s .at) (g .0 .0) (g .0 .1 .0) o))
+    let o = sym (c .before .before .before .field .ensures) ∙ ap field-outcome (g .1) in
+    sym (field-stop 1 11 edit-fields (now (s .file)) (s .at) (g .0 .0) (g .0 .1 .0) o)
 
 returns-2 : tie.Need-returns-2
-unfolding edit-entry
+unfolding edit-entry field-outcome
 returns-2 c =
     let s = c .before .before .before .before .before .before .args in
     let g = c .before .before .kind2 .given in
-    let o = field-value _ (g .0 .0) (g .0 .1 .0) (sym (c .before .before .before .before .field .ensures) ∙ g .1) in
-    c .edit-of-kind .ensures ∙ sym (ap edit-read (field-on 1 11 edit-fields (now (s .file)) (s .at) (g .0 .0) (g .0 .1 .0) o))
+    let o = sym (c .before .before .before .before .field .ensures) ∙ ap field-outcome (g .1) in
+    c .edit-of-kind .ensures ∙ sym (field-on 1 11 edit-fields (now (s .file)) (s .at) (g .0 .0) (g .0 .1 .0) o)
 
 pub read-edit-spec : {M : Type 1} → statement M
 read-edit-spec =

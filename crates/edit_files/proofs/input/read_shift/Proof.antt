@@ -4,7 +4,7 @@ use mathlib.Core.Path.{_≡_, refl, sym, _∙_, ap}
 use denote.Ref.{now}
 use borrow.Author.Needs.{needs}
 use Rattle.edit_files.specs.Answers.{shift-answer}
-use Rattle.edit_files.proofs.ListLaws.{shift-network-faulty, shift-edits-faulty, shift-goes-on, shift-at-fault, shift-stands}
+use Rattle.edit_files.proofs.EditsParts.{shift-network-faulty, shift-edits-faulty, shift-goes-on, shift-at-fault, shift-stands}
 use Rattle.edit_files.proofs.input.read_shift.Statement.{statement}
 use Rattle.edit_files.proofs.input.read_shift.Tie as tie
 

@@ -5,8 +5,8 @@ use denote.Ref.{now}
 use borrow.Author.Needs.{needs}
 use Rattle.timetable.specs.Formats.{placed}
 use Rattle.timetable.specs.EditsFile.{edits-on, edits-format}
+use Rattle.fields.specs.between.Answers.{field-outcome}
 use Rattle.edit_files.specs.Answers.{edits-read}
-use Rattle.fields.proofs.FieldLaws.{field-value, field-refused}
 use Rattle.fields.proofs.EntryLaws.{field-on, field-stop}
 use Rattle.edit_files.proofs.list.edits_part.Statement.{statement}
 use Rattle.edit_files.proofs.list.edits_part.Tie as tie
@@ -27,19 +27,19 @@ scanned-part-requires : tie.Need-scanned-part-requires
 scanned-part-requires c κs = search needs
 
 returns : tie.Need-returns
-unfolding edits-format
+unfolding edits-format field-outcome
 returns c =
     let s = c .before .before .before .before .before .before .args in
     let g = c .before .before .count .given in
-    let o = field-refused _ (g .0 .0) (g .0 .1 .0) (sym (c .before .before .before .before .field .ensures) ∙ g .1) in
+    let o = sym (c .before .before .before .before .field .ensures) ∙ ap field-outcome (g .1) in
     c .refused-part .ensures ∙ sym (ap edits-read (field-stop 0 1000 (λ k. placed (edits-on k)) (now (s .file)) (s .at) (g .0 .0) (g .0 .1 .0) o))
 
 returns-2 : tie.Need-returns-2
-unfolding edits-format
+unfolding edits-format field-outcome
 returns-2 c =
     let s = c .before .before .before .before .before .before .args in
     let g = c .before .before .count2 .given in
-    let o = field-value _ (g .0 .0) (g .0 .1 .0) (sym (c .before .before .before .before .field .ensures) ∙ g .1) in
+    let o = sym (c .before .before .before .before .field .ensures) ∙ ap field-outcome (g .1) in
     c .scanned-part .ensures ∙ sym (ap edits-read (field-on 0 1000 (λ k. placed (edits-on k)) (now (s .file)) (s .at) (g .0 .0) (g .0 .1 .0) o))
 
 pub edits-part-spec : {M : Type 1} → statement M

@@ -3,7 +3,7 @@ use mathlib.Core.Path.{_≡_, refl, sym, _∙_, ap}
 use denote.Ref.{now}
 use borrow.Author.Needs.{needs}
 use Rattle.edit_files.specs.Answers.{edits-answer}
-use Rattle.edit_files.proofs.ListLaws.{edits-go-on, edits-stand, edits-faulty}
+use Rattle.edit_files.proofs.EditsParts.{edits-go-on, edits-stand, edits-faulty}
 use Rattle.edit_files.proofs.list.read_edits.Statement.{statement}
 use Rattle.edit_files.proofs.list.read_edits.Tie as tie
 

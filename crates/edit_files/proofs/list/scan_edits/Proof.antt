@@ -9,10 +9,10 @@ use borrow.Author.Needs.{needs}
 use Rattle.railway.specs.declared.edit.Edit.{Edit}
 use Rattle.timetable.specs.Formats.{Outcome, read}
 use Rattle.timetable.specs.EditsFile.{edit-entry, edits-on}
-use Rattle.edit_files.specs.Answers.{scan-read}
+use Rattle.fields.specs.Outcomes.{end-of}
+use Rattle.edit_files.specs.Answers.{edit-outcome, scan-outcome}
 use Rattle.fields.proofs.ReadLaws.{SoFar, start, turn, stop, over}
-use Rattle.edit_files.proofs.EditLaws.{edit-some, edit-none}
-use Rattle.edit_files.proofs.ListLaws.{left-at, edit-taken, edit-stopped, edits-over}
+use Rattle.edit_files.proofs.EditsParts.{left-at, edit-taken, edit-stopped, edits-over}
 use Rattle.edit_files.proofs.list.scan_edits.Statement.{statement}
 use Rattle.edit_files.proofs.list.scan_edits.Tie as tie
 
@@ -34,14 +34,14 @@ enum-known-found : tie.Need-enum-known-found Inv-loop μ-loop
 enum-known-found c = search needs
 
 returns : tie.Need-returns Inv-loop μ-loop
-unfolding scan-read edits-on
+unfolding scan-outcome end-of edits-on edit-outcome
 returns c =
     let s = c .before .before .before .before .before .before .before .args in
     let l = c .before .before .before .before .before .loop in
     let g = c .before .found .given in
-    let o = edit-none _ (g .0 .0) (g .0 .1 .0) (sym (c .before .before .before .read-edit .ensures) ∙ g .1) in
+    let o = sym (c .before .before .before .read-edit .ensures) ∙ ap edit-outcome (g .1) in
     let q = edit-stopped (now (s .file)) (s .count) (l .i) (l .place) (omega arith) (g .0 .0) (g .0 .1 .0) o in
-    sym (ap scan-read (stop _ _ _ (l .inv .1) (g .0 .0) (g .0 .1 .0) q))
+    sym (ap end-of (stop _ _ _ (l .inv .1) (g .0 .0) (g .0 .1 .0) q))
 
 enum-known-found-2 : tie.Need-enum-known-found-2 Inv-loop μ-loop
 enum-known-found-2 c = search needs
@@ -53,20 +53,21 @@ loop-less : tie.Need-loop-less Inv-loop μ-loop
 loop-less c = omega arith
 
 loop-again : tie.Need-loop-again Inv-loop μ-loop
+unfolding edit-outcome
 loop-again c =
     let s = c .before .before .before .before .before .before .before .args in
     let l = c .before .before .before .before .before .loop in
     let g = c .before .found2 .given in
-    let o = edit-some _ (g .0 .0) (g .0 .1 .0) (sym (c .before .before .before .read-edit .ensures) ∙ g .1) in
+    let o = sym (c .before .before .before .read-edit .ensures) ∙ ap edit-outcome (g .1) in
     let q = edit-taken (now (s .file)) (s .count) (l .i) (l .place) (omega arith) (g .0 .0) (g .0 .1 .0) o in
     (omega arith, turn _ _ _ (l .inv .1) (g .0 .0) _ q)
 
 returns-2 : tie.Need-returns-2 Inv-loop μ-loop
-unfolding scan-read edits-on
+unfolding scan-outcome end-of edits-on
 returns-2 c =
     let s = c .before .before .before .args in
     let l = c .before .loop in
-    sym (ap scan-read (over _ _ _ (l .inv .1) (l .place) (edits-over (now (s .file)) (s .count) (l .i) (l .place) (omega arith))))
+    sym (ap end-of (over _ _ _ (l .inv .1) (l .place) (edits-over (now (s .file)) (s .count) (l .i) (l .place) (omega arith))))
 
 pub scan-edits-spec : {M : Type 1} → statement M
 scan-edits-spec =

@@ -3,9 +3,10 @@ use mathlib.Core.Path.{_≡_, refl, sym, _∙_, ap}
 use denote.Ref.{now}
 use borrow.Author.Needs.{needs}
 use Rattle.timetable.specs.EditsFile.{edits-on}
-use Rattle.edit_files.specs.Answers.{edits-read}
+use Rattle.edit_files.specs.Answers.{scan-outcome, edits-read}
 use Rattle.fields.proofs.EntryLaws.{placed-some, placed-none}
-use Rattle.edit_files.proofs.ListLaws.{scan-end, scan-none, edits-many}
+use Rattle.fields.proofs.EndLaws.{end-accepted, end-refused}
+use Rattle.edit_files.proofs.EditsParts.{edits-many}
 use Rattle.edit_files.proofs.list.scanned_part.Statement.{statement}
 use Rattle.edit_files.proofs.list.scanned_part.Tie as tie
 
@@ -22,18 +23,19 @@ enum-known-found-2 : tie.Need-enum-known-found-2
 enum-known-found-2 c = search needs
 
 returns : tie.Need-returns
+unfolding scan-outcome
 returns c =
     let s = c .before .before .before .before .before .before .args in
     let g = c .before .before .found .given in
-    let o = scan-none _ (g .0 .0) (g .0 .1 .0) (sym (c .before .before .before .before .scan-edits .ensures) ∙ g .1) in
+    let o = end-refused _ (g .0 .0) (g .0 .1 .0) (sym (c .before .before .before .before .scan-edits .ensures) ∙ ap scan-outcome (g .1)) in
     c .refused-part .ensures ∙ sym (ap edits-read (placed-none (edits-on (s .count)) (now (s .file)) (s .at) (g .0 .0) (g .0 .1 .0) o))
 
 returns-2 : tie.Need-returns-2
-unfolding edits-read
+unfolding edits-read scan-outcome
 returns-2 c =
     let s = c .before .before .before .before .before .args in
     let g = c .before .found2 .given in
-    let (es, o) = scan-end _ (g .0 .0) (sym (c .before .before .before .scan-edits .ensures) ∙ g .1) in
+    let (es, o) = end-accepted _ (g .0 .0) (sym (c .before .before .before .scan-edits .ensures) ∙ ap scan-outcome (g .1)) in
     sym (ap edits-read (placed-some (edits-on (s .count)) (now (s .file)) (s .at) es (g .0 .0) o) ∙ rw (edits-many (s .count) (now (s .file)) (s .at) es (g .0 .0) o))
 
 pub scanned-part-spec : {M : Type 1} → statement M

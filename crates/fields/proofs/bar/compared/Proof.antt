@@ -4,9 +4,7 @@ use mathlib.Core.Path.{_≡_, sym, _∙_, ap}
 use denote.Ref.{now}
 use borrow.Author.Needs.{needs}
 use Rattle.timetable.specs.Formats.{field-at}
-use Rattle.fields.specs.between.Answers.{field-read}
-use Rattle.fields.proofs.FieldLaws.{field-value, field-refused}
-use Rattle.fields.specs.between.Answers.{number-read}
+use Rattle.fields.specs.between.Answers.{field-outcome, number-read}
 use Rattle.fields.proofs.bar.compared.Statement.{statement}
 use Rattle.fields.proofs.bar.compared.Tie as tie
 
@@ -28,21 +26,21 @@ enum-known-found-2 c = search needs
 
 -- src/bar.rt:86:1
 returns : tie.Need-returns
-unfolding number-read
+unfolding number-read field-outcome
 returns c =
     let s = c .before .before .before .before .before .before .args in
     let g = c .before .found .given in
-    let e = c .before .before .before .field .ensures ∙ ap (λ (lo : ℕ). field-read (field-at lo (s .hi) (now (s .file)) (s .at))) (c .before .before .before .before .least .ensures) in
-    sym (ap number-read (field-value _ (g .0 .0) (g .0 .1 .0) (sym e ∙ g .1)))
+    let e = c .before .before .before .field .ensures ∙ ap (λ (lo : ℕ). field-at lo (s .hi) (now (s .file)) (s .at)) (c .before .before .before .before .least .ensures) in
+    sym (ap number-read (sym e ∙ ap field-outcome (g .1)))
 
 -- src/bar.rt:86:1
 returns-2 : tie.Need-returns-2
-unfolding number-read
+unfolding number-read field-outcome
 returns-2 c =
     let s = c .before .before .before .before .before .before .args in
     let g = c .before .found2 .given in
-    let e = c .before .before .before .field .ensures ∙ ap (λ (lo : ℕ). field-read (field-at lo (s .hi) (now (s .file)) (s .at))) (c .before .before .before .before .least .ensures) in
-    sym (ap number-read (field-refused _ (g .0 .0) (g .0 .1 .0) (sym e ∙ g .1)))
+    let e = c .before .before .before .field .ensures ∙ ap (λ (lo : ℕ). field-at lo (s .hi) (now (s .file)) (s .at)) (c .before .before .before .before .least .ensures) in
+    sym (ap number-read (sym e ∙ ap field-outcome (g .1)))
 
 pub compared-spec : {M : Type 1} → statement M
 compared-spec =

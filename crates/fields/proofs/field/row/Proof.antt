@@ -8,14 +8,12 @@ use native.Mathlib.Omega.{arith}
 use lib.ListN.{length, length-map, getD, set, take, drop}
 use denote.Ref.{now}
 use borrow.Author.Needs.{needs}
-use Rattle.network.proofs.RowLaws.{used-rows}
+use Rattle.network.proofs.RowsInUse.{used-rows}
 use Rattle.timetable.specs.Formats.{Outcome, accepted, refused, Range, _to_, field-at, read, row}
-use Rattle.fields.specs.declared.field.FieldRead.{FieldRead}
 use Rattle.fields.specs.declared.field.Span.{Span}
 use Rattle.fields.specs.declared.field.Spans.{Spans}
 use Rattle.fields.specs.declared.field.RowRead.{RowRead}
-use Rattle.fields.specs.between.Answers.{ranges-of, padded, row-read}
-use Rattle.fields.proofs.FieldLaws.{field-value, field-refused}
+use Rattle.fields.specs.between.Answers.{ranges-of, padded, row-read, field-outcome}
 use Rattle.fields.proofs.ReadLaws.{prefixed, SoFar, start, turn, stop, over, padded-next, row-next, row-stop, row-over, used-next, used-over}
 use Rattle.fields.proofs.field.row.Statement.{statement}
 use Rattle.fields.proofs.field.row.Tie as tie
@@ -87,13 +85,14 @@ refused-row-requires : tie.Need-refused-row-requires Inv-loop μ-loop
 refused-row-requires c κs = search needs
 
 returns : tie.Need-returns Inv-loop μ-loop
+unfolding field-outcome
 returns c =
     let l = c .before .before .before .before .before .before .before .loop in
     let u = c .before .before .before .before .before .before .before .before .in-use in
     let s = c .before .before .before .before .before .before .before .before .before .before .before .args in
     let g = c .before .before .number .given in
     let many : length (s .ranges .spans) ≡ 8 = simp length-map at (c .before .before .before .before .before .before .before .before .before .before .before .good .1 .1 .0 .1 .1 .1 .0 .1 .0 .1) in
-    let o = field-refused _ (g .0 .0) (g .0 .1 .0) (sym (c .before .before .before .before .field .ensures) ∙ g .1) in
+    let o = sym (c .before .before .before .before .field .ensures) ∙ ap field-outcome (g .1) in
     let q = stopped (now (s .file)) (s .ranges .spans) (u .result) (omega arith) (l .i) (l .place) (g .0 .0) (g .0 .1 .0) (omega arith) o in
     c .refused-row .ensures ∙ sym (ap row-read (whole (s .ranges) (u .result) (now (s .file)) (s .at) many (u .ensures) ∙ stop _ _ _ (l .inv .1 .0) (g .0 .0) (g .0 .1 .0) q))
 
@@ -113,14 +112,14 @@ loop-less : tie.Need-loop-less Inv-loop μ-loop
 loop-less c = omega arith
 
 loop-again : tie.Need-loop-again Inv-loop μ-loop
-unfolding turn
+unfolding turn field-outcome
 loop-again c =
     let l = c .before .before .before .before .before .before .loop in
     let u = c .before .before .before .before .before .before .before .in-use in
     let s = c .before .before .before .before .before .before .before .before .before .before .args in
     let g = c .before .number2 .given in
     let many : length (s .ranges .spans) ≡ 8 = simp length-map at (c .before .before .before .before .before .before .before .before .before .before .good .1 .1 .0 .1 .1 .1 .0 .1 .0 .1) in
-    let o = field-value _ (g .0 .0) (g .0 .1 .0) (sym (c .before .before .before .field .ensures) ∙ g .1) in
+    let o = sym (c .before .before .before .field .ensures) ∙ ap field-outcome (g .1) in
     let q = taken (now (s .file)) (s .ranges .spans) (u .result) (omega arith) (l .i) (l .place) (g .0 .0) (g .0 .1 .0) (omega arith) o in
     let f = l .inv .1 .0 in
     (omega arith, (turn _ _ _ f (g .0 .0) _ q, ap (λ (v : List ℕ). set v (l .i) (g .0 .0)) (l .inv .1 .1) ∙ padded-next 12 0 (f .elements) (l .i) (g .0 .0) (f .many) (omega arith)))

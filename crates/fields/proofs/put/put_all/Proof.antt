@@ -7,10 +7,10 @@ use native.Mathlib.Omega.{arith}
 use borrow.Author.Needs.{needs}
 use lib.ListN.{length, length-map, take, drop}
 use Rattle.numbers.specs.Numbers.{write-number}
-use Rattle.network.proofs.RowLaws.{used-rows}
+use Rattle.network.proofs.RowsInUse.{used-rows}
 use Rattle.timetable.specs.Outputs.{put}
 use Rattle.timetable.specs.Formats.{bytes-of}
-use Rattle.timetable.proofs.PutLaws.{each-on, each-length, each-over}
+use Rattle.timetable.proofs.BuffersFilled.{each-on, each-length, each-over}
 use Rattle.fields.specs.between.Answers.{in-use}
 use Rattle.fields.proofs.put.put_all.Statement.{statement}
 use Rattle.fields.proofs.put.put_all.Tie as tie

@@ -3,7 +3,7 @@ use mathlib.Core.List.{[], _∷_}
 use native.Mathlib.Omega.{arith}
 use denote.Ref.{now}
 use borrow.Author.Needs.{needs}
-use Rattle.fields.proofs.PutLaws.{one-puts, far-puts}
+use Rattle.fields.proofs.NumbersPut.{one-puts, far-puts}
 use Rattle.fields.proofs.put.put_number.Statement.{statement}
 use Rattle.fields.proofs.put.put_number.Tie as tie
 

@@ -3,7 +3,7 @@ use native.Mathlib.Omega.{arith}
 use denote.Ref.{now}
 use borrow.Author.Needs.{needs}
 use Rattle.fields.specs.between.Answers.{in-use}
-use Rattle.fields.proofs.PutLaws.{near-puts, far-puts}
+use Rattle.fields.proofs.NumbersPut.{near-puts, far-puts}
 use Rattle.fields.proofs.put.put_row.Statement.{statement}
 use Rattle.fields.proofs.put.put_row.Tie as tie
 

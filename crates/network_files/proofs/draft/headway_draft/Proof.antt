@@ -6,11 +6,10 @@ use mathlib.Core.List.{List, [], _∷_}
 use native.Mathlib.Omega.{arith}
 use denote.Ref.{now}
 use borrow.Author.Needs.{needs}
-use Rattle.timetable.specs.Formats.{Format, Outcome, accepted, refused, read}
+use Rattle.timetable.specs.Formats.{Format, Outcome, accepted, read}
 use Rattle.timetable.specs.NetworkFile.{lines-part, count-part, headway-part, stations-part, network-format, with-headway}
-use Rattle.fields.specs.between.Answers.{padded}
+use Rattle.fields.specs.between.Answers.{padded, field-outcome}
 use Rattle.network_files.specs.Answers.{draft-read}
-use Rattle.fields.proofs.FieldLaws.{field-value, field-refused}
 use Rattle.fields.proofs.EntryLaws.{small, field-bounded, field-on, field-stop}
 use Rattle.network_files.proofs.DraftLaws.{headway-known}
 use Rattle.network_files.proofs.draft.headway_draft.Statement.{statement}
@@ -35,19 +34,19 @@ count-draft-requires : tie.Need-count-draft-requires
 count-draft-requires c κs = search needs
 
 returns : tie.Need-returns
-unfolding headway-part
+unfolding headway-part field-outcome
 returns c x k =
     let s = c .before .before .before .before .before .before .args in
     let g = c .before .before .headway .given in
-    let o = field-refused _ (g .0 .0) (g .0 .1 .0) (sym (c .before .before .before .before .field .ensures) ∙ g .1) in
+    let o = sym (c .before .before .before .before .field .ensures) ∙ ap field-outcome (g .1) in
     c .refused-draft .ensures ∙ sym (ap draft-read (field-stop 1 30 (λ h. count-part (with-headway x h)) (now (s .file)) (s .at) (g .0 .0) (g .0 .1 .0) o))
 
 returns-2 : tie.Need-returns-2
-unfolding headway-part
+unfolding headway-part field-outcome
 returns-2 c x k =
     let s = c .before .before .before .before .before .before .before .args in
     let g = c .before .before .before .headway2 .given in
-    let o = field-value _ (g .0 .0) (g .0 .1 .0) (sym (c .before .before .before .before .before .field .ensures) ∙ g .1) in
+    let o = sym (c .before .before .before .before .before .field .ensures) ∙ ap field-outcome (g .1) in
     let b = field-bounded 1 30 (now (s .file)) (s .at) (g .0 .0) (g .0 .1 .0) o in
     let n = small _ _ (c .before .narrow .ensures) (omega (arith, b .1)) in
     c .count-draft .ensures (with-headway x (g .0 .0)) (headway-known x (s .known) (g .0 .0) (c .before .narrow .result) k n) ∙ sym (ap draft-read (field-on 1 30 (λ h. count-part (with-headway x h)) (now (s .file)) (s .at) (g .0 .0) (g .0 .1 .0) o))

@@ -8,11 +8,10 @@ use lib.ListN.{getD}
 use denote.Ref.{now}
 use borrow.Author.Needs.{needs}
 use Rattle.network.specs.declared.LineRow.{LineRow}
-use Rattle.timetable.specs.Formats.{Format, Range, _to_, done, _and-then_, read, row}
+use Rattle.timetable.specs.Formats.{Format, Range, _to_, done, _and-then_, read, row, accepted}
 use Rattle.timetable.specs.NetworkFile.{line-of}
 use Rattle.fields.specs.between.Answers.{row-read}
-use Rattle.network_files.specs.Answers.{line-read}
-use Rattle.network_files.specs.declared.draft.LineRead.{LineRead}
+use Rattle.network_files.specs.Answers.{line-outcome}
 use Rattle.fields.specs.declared.field.RowRead.{RowRead}
 use Rattle.fields.proofs.EntryLaws.{RowTaken, row-took, row-refusal, made, unmade}
 use Rattle.network_files.proofs.DraftLaws.{line-format, line-padded}
@@ -41,7 +40,7 @@ line-from-requires : tie.Need-line-from-requires
 line-from-requires c κs = search needs
 
 returns : tie.Need-returns
-unfolding line-read
+unfolding line-outcome
 returns c =
     let s = c .before .before .before .before .before .before .args in
     let r = c .before .before .before .row in
@@ -49,19 +48,19 @@ returns c =
     let w = row-took (ranges (s .before)) (now (s .file)) (s .at) (r .result) e (c .before .before .if1 .taken) in
     let v = c .line-from .ensures (small (s .before) (now (s .file)) (s .at) (r .result) w) in
     let u = v ∙ ap line-of (w .stored) ∙ line-padded (w .numbers) in
-    ap (λ (x : LineRow). LineRead.Row x (r .result .place)) u
-    ∙ sym (ap (λ (f : Format LineRow). line-read (read f (now (s .file)) (s .at))) (line-format (s .before))
-    ∙ ap line-read (made line-of (row (ranges (s .before)) []) (now (s .file)) (s .at) (w .numbers) (r .result .place) (w .outcome)))
+    ap (λ (x : LineRow). accepted x (r .result .place)) u
+    ∙ sym (ap (λ (f : Format LineRow). read f (now (s .file)) (s .at)) (line-format (s .before))
+    ∙ made line-of (row (ranges (s .before)) []) (now (s .file)) (s .at) (w .numbers) (r .result .place) (w .outcome))
 
 returns-2 : tie.Need-returns-2
-unfolding line-read
+unfolding line-outcome
 returns-2 c =
     let s = c .before .before .before .before .args in
     let r = c .before .row in
     let e = r .ensures ∙ ap (λ (l : List Range). row-read (read (row l []) (now (s .file)) (s .at))) (c .before .before .line-spans .ensures) in
     let u = row-refusal _ (r .result) e (c .if1 .left) in
-    sym (ap (λ (f : Format LineRow). line-read (read f (now (s .file)) (s .at))) (line-format (s .before))
-    ∙ ap line-read (unmade line-of (row (ranges (s .before)) []) (now (s .file)) (s .at) (r .result .refusal) (r .result .place) u))
+    sym (ap (λ (f : Format LineRow). read f (now (s .file)) (s .at)) (line-format (s .before))
+    ∙ unmade line-of (row (ranges (s .before)) []) (now (s .file)) (s .at) (r .result .refusal) (r .result .place) u)
 
 pub line-row-spec : {M : Type 1} → statement M
 line-row-spec =

@@ -17,10 +17,10 @@ use Rattle.timetable.specs.NetworkFile.{unjoined-fault, line-fields, line-entry
 use Rattle.network_files.specs.declared.draft.LinesRead.{LinesRead}
 use Rattle.timetable.specs.declared.Fault.{Fault}
 use Rattle.fields.specs.between.Answers.{padded}
-use Rattle.network_files.specs.Answers.{fault-next, lines-read}
+use Rattle.network_files.specs.Answers.{fault-next, lines-read, line-outcome}
 use Rattle.fields.proofs.ReadLaws.{prefixed, SoFar, start, turn, stop, over, padded-next, map-snoc, entries-next, entries-stop, entries-over}
 use Rattle.fields.proofs.EntryLaws.{placed-some, placed-none}
-use Rattle.network_files.proofs.DraftLaws.{line-some, line-none, fault-snoc}
+use Rattle.network_files.proofs.DraftLaws.{fault-snoc}
 use Rattle.network_files.proofs.draft.lines.Statement.{statement}
 use Rattle.network_files.proofs.draft.lines.Tie as tie
 
@@ -85,12 +85,12 @@ refused-lines-requires : tie.Need-refused-lines-requires Inv-loop μ-loop
 refused-lines-requires c κs = search needs
 
 returns : tie.Need-returns Inv-loop μ-loop
-unfolding lines-format
+unfolding lines-format line-outcome
 returns c =
     let s = c .before .before .before .before .before .before .before .before .before .before .args in
     let l = c .before .before .before .before .before .before .loop in
     let g = c .before .before .found .given in
-    let o = line-none _ (g .0 .0) (g .0 .1 .0) (sym (c .before .before .before .before .line-row .ensures) ∙ g .1) in
+    let o = sym (c .before .before .before .before .line-row .ensures) ∙ ap line-outcome (g .1) in
     let q = stopped (now (s .file)) (s .count) (l .i) (l .before) (l .place) (omega arith) (g .0 .0) (g .0 .1 .0) o in
     c .refused-lines .ensures ∙ sym (ap (lines-read (s .known)) (stop _ _ _ (l .inv .1 .0) (g .0 .0) (g .0 .1 .0) q))
 
@@ -113,12 +113,12 @@ loop-less : tie.Need-loop-less Inv-loop μ-loop
 loop-less c = omega arith
 
 loop-again : tie.Need-loop-again Inv-loop μ-loop
-unfolding turn
+unfolding turn line-outcome
 loop-again c =
     let s = c .before .before .before .before .before .before .before .before .before .before .args in
     let l = c .before .before .before .before .before .before .loop in
     let g = c .before .before .found2 .given in
-    let o = line-some _ (g .0 .0) (g .0 .1 .0) (sym (c .before .before .before .before .line-row .ensures) ∙ g .1) in
+    let o = sym (c .before .before .before .before .line-row .ensures) ∙ ap line-outcome (g .1) in
     let q = taken (now (s .file)) (s .count) (l .i) (l .before) (l .place) (omega arith) (g .0 .0) (g .0 .1 .0) o in
     let f = l .inv .1 .0 in
     let x : Placed LineRow = record { place = l .place; entry = g .0 .0 } in (

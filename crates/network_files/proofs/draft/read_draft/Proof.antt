@@ -6,11 +6,10 @@ use mathlib.Core.List.{List, [], _∷_}
 use native.Mathlib.Omega.{arith}
 use denote.Ref.{now}
 use borrow.Author.Needs.{needs}
-use Rattle.timetable.specs.Formats.{Format, Outcome, accepted, refused, read}
+use Rattle.timetable.specs.Formats.{Format, Outcome, accepted, read}
 use Rattle.timetable.specs.NetworkFile.{lines-part, count-part, headway-part, stations-part, network-format}
-use Rattle.fields.specs.between.Answers.{padded}
+use Rattle.fields.specs.between.Answers.{padded, field-outcome}
 use Rattle.network_files.specs.Answers.{draft-read}
-use Rattle.fields.proofs.FieldLaws.{field-value, field-refused}
 use Rattle.fields.proofs.EntryLaws.{small, field-bounded, field-on, field-stop}
 use Rattle.network_files.proofs.DraftLaws.{headway-known}
 use Rattle.network_files.proofs.draft.read_draft.Statement.{statement}
@@ -32,27 +31,28 @@ narrow-requires : tie.Need-narrow-requires
 narrow-requires c κs = search needs
 
 stations-draft-requires : tie.Need-stations-draft-requires
+unfolding field-outcome
 stations-draft-requires c κs =
     let s = c .before .before .before .before .before .before .args in
     let g = c .before .before .count2 .given in
-    let o = field-value _ (g .0 .0) (g .0 .1 .0) (sym (c .before .before .before .before .field .ensures) ∙ g .1) in
+    let o = sym (c .before .before .before .before .field .ensures) ∙ ap field-outcome (g .1) in
     let b = field-bounded 1 16 (now (s .file)) 0 (g .0 .0) (g .0 .1 .0) o in
     omega (arith, b .1, small _ _ (c .narrow .ensures) (omega (arith, b .1)))
 
 returns : tie.Need-returns
-unfolding network-format
+unfolding network-format field-outcome
 returns c =
     let s = c .before .before .before .before .before .before .args in
     let g = c .before .before .count .given in
-    let o = field-refused _ (g .0 .0) (g .0 .1 .0) (sym (c .before .before .before .before .field .ensures) ∙ g .1) in
+    let o = sym (c .before .before .before .before .field .ensures) ∙ ap field-outcome (g .1) in
     c .refused-draft .ensures ∙ sym (ap draft-read (field-stop 1 16 (λ k. stations-part k) (now (s .file)) 0 (g .0 .0) (g .0 .1 .0) o))
 
 returns-2 : tie.Need-returns-2
-unfolding network-format
+unfolding network-format field-outcome
 returns-2 c =
     let s = c .before .before .before .before .before .before .before .args in
     let g = c .before .before .before .count2 .given in
-    let o = field-value _ (g .0 .0) (g .0 .1 .0) (sym (c .before .before .before .before .before .field .ensures) ∙ g .1) in
+    let o = sym (c .before .before .before .before .before .field .ensures) ∙ ap field-outcome (g .1) in
     let b = field-bounded 1 16 (now (s .file)) 0 (g .0 .0) (g .0 .1 .0) o in
     let n = small _ _ (c .before .narrow .ensures) (omega (arith, b .1)) in
     c .stations-draft .ensures ∙ ap (λ (m : ℕ). draft-read (read (stations-part m) (now (s .file)) (g .0 .1 .0))) n ∙ sym (ap draft-read (field-on 1 16 (λ k. stations-part k) (now (s .file)) 0 (g .0 .0) (g .0 .1 .0) o))

@@ -14,9 +14,8 @@ use Rattle.timetable.specs.Formats.{Outcome, accepted, refused, read, entries}
 use Rattle.timetable.specs.NetworkFile.{station-entry, station-bar, stations-format}
 use Rattle.network_files.specs.declared.draft.StationsRead.{StationsRead}
 use Rattle.fields.specs.between.Answers.{padded}
-use Rattle.network_files.specs.Answers.{stations-read}
+use Rattle.network_files.specs.Answers.{stations-read, station-outcome}
 use Rattle.fields.proofs.ReadLaws.{prefixed, SoFar, start, turn, stop, over, padded-next, entries-next, entries-stop, entries-over}
-use Rattle.network_files.proofs.DraftLaws.{station-some, station-none}
 use Rattle.network_files.proofs.draft.stations.Statement.{statement}
 use Rattle.network_files.proofs.draft.stations.Tie as tie
 
@@ -69,12 +68,12 @@ refused-stations-requires : tie.Need-refused-stations-requires Inv-loop μ-loop
 refused-stations-requires c κs = search needs
 
 returns : tie.Need-returns Inv-loop μ-loop
-unfolding stations-format
+unfolding stations-format station-outcome
 returns c =
     let s = c .before .before .before .before .before .before .before .before .before .args in
     let l = c .before .before .before .before .before .before .loop in
     let g = c .before .before .found .given in
-    let o = station-none _ (g .0 .0) (g .0 .1 .0) (sym (c .before .before .before .before .station-row .ensures) ∙ g .1) in
+    let o = sym (c .before .before .before .before .station-row .ensures) ∙ ap station-outcome (g .1) in
     let q = stopped (now (s .file)) (s .count) (l .i) (l .before) (l .place) (omega arith) (g .0 .0) (g .0 .1 .0) o in
     c .refused-stations .ensures ∙ sym (ap stations-read (stop _ _ _ (l .inv .1 .0) (g .0 .0) (g .0 .1 .0) q))
 
@@ -94,12 +93,12 @@ loop-less : tie.Need-loop-less Inv-loop μ-loop
 loop-less c = omega arith
 
 loop-again : tie.Need-loop-again Inv-loop μ-loop
-unfolding turn
+unfolding turn station-outcome
 loop-again c =
     let s = c .before .before .before .before .before .before .before .before .args in
     let l = c .before .before .before .before .before .loop in
     let g = c .before .found2 .given in
-    let o = station-some _ (g .0 .0) (g .0 .1 .0) (sym (c .before .before .before .station-row .ensures) ∙ g .1) in
+    let o = sym (c .before .before .before .station-row .ensures) ∙ ap station-outcome (g .1) in
     let q = taken (now (s .file)) (s .count) (l .i) (l .before) (l .place) (omega arith) (g .0 .0) (g .0 .1 .0) o in
     let f = l .inv .1 .0 in
     (omega arith, (turn _ _ _ f (g .0 .0) _ q, ap (λ (v : List StationRow). set v (l .i) (g .0 .0)) (l .inv .1 .1) ∙ padded-next 16 blank-station (f .elements) (l .i) (g .0 .0) (f .many) (omega (arith, c .before .before .before .before .before .before .before .before .pre))))

@@ -11,9 +11,8 @@ use Rattle.fields.specs.between.Answers.{padded}
 use Rattle.fields.proofs.EntryLaws.{row-value, row-refusal, field-bounded}
 use Rattle.railway.specs.declared.relation.Relation.{Relation}
 use Rattle.railway.specs.declared.edit.StationRelation.{StationRelation}
-use Rattle.relation_files.specs.declared.reading.RelationRead.{RelationRead}
 use Rattle.fields.specs.between.Answers.{in-use, number-read}
-use Rattle.relation_files.specs.between.Answers.{relation-trains, relation-fields, relation-read}
+use Rattle.relation_files.specs.between.Answers.{relation-trains, relation-fields, relation-outcome}
 use Rattle.fields.proofs.BarLaws.{number-value, number-refusal}
 use Rattle.relation_files.proofs.ReadingLaws.{relation-padded, trains-stop, trains-some, interval-stop, count-stop, count-then, place-stop, kind-stop, kind-then}
 use borrow.Author.Needs.{needs}
@@ -53,12 +52,12 @@ returns c h =
     let q = number-value _ (m .result) e (c .before .before .if2 .taken) in
     let b = field-bounded _ 240 (now (s .file)) (s .at) (n .result .value) (n .result .place) o .1 in
     c .relation-trains .ensures h b
-    ∙ ap (λ (l : List ℕ). relation-read (read (relation-trains (s .s) (s .kind) (n .result .value) (m .result .value) l) (now (s .file)) (m .result .place)))
+    ∙ ap (λ (l : List ℕ). read (relation-trains (s .s) (s .kind) (n .result .value) (m .result .value) l) (now (s .file)) (m .result .place))
     (c .before .bar-after2 .ensures ∙ ap (bar-after (m .result .value)) (c .before .before .before .before .before .bar-after .ensures))
-    ∙ sym (ap relation-read (count-then (s .s) (s .kind) (in-use (s .bar)) (now (s .file)) (s .at) (n .result .value) (n .result .place) o (m .result .value) (m .result .place) q))
+    ∙ sym (count-then (s .s) (s .kind) (in-use (s .bar)) (now (s .file)) (s .at) (n .result .value) (n .result .place) o (m .result .value) (m .result .place) q)
 
 returns-2 : tie.Need-returns-2
-unfolding relation-read
+unfolding relation-outcome
 returns-2 c h =
     let s = c .before .before .before .before .before .before .before .args in
     let n = c .before .before .before .before .before .compared in
@@ -68,15 +67,15 @@ returns-2 c h =
     ∙ ap (λ (l : List ℕ). number-read (field-at (least 2 l) (c .before .before .most-trains .result) (now (s .file)) (n .result .place))) (c .before .before .before .bar-after .ensures)
     ∙ ap (λ (x : ℕ). number-read (field-at (least 2 (bar-after (n .result .value) (in-use (s .bar)))) x (now (s .file)) (n .result .place))) (c .before .before .most-trains .ensures .0) in
     let q = number-refusal _ (m .result) e (c .if2 .left) in
-    sym (ap relation-read (count-stop (s .s) (s .kind) (in-use (s .bar)) (now (s .file)) (s .at) (n .result .value) (n .result .place) o (m .result .refusal) (m .result .place) q))
+    sym (count-stop (s .s) (s .kind) (in-use (s .bar)) (now (s .file)) (s .at) (n .result .value) (n .result .place) o (m .result .refusal) (m .result .place) q)
 
 returns-3 : tie.Need-returns-3
-unfolding relation-read
+unfolding relation-outcome
 returns-3 c h =
     let s = c .before .before .before .args in
     let n = c .before .compared in
     let o = number-refusal _ (n .result) (n .ensures) (c .if1 .left) in
-    sym (ap relation-read (interval-stop (s .s) (s .kind) (in-use (s .bar)) (now (s .file)) (s .at) (n .result .refusal) (n .result .place) o))
+    sym (interval-stop (s .s) (s .kind) (in-use (s .bar)) (now (s .file)) (s .at) (n .result .refusal) (n .result .place) o)
 
 pub relation-fields-spec : {M : Type 1} → statement M
 relation-fields-spec =

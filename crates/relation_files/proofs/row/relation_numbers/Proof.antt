@@ -1,7 +1,7 @@
 -- `relation_files::row::relation_numbers` meets its contract: the numbers behind the first of those that are led.
 -- Assumes nothing.
 use borrow.Author.Needs.{needs}
-use Rattle.relation_files.proofs.RowLaws.{led-rest}
+use Rattle.relation_files.proofs.TrainNumbers.{led-rest}
 use Rattle.relation_files.proofs.row.relation_numbers.Statement.{statement}
 use Rattle.relation_files.proofs.row.relation_numbers.Tie as tie
 

@@ -7,7 +7,7 @@ use native.Mathlib.Omega.{arith}
 use lib.ListN.{length, length-map}
 use Rattle.timetable.specs.EditsFile.{relation-numbers, station-relation-numbers, group-numbers}
 use Rattle.fields.specs.between.Answers.{in-use}
-use Rattle.relation_files.proofs.RowLaws.{train-more, train-none, one, four-places}
+use Rattle.relation_files.proofs.TrainNumbers.{train-more, train-none, one, four-places}
 use borrow.Author.Needs.{needs}
 use Rattle.relation_files.proofs.row.with_train.Statement.{statement}
 use Rattle.relation_files.proofs.row.with_train.Tie as tie

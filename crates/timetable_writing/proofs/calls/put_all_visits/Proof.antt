@@ -11,7 +11,7 @@ use Rattle.page.specs.between.Changes.{table-in}
 use Rattle.sheet.specs.Sheets.{decode-sheet}
 use Rattle.sheet.proofs.StationLaws.{station-table}
 use Rattle.timetable_writing.specs.between.Parts.{visits-here, visit-part}
-use Rattle.fields.proofs.PutLaws.{Left, rows-put}
+use Rattle.fields.proofs.NumbersPut.{Left, rows-put}
 use Rattle.timetable_writing.proofs.TimetableLaws.{row-on}
 use Rattle.timetable_writing.proofs.calls.put_all_visits.Statement.{statement}
 use Rattle.timetable_writing.proofs.calls.put_all_visits.Tie as tie

@@ -2,7 +2,7 @@
 -- nothing.
 use native.Mathlib.Omega.{arith}
 use denote.Ref.{now}
-use Rattle.fields.proofs.PutLaws.{near}
+use Rattle.fields.proofs.NumbersPut.{near}
 use Rattle.timetable_writing.specs.between.Parts.{relation-row}
 use Rattle.timetable_writing.proofs.TimetableLaws.{writes-as}
 use borrow.Author.Needs.{needs}

@@ -12,7 +12,7 @@ use Rattle.page.specs.between.Changes.{table-in}
 use Rattle.page.specs.between.Entries.{relation-at}
 use Rattle.page.proofs.EntryLaws.{relation-of}
 use Rattle.timetable_writing.specs.between.Parts.{relation-row, relations-here}
-use Rattle.fields.proofs.PutLaws.{Left}
+use Rattle.fields.proofs.NumbersPut.{Left}
 use Rattle.timetable_writing.proofs.TimetableLaws.{row-on, rows-all}
 use Rattle.timetable_writing.proofs.calls.put_relations.Statement.{statement}
 use Rattle.timetable_writing.proofs.calls.put_relations.Tie as tie

@@ -6,7 +6,7 @@ use denote.Ref.{now}
 use Rattle.sheet.specs.Sheets.{decode-sheet}
 use Rattle.timetable_writing.proofs.TimetableLaws.{writes-as, file-put}
 use native.Mathlib.Omega.{arith}
-use Rattle.fields.proofs.PutLaws.{near}
+use Rattle.fields.proofs.NumbersPut.{near}
 use borrow.Author.Needs.{needs}
 use Rattle.timetable_writing.proofs.calls.put_timetable.Statement.{statement}
 use Rattle.timetable_writing.proofs.calls.put_timetable.Tie as tie

@@ -12,7 +12,7 @@ use Rattle.page.specs.between.Changes.{table-in}
 use Rattle.page.specs.between.Entries.{entry-at}
 use Rattle.page.proofs.EntryLaws.{entry-of, entry-parts}
 use Rattle.timetable_writing.specs.between.Parts.{entry-numbers, visits-here}
-use Rattle.fields.proofs.PutLaws.{Left}
+use Rattle.fields.proofs.NumbersPut.{Left}
 use Rattle.timetable_writing.proofs.TimetableLaws.{row-on, rows-all}
 use Rattle.timetable_writing.proofs.calls.put_visits.Statement.{statement}
 use Rattle.timetable_writing.proofs.calls.put_visits.Tie as tie

@@ -1,0 +1,22 @@
+-- An accepted edits file is the bytes of its edits' numbers (roundtrips EditTrips), and these are what the call writes.
+-- Assumes nothing.
+use Prim.Native.Nat.{ℕ, _≤_}
+use mathlib.Core.Path.{_≡_, refl, sym, _∙_, ap}
+use mathlib.Core.List.{List, _++_}
+use lib.ListN.{length, drop}
+use Rattle.railway.specs.declared.edit.Edit.{Edit}
+use Rattle.timetable.specs.Formats.{accepted, number, value-or, bytes-of, Placed}
+use Rattle.timetable.specs.EditsFile.{read-edits, edits-numbers}
+use Rattle.timetable.specs.Outputs.{reply}
+use Rattle.timetable.proofs.BuffersFilled.{put-whole, fits-in}
+use Rattle.roundtrips.proofs.EditTrips.{edits-trip}
+use Rattle.edit_files.specs.Answers.{no-edits}
+use Rattle.edit_writing.specs.Writing.{edits-bytes, write-edits, edits-written}
+use Rattle.edit_writing.specs.RoundTrip.{EditsComeBack}
+
+pub edits-come-back : EditsComeBack
+unfolding write-edits edits-written edits-bytes number value-or reply
+edits-come-back file buffer es next b e h =
+    let same : bytes-of (edits-numbers (es .entry)) ≡ file = sym (edits-trip .only file es next b e .file-is) in
+    let x = fits-in file buffer (length file) refl h in
+    rw (e, same) (sym (x .0), sym (x .1) ∙ put-whole file buffer h)

@@ -1,0 +1,20 @@
+-- `edit_writing::writing::plan_row` meets its contract: the numbers in use, one by one. Assumes nothing.
+use mathlib.Core.Path.{refl}
+use Rattle.timetable.specs.EditsFile.{plan-numbers}
+use Rattle.fields.specs.between.Answers.{in-use}
+use borrow.Author.Needs.{needs}
+use Rattle.edit_writing.proofs.writing.plan_row.Statement.{statement}
+use Rattle.edit_writing.proofs.writing.plan_row.Tie as tie
+
+cast-t3 : tie.Need-cast-t3
+cast-t3 c = search needs
+
+cast-t4 : tie.Need-cast-t4
+cast-t4 c = search needs
+
+returns : tie.Need-returns
+unfolding in-use plan-numbers
+returns c = refl
+
+pub plan-row-spec : {M : Type 1} → statement M
+plan-row-spec = tie.close (tie.spec cast-t3 cast-t4 returns)

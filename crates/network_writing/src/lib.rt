@@ -1,0 +1,2 @@
+// Networks written to files.
+pub mod writing; // the call

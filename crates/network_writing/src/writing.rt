@@ -1,0 +1,126 @@
+// A network, as it stands in a network file.
+ghost use mathlib.Core.Path.{_≡_};
+ghost use mathlib.Core.List.{flatMap};
+ghost use Prim.Native.Nat.{_≤_};
+ghost use lib.ListN.{length};
+ghost use Rattle.network.specs.Networks.{station-rows, line-rows};
+ghost use Rattle.timetable.specs.Formats.{bytes-of};
+ghost use Rattle.timetable.specs.NetworkFile.{station-numbers, line-numbers, network-numbers};
+ghost use Rattle.timetable.specs.Outputs.{reply, put};
+ghost use Rattle.fields.specs.between.Putting.{Places};
+ghost use Rattle.network_writing.specs.Writing.{write-network, network-written};
+use fields::field::Numbers;
+use fields::field::in_use;
+use fields::put;
+use network::LineRow;
+use network::Network;
+use network::StationRow;
+use timetable::Output;
+
+// "(number, area, count of tracks 1..8)"
+fn put_station(out: &mut [u8], at: usize, r: StationRow) -> usize
+    requires { ⌜ at ≤ 900000000 ⌝ }
+    ensures { λ q. ⌜ Places at (station-numbers r) (now (out .entry)) q (now (out .exit)) 36 ⌝ }
+{
+    let number = r.station.0 as u16;
+    let area = r.area.0 as u16;
+    let tracks = r.tracks as u16;
+    let row = Numbers {
+        from: 0,
+        to: 3,
+        values: [number, area, tracks, 0, 0, 0, 0, 0, 0, 0, 0, 0],
+    };
+    put::put_row(out, at, row)
+}
+
+// "(number, first station, second station, kind, least running time, capacity 1..9)"
+fn put_line(out: &mut [u8], at: usize, r: LineRow) -> usize
+    requires { ⌜ at ≤ 900000000 ⌝ }
+    ensures { λ q. ⌜ Places at (line-numbers r) (now (out .entry)) q (now (out .exit)) 36 ⌝ }
+{
+    let number = r.line.0 as u16;
+    let first = r.first.0 as u16;
+    let second = r.second.0 as u16;
+    let kind = r.kind as u16;
+    let least = r.least as u16;
+    let capacity = r.capacity as u16;
+    let row = Numbers {
+        from: 0,
+        to: 6,
+        values: [
+            number,
+            first,
+            second,
+            kind,
+            least,
+            capacity,
+            0,
+            0,
+            0,
+            0,
+            0,
+            0,
+        ],
+    };
+    put::put_row(out, at, row)
+}
+
+fn put_stations(out: &mut [u8], at: usize, n: Network) -> usize
+    requires { ⌜ at ≤ 800000000 ⌝ }
+    ensures { λ q. ⌜ Places at (flatMap station-numbers (station-rows n)) (now (out .entry)) q (now (out .exit)) 576 ⌝ }
+{
+    let rows = n.stations;
+    let k = in_use(n.stationcount as usize, 16);
+    let mut next = at;
+    let mut i: usize = 0;
+    while i < k {
+        let row = rows[i];
+        next = put_station(out, next, row);
+        i += 1;
+    }
+    next
+}
+
+fn put_lines(out: &mut [u8], at: usize, n: Network) -> usize
+    requires { ⌜ at ≤ 800000000 ⌝ }
+    ensures { λ q. ⌜ Places at (flatMap line-numbers (line-rows n)) (now (out .entry)) q (now (out .exit)) 1152 ⌝ }
+{
+    let rows = n.lines;
+    let k = in_use(n.linecount as usize, 32);
+    let mut next = at;
+    let mut i: usize = 0;
+    while i < k {
+        let row = rows[i];
+        next = put_line(out, next, row);
+        i += 1;
+    }
+    next
+}
+
+// "station count, stations rising, headway, line count, lines rising"
+fn put_network(out: &mut [u8], n: Network) -> usize
+    ensures { λ q. ⌜ (q ≡ length (bytes-of (network-numbers n))) × (now (out .exit) ≡ put 0 (bytes-of (network-numbers n)) (now (out .entry))) ⌝ }
+{
+    let stations = put::put_number(out, 0, n.stationcount as u16);
+    let headway = put_stations(out, stations, n);
+    let count = put::put_number(out, headway, n.headway as u16);
+    let lines = put::put_number(out, count, n.linecount as u16);
+    put_lines(out, lines, n)
+}
+
+// 3 and 4 for a network that is not good, 13.
+pub fn write_network(n: Network, out: &mut [u8]) -> Output
+    ensures { λ r. ⌜ (reply r ≡ write-network n (now (out .entry))) × (now (out .exit) ≡ network-written n (now (out .entry))) ⌝ }
+{
+    let refusal = n.refusal();
+    if refusal == 0 {
+        let mut spare = [0u8; 1];
+        let needed = put_network(&mut spare, n);
+        if out.len() < needed {
+            return Output::TooShort(needed);
+        }
+        put_network(out, n);
+        return Output::Written(needed);
+    }
+    Output::Refused(refusal)
+}
