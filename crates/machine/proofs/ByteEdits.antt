@@ -15,7 +15,7 @@ use Rattle.railway.specs.Ranges.{station-ok}
 use Rattle.network.specs.Networks.{network-refusal, listed, area-of}
 use Rattle.timetable.specs.Tables.{empty}
 use Rattle.timetable.specs.Machine.{Timetable, answer, after}
-use Rattle.timetable.specs.Groups.{Divided, in-group, names-group, divide, merge, gather, divided-answer, divided-after}
+use Rattle.timetable.specs.Groups.{six, Divided, in-group, names-group, divide, merge, gather, divided-answer, divided-after}
 use Rattle.timetable.specs.Good.{Whole}
 use Rattle.timetable.specs.Refusals.{call-refusal}
 use Rattle.timetable.proofs.RefusalLaws.{call-fits, or-none}
@@ -23,7 +23,7 @@ use Rattle.theory.proofs.Kept.{after-whole}
 use Rattle.theory.proofs.Divided.{answer-divided, after-divided}
 use Rattle.actions.specs.Early.{early-refusal}
 use Rattle.page.specs.Pages.{encode-page}
-use Rattle.sheet.specs.Sheets.{six, page-at, encode-sheet, decode-sheet, good-sheet, sheet-at, good-division, divided}
+use Rattle.sheet.specs.Sheets.{page-at, encode-sheet, decode-sheet, good-sheet, sheet-at, good-division, divided}
 use Rattle.network.proofs.AreaLaws.{area-high, listed-placed, listed-ok}
 use Rattle.page.proofs.PageLaws.{Coded, empty-coded, blank-page, good-bytes}
 use Rattle.sheet.proofs.SheetLaws.{area-number, page-good, page-zeros, decoded-page, decoded-good, good-all-coded, encoded-size, encoded-page, encoded-sheet-good, good-sheet-back}

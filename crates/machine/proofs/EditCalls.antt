@@ -9,25 +9,25 @@ use mathlib.Core.List.{List, [], _∷_, flatMap}
 use native.Mathlib.Omega.{arith}
 use lib.Dec.{T, ltb, leb, eqb, leb→le, le→leb, eqb→eq, eqb-refl}
 use lib.ListN.{length}
-use borrow.Author.Tests.{ltb-true, eqb-true, eq-eqb, ne-eqb}
+use borrow.Author.Tests.{ltb-true, eq-eqb, ne-eqb}
 use Rattle.base.specs.Choice.{if_then_else_, _if_else_}
 use Rattle.base.specs.Lists.{any, every, each-two, rising}
-use Rattle.base.proofs.Tests.{by-test, by-value, T-true, true-T, not-T-false, and-l, and-r, or-l, or-r, both, every-head, every-tail, every-mapped}
+use Rattle.base.proofs.Tests.{by-test, by-value, T-true, true-T, not-T-false, and-l, and-r, or-l, or-r, both, every-head, every-tail}
 use Rattle.railway.specs.Ranges.{station-ok, same-station}
-use Rattle.network.specs.Networks.{network-refusal, stations-of, listed, area-of}
+use Rattle.network.specs.Networks.{stations-of, listed, area-of}
 use Rattle.timetable.specs.Tables.{empty}
 use Rattle.timetable.specs.Machine.{Timetable, Meaning, local, throughout, meaning, known, sound, answer, after}
-use Rattle.timetable.specs.Groups.{reaches, names, names-group, in-group, divide, merge, gather, divided-answer, divided-after}
+use Rattle.timetable.specs.Groups.{six, reaches, names, names-group, in-group, divide, merge, gather, divided-answer, divided-after}
 use Rattle.timetable.specs.Good.{Whole, table-good, visits-good, relations-good}
 use Rattle.timetable.proofs.Locality.{others-kept, names-listed}
 use Rattle.timetable.proofs.RefusalLaws.{call-short, call-early, call-bad}
 use Rattle.theory.proofs.Kept.{after-whole}
 use Rattle.theory.proofs.Divided.{group-named}
-use Rattle.actions.specs.between.Shapes.{shape-of, touches}
+use Rattle.actions.specs.between.Shapes.{touches}
 use Rattle.actions.specs.Early.{fits-network, early-refusal}
 use Rattle.actions.proofs.EarlyLaws.{Early, early-facts}
 use Rattle.page.specs.Pages.{encode-page, decode-page, good-page}
-use Rattle.sheet.specs.Sheets.{six, page-at, encode-sheet, decode-sheet, good-sheet, sheet-at}
+use Rattle.sheet.specs.Sheets.{page-at, encode-sheet, decode-sheet, good-sheet, sheet-at}
 use Rattle.sheet.specs.between.Passes.{covers, sheet-passes}
 use Rattle.sheet.specs.declared.test.Extent.{Extent}
 use Rattle.sheet.proofs.PassLaws.{over-all, over-own}
@@ -38,11 +38,11 @@ use Rattle.sheet.proofs.SheetLaws.{sheets-equal, sheet-size, sheets-whole, row-
 use Rattle.machine.specs.Types.{Station, Edit, Network}
 use Rattle.machine.specs.Calls.{refused-with, sheet-refusal, sheet-answer, sheet-after}
 use Rattle.machine.specs.Calls.{named-good, parts, division-refusal, division-answer, division-after}
-use Rattle.machine.specs.between.PageEdits.{place-of, places, has-room, frames-fit, frames-answer, frames-after}
+use Rattle.page_edits.specs.between.PageEdits.{place-of, frames-answer, frames-after}
 use Rattle.sheet.specs.between.Frames.{frame}
-use Rattle.machine.specs.between.PageEdits.{touches-at, touches-area, area-passes, named-pass}
+use Rattle.machine.specs.between.Named.{touches-at, touches-area, area-passes, named-pass}
 use Rattle.sheet.proofs.FrameLaws.{sheet-frame, division-frame}
-use Rattle.machine.proofs.FrameEdits.{Holds, Step, every-listed, frames-answers, frames-step}
+use Rattle.machine.proofs.FrameEdits.{Holds, Step, frames-answers, frames-step}
 use Rattle.machine.proofs.ByteEdits.{call-good, in-listed, whole-of, page-of, whole-later, later-size}
 
 -- the places of stations
@@ -314,37 +314,6 @@ module _ (n : Network) (e : Edit) (division : List ℕ) where
   pub division-not : (k : ℕ) → division-refusal n e division ≡ k → ¬ (k ≡ 0) → (division-answer n e division ≡ refused-with k) × (division-after n e division ≡ division)
   unfolding division-answer division-after
   division-not k r z = (rw (r, ne-eqb k 0 z), rw (r, ne-eqb k 0 z))
-
--- the pages that an edit names are in the buffer
-
-abbrev pub size-of : Bool → ℕ
-size-of true = 49152
-size-of false = 8192
-
-place-room : (divided : Bool) (n : Network) → network-refusal n ≡ 0 → (k : Station) → T (listed n k) → T (has-room (size-of divided) (place-of divided n k))
-unfolding place-of has-room
-place-room false n good k l =
-    let s = listed-ok n good k l in
-    le→leb (512 * (k .0 - 1) + 512) 8192 (omega (arith, station-low k s, station-high k s))
-place-room true n good k l =
-    let s = listed-ok n good k l in
-    let p : ltb 0 (area-of n k) ≡ true = sym (listed-placed n good k) ∙ T-true (listed n k) l in
-    le→leb (512 * (16 * (area-of n k - 1) + (k .0 - 1)) + 512) 49152
-    (omega (arith, station-low k s, station-high k s, ltb-true 0 (area-of n k) p, area-high n good k))
-
-room-by : (divided : Bool) (n : Network) → network-refusal n ≡ 0 → (μ : Meaning) → T (fits-network n μ)
-    → T (if shape-of μ .everywhere then every (has-room (size-of divided)) (places divided n)
-    else has-room (size-of divided) (place-of divided n (shape-of μ .home)) && has-room (size-of divided) (place-of divided n (shape-of μ .away)))
-unfolding fits-network known shape-of
-room-by divided n good (local a) f =
-    both (has-room (size-of divided) (place-of divided n (a .home))) (has-room (size-of divided) (place-of divided n (a .away)))
-    (place-room divided n good (a .home) (search (and-l, and-r))) (place-room divided n good (a .away) (search (and-l, and-r)))
-room-by divided n good (throughout t) f =
-    every-mapped (has-room (size-of divided)) (listed n) (place-of divided n) (place-room divided n good) (stations-of n) (every-listed n)
-
-pub frames-room : (divided : Bool) (n : Network) (e : Edit) → Early n e → T (frames-fit divided n e (size-of divided))
-unfolding frames-fit
-frames-room divided n e early = room-by divided n (early .network) (meaning e) (early .fits)
 
 -- the areas that the code tests are those that the edit names
 

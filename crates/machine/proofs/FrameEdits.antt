@@ -29,13 +29,13 @@ use Rattle.page.specs.between.Changes.{table-in}
 use Rattle.page.proofs.PageLaws.{Coded, page-length, good-coded}
 use Rattle.actions.specs.between.Shapes.{shape-of}
 use Rattle.actions.specs.Early.{fits-network}
-use Rattle.edits.specs.between.Pairs.{here-page, there-page}
+use Rattle.edit_changes.specs.between.EditPages.{page-without, here-page, there-page}
 use Rattle.machine.specs.Types.{Station, Train, Edit, Network}
-use Rattle.machine.specs.between.PageEdits.{place-of, sweep, visits-on, swept}
+use Rattle.page_edits.specs.between.PageEdits.{place-of, sweep, visits-on, swept}
 use Rattle.sheet.specs.between.Frames.{frame, change-frame}
-use Rattle.machine.specs.between.PageEdits.{pair-refusal, pair-answer, far-changed, pair-after, frames-answer, frames-after}
+use Rattle.page_edits.specs.between.PageEdits.{pair-refusal, pair-answer, far-changed, pair-after, frames-answer, frames-after}
 use Rattle.sheet.proofs.FrameLaws.{change-size, change-same, change-other}
-use Rattle.machine.proofs.PageSteps.{PageSteps, page-steps, pages-refuse, table-here}
+use Rattle.machine.proofs.PageSteps.{PageSteps, page-steps, pages-refuse, table-here, without-page}
 
 -- the buffer has the page of each station that passes the test at its place
 pub record Holds (at : Station → ℕ) (p : Station → Bool) (m : Timetable) (b : List ℕ) : Type 0 where
@@ -147,10 +147,7 @@ count-among f g (s ∷ ss) h =
     (count-among f g ss (λ k r. h k (or-r (same-station k s) (any (same-station k) ss) r)))
 
 module _ (at : Station → ℕ) (p : Station → Bool) (apart : (k j : Station) → T (p k) → T (p j) → at k ≡ at j → k ≡ j) where
-  module _ (n : Network) (e : Edit) (t : Train) (mean : meaning e ≡ throughout t) where
-    steps : (s : Station) (tab : Table) → T (table-good n s tab) → here-page e (encode-page tab) ≡ encode-page (without t tab)
-    steps = let x : PageSteps n e (throughout t) = rw mean at (page-steps n e) in x
-
+  module _ (n : Network) (t : Train) where
     left-coded : (s : Station) (tab : Table) → T (table-good n s tab) → Coded (without t tab)
     left-coded s tab g = good-coded n s (without t tab) (table-fits n s (without t tab) (without-good n s t tab (table-facts n s tab g)))
 
@@ -167,40 +164,40 @@ module _ (at : Station → ℕ) (p : Station → Bool) (apart : (k j : Station) 
         rw (put-else s k (without t (m s)) m (among-other s k ss away u)) (g k (or-r (same-station k s) (any (same-station k) ss) u))
 
     first-step : (s : Station) (ss : List Station) (m : Timetable) (b : List ℕ) → Holds at p m b → T (p s) → GoodAt (s ∷ ss) m
-        → Step at p (put s (without t (m s)) m) b (change-frame (at s) (here-page e) b)
+        → Step at p (put s (without t (m s)) m) b (change-frame (at s) (page-without t) b)
     first-step s ss m b h u g =
         let fine = first-good s ss m g in
-        one at p apart m b h s u (here-page e) (without t (m s)) (steps s (m s) fine) (left-coded s (m s) fine)
+        one at p apart m b h s u (page-without t) (without t (m s)) (without-page n s (m s) fine t) (left-coded s (m s) fine)
 
     pub sweep-step : (ss : List Station) (m : Timetable) (b : List ℕ) → Holds at p m b → T (every p ss) → T (each-two (smaller code) ss) → GoodAt ss m
-        → Step at p (cleared t ss m) b (sweep e (map at ss) b)
+        → Step at p (cleared t ss m) b (sweep t (map at ss) b)
     unfolding cleared any sweep
     sweep-step [] m b h ps o g = still at p m b h
     sweep-step (s ∷ ss) m b h ps o g =
         let away = not-among s ss (two-head (smaller code) s ss o) in
         let x = first-step s ss m b h (every-head p s ss ps) g in
         let m1 = put s (without t (m s)) m in
-        let b1 = change-frame (at s) (here-page e) b in
+        let b1 = change-frame (at s) (page-without t) b in
         let y = sweep-step ss m1 b1 (x .holds) (every-tail p s ss ps) (two-tail (smaller code) s ss o) (rest-good s ss m away g) in
-        let z : Step at p (cleared t ss m1) b (sweep e (map at ss) b1) = next at p m1 (cleared t ss m1) b b1 (sweep e (map at ss) b1) x y in
+        let z : Step at p (cleared t ss m1) b (sweep t (map at ss) b1) = next at p m1 (cleared t ss m1) b b1 (sweep t (map at ss) b1) x y in
         rw (cleared-next t s ss m away) at z
 
     pub swept-count : (ss : List Station) (m : Timetable) (b : List ℕ) → Holds at p m b → T (every p ss) → T (each-two (smaller code) ss) → GoodAt ss m
-        → swept e (map at ss) b ≡ count (λ s. has-visit t (m s)) ss
-    unfolding swept visits-on count shape-of
+        → swept t (map at ss) b ≡ count (λ s. has-visit t (m s)) ss
+    unfolding swept visits-on count
     swept-count [] m b h ps o g = refl
     swept-count (s ∷ ss) m b h ps o g =
         let away = not-among s ss (two-head (smaller code) s ss o) in
         let x = first-step s ss m b h (every-head p s ss ps) g in
         let m1 = put s (without t (m s)) m in
-        let b1 = change-frame (at s) (here-page e) b in
+        let b1 = change-frame (at s) (page-without t) b in
         let y = swept-count ss m1 b1 (x .holds) (every-tail p s ss ps) (two-tail (smaller code) s ss o) (rest-good s ss m away g) in
         let same : table-in (frame (at s) b) ≡ m s = ap table-in (h .page s (every-head p s ss ps)) ∙ table-here n s (m s) (first-good s ss m g) in
         let rest : count (λ k. has-visit t (m1 k)) ss ≡ count (λ k. has-visit t (m k)) ss =
         count-among (λ k. has-visit t (m1 k)) (λ k. has-visit t (m k)) ss
         (λ k u. ap (has-visit t) (put-else s k (without t (m s)) m (among-other s k ss away u))) in
         ap₂ (λ (x : ℕ) (y : ℕ). x + y)
-        (ap₂ (λ (μ : Meaning) (tab : Table). 1 if has-visit (shape-of μ .train) tab else 0) mean same) (y ∙ rest)
+        (ap (λ (tab : Table). 1 if has-visit t tab else 0) same) (y ∙ rest)
 
 -- what an edit in range, known to its network, does to a timetable
 
@@ -335,14 +332,14 @@ module _ (n : Network) (good : network-refusal n ≡ 0) (divided : Bool) (e : Ed
     sweep-answers : frames-answer divided n e b ≡ answer n e m
     unfolding frames-answer shape-of
     sweep-answers =
-        rw (mean, swept-count at (names n e) apart n e t mean (stations-of n) m b h named-stations (stations-apart n good) good-there)
+        rw (mean, swept-count at (names n e) apart n t (stations-of n) m b h named-stations (stations-apart n good) good-there)
         (sym (answer-all n e ok fits m t mean))
 
     all-step : Step at (names n e) (after n e m) b (frames-after divided n e b)
     unfolding frames-after shape-of
     all-step =
         rw (mean, after-all n e ok fits m t mean)
-        (sweep-step at (names n e) apart n e t mean (stations-of n) m b h named-stations (stations-apart n good) good-there)
+        (sweep-step at (names n e) apart n t (stations-of n) m b h named-stations (stations-apart n good) good-there)
 
   -- the edit on the pages answers as the central machine does on their tables
   pub frames-answers : frames-answer divided n e b ≡ answer n e m

@@ -11,15 +11,15 @@ use Rattle.base.proofs.Tests.{T-true, true-T, and-l, and-r, or-r, every-weaker}
 use Rattle.network.specs.Networks.{network-refusal, listed, area-of}
 use Rattle.timetable.specs.Refusals.{early}
 use Rattle.timetable.specs.Machine.{edit-refusal}
-use Rattle.timetable.specs.Groups.{in-group, names-group}
+use Rattle.timetable.specs.Groups.{six, in-group, names-group}
 use Rattle.actions.specs.Early.{unknown-refusal, early-refusal}
 use Rattle.actions.proofs.EarlyLaws.{early-facts, early-under}
-use Rattle.sheet.specs.Sheets.{six, good-sheet, sheet-at, good-division}
+use Rattle.sheet.specs.Sheets.{good-sheet, sheet-at, good-division}
 use Rattle.sheet.specs.between.Passes.{division-passes}
 use Rattle.machine.specs.Calls.{refused-with, named-good, division-answer, division-after}
-use Rattle.machine.specs.between.PageEdits.{frames-fit, frames-answer, frames-after}
+use Rattle.page_edits.specs.between.PageEdits.{frames-answer, frames-after}
 use Rattle.machine.proofs.ListEdits.{GoodDivision, division-kept}
-use Rattle.machine.proofs.EditCalls.{frames-room, named-same, division-not, division-early, division-call}
+use Rattle.machine.proofs.EditCalls.{named-same, division-not, division-early, division-call}
 use Rattle.machine.specs.Types.{Edit, Network, Answer}
 use Rattle.machine.specs.Lists.{known-good}
 
@@ -69,9 +69,6 @@ module _ (n : Network) (division : List ℕ) (k : known-good n division ≡ true
   module _ (q : early (edit-refusal e) 0 (unknown-refusal n e) ≡ 0) where
     passed : early-refusal n e ≡ 0
     passed = sym (early-under n e good) ∙ q
-
-    pub known-room : T (frames-fit true n e (length division))
-    known-room = rw size (frames-room true n e (early-facts n e passed))
 
     pub known-edit : (frames-answer true n e division ≡ division-answer n e division) × (frames-after true n e division ≡ division-after n e division)
     known-edit =

@@ -26,7 +26,8 @@ use Rattle.page.specs.between.Changes.{table-in, page-add-visit, page-lose-trai
 use Rattle.page.proofs.PageLaws.{page-length, page-back, good-coded}
 use Rattle.page.proofs.SlotLaws.{table-of-page}
 use Rattle.page.proofs.ChangeLaws.{Fitting, add-visit-page, write-visit-page, remove-visit-page, add-relation-page, remove-relation-page, lose-train-page}
-use Rattle.edits.specs.between.Pairs.{refuses-on, page-changed, page-change, page-without, here-page, there-page}
+use Rattle.edit_refusals.specs.between.Refusing.{refuses-on}
+use Rattle.edit_changes.specs.between.EditPages.{page-changed, page-change, page-without, here-page, there-page}
 use Rattle.machine.specs.Types.{Station, Train, Visit, Edit, Network, Place, Prepend, Append, DeleteFirst, DeleteLast, Amend}
 use Rattle.machine.specs.Types.{ReportArrival, ReportDeparture, AddRelation, RemoveRelation, DeleteTrain}
 

@@ -14,7 +14,7 @@ use Rattle.timetable.specs.Formats.{Format, Outcome, accepted, refused, field-a
 use Rattle.timetable.specs.EditsFile.{edit-entry, edits-on, edits-format, read-edits}
 use Rattle.timetable.specs.Outputs as outputs
 use Rattle.timetable.specs.Outputs.{output, output-after, put}
-use Rattle.timetable.proofs.PutLaws.{too-short, fits-in}
+use Rattle.timetable.proofs.BuffersFilled.{too-short, fits-in}
 use Rattle.machine.specs.Calls.{division-answer, division-after}
 use Rattle.edit_files.specs.Answers.{edits-answer}
 use Rattle.timetable.proofs.OutcomeLaws.{clash, behind-taken}

@@ -10,32 +10,12 @@ use Rattle.base.specs.Runs.{run, answers}
 use Rattle.timetable.specs.Formats.{Format, Outcome, accepted, refused, done, _and-then_, behind, read, entries}
 use Rattle.timetable.specs.EditsFile.{edit-entry, edits-on}
 use Rattle.timetable.specs.Outputs.{put}
-use Rattle.timetable.proofs.PutLaws.{put-append}
+use Rattle.timetable.proofs.BuffersFilled.{put-append}
 use Rattle.machine.specs.Calls.{division-answer, division-after}
-use Rattle.edit_files.specs.Answers.{next-read}
 use Rattle.fields.proofs.ReadLaws.{read-then}
-use Rattle.machine.specs.Types.{Edit, Network, Answer, Cursor, NextEdit}
+use Rattle.machine.specs.Types.{Edit, Network, Answer}
 use Rattle.machine.specs.Lists.{answer-numbers, answers-of, division-of}
 use Rattle.machine.specs.between.Taken.{is-accepted, taken, edits-at, can-be-read}
-
--- what the cursor's answer says of the entry
-pub entry-some : (o : Outcome Edit) (e : Edit) (c : Cursor) → next-read o ≡ NextEdit.Entry e c → o ≡ accepted e (c .at)
-unfolding next-read
-entry-some (accepted e₀ next) e c q =
-    let s : e₀ ≡ e = cc in
-    let at : Cursor = record { at = next } in
-    let t : at ≡ c = ap place-of q in
-    rw s (ap (λ (x : Cursor). accepted e (x .at)) t)
-  where
-    place-of : NextEdit → Cursor
-    place-of (NextEdit.Entry x y) = y
-    place-of (NextEdit.Refused k p) = c
-entry-some (refused k p) e c q = let s : _≡_ {A = ℕ} 0 1 = cc in absurd (omega (arith, s))
-
-pub entry-none : (o : Outcome Edit) (k p : ℕ) → next-read o ≡ NextEdit.Refused k p → o ≡ refused k p
-unfolding next-read
-entry-none (accepted e next) k p q = let s : _≡_ {A = ℕ} 0 1 = cc in absurd (omega (arith, s))
-entry-none (refused k₀ p₀) k p q = cc
 
 -- the edits after the first, with the first before them
 first-before : Edit → Outcome (List Edit) → Outcome (List Edit)

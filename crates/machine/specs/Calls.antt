@@ -11,9 +11,9 @@ use Rattle.base.specs.Lists.{every}
 use Rattle.network.specs.Networks.{listed, area-of}
 use Rattle.timetable.specs.Refusals.{call-refusal}
 use Rattle.timetable.specs.Machine.{answer, after}
-use Rattle.timetable.specs.Groups.{Divided, in-group, names-group, divided-answer, divided-after}
+use Rattle.timetable.specs.Groups.{six, Divided, in-group, names-group, divided-answer, divided-after}
 use Rattle.actions.specs.Early.{early-refusal}
-use Rattle.sheet.specs.Sheets.{six, encode-sheet, decode-sheet, good-sheet, sheet-at}
+use Rattle.sheet.specs.Sheets.{encode-sheet, decode-sheet, good-sheet, sheet-at}
 use Rattle.machine.specs.Types.{Edit, Network, Answer}
 
 abbrev pub refused-with : ℕ → Answer

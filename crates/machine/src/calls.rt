@@ -1,7 +1,8 @@
 // The calls of the central machine: an edit on a sheet, an edit on a division. Refusals in document 01's order: 5, 3,
 // 4, 7, 6, then 8 to 12.
 ghost use mathlib.Core.Path.{_≡_};
-ghost use Rattle.machine.specs.Calls.{sheet-answer, sheet-after, division-answer, division-after};
+ghost use Rattle.machine.specs.Calls.{refused-with, sheet-answer, sheet-after, division-answer, division-after};
+use crate::named;
 use crate::pages;
 use actions::early;
 use network::Network;
@@ -10,34 +11,43 @@ use sheet::test;
 use sheet::test::Extent;
 use timetable::Answer;
 
+pub fn refused(k: u8) -> Answer
+    ensures { λ r. ⌜ r ≡ refused-with k ⌝ }
+{
+    Answer {
+        refusal: k,
+        removed: 0,
+    }
+}
+
 pub fn edit_sheet(sheet: &mut [u8], n: Network, e: Edit) -> Answer
     ensures { λ r. ⌜ (r ≡ sheet-answer n e (now (sheet .entry))) × (now (sheet .exit) ≡ sheet-after n e (now (sheet .entry))) ⌝ }
 {
     if sheet.len() != 8192 {
-        return pages::refused(5);
+        return refused(5);
     }
     let first = early::early_refusal(n, e);
     if first != 0 {
-        return pages::refused(first);
+        return refused(first);
     }
     if test::good_sheet(sheet, n, Extent::Whole) {
         return pages::edit_pages(sheet, false, n, e);
     }
-    pages::refused(6)
+    refused(6)
 }
 
 pub fn edit_division(division: &mut [u8], n: Network, e: Edit) -> Answer
     ensures { λ r. ⌜ (r ≡ division-answer n e (now (division .entry))) × (now (division .exit) ≡ division-after n e (now (division .entry))) ⌝ }
 {
     if division.len() != 49152 {
-        return pages::refused(5);
+        return refused(5);
     }
     let first = early::early_refusal(n, e);
     if first != 0 {
-        return pages::refused(first);
+        return refused(first);
     }
-    if pages::named_good(division, n, e) {
+    if named::named_good(division, n, e) {
         return pages::edit_pages(division, true, n, e);
     }
-    pages::refused(6)
+    refused(6)
 }

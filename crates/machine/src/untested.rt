@@ -3,6 +3,7 @@
 ghost use mathlib.Core.Path.{_≡_};
 ghost use mathlib.Core.Bool.{true};
 ghost use Rattle.machine.specs.Lists.{known-good, Edits};
+use crate::calls;
 use crate::pages;
 use actions::early;
 use network::Network;
@@ -15,7 +16,7 @@ pub fn edit_untested(division: &mut [u8], n: Network, e: Edit) -> Answer
 {
     let first = early::refusal_under(n, 0, e);
     if first != 0 {
-        return pages::refused(first);
+        return calls::refused(first);
     }
     pages::edit_pages(division, true, n, e)
 }

@@ -1,3 +1,3 @@
 pub mod NetworkLaws
-pub mod RowLaws
+pub mod RowsInUse
 pub mod AreaLaws

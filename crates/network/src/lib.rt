@@ -107,7 +107,7 @@ fn runs_on(kind: u8, other: u8, a: Station, from: Station, b: Station, to: Stati
 }
 
 // As many rows as are in use, at most those that there are.
-fn in_use(count: u8, rows: usize) -> usize
+pub fn in_use(count: u8, rows: usize) -> usize
     ensures { λ r. ⌜ r ≡ min count rows ⌝ }
 {
     let n = count as usize;

@@ -26,7 +26,7 @@ use Rattle.page.specs.declared.loss.Left.{Left}
 use Rattle.page.specs.Pages.{slots, records-of, relation-records, relations-of}
 use Rattle.page.specs.between.Changes.{index-of, put-in, left, is-slotted, slotted, slotted-count, slotted-left, left-count, page-lose-train}
 use Rattle.page.proofs.SlotLaws.{length-records, record-there, index-most, any-index, rest-of-page}
-use Rattle.page.proofs.PutLaws.{counts-few}
+use Rattle.page.proofs.RecordsPut.{counts-few}
 use Rattle.page.proofs.FlatLaws.{slots-length, records-slots, put-slots}
 use Rattle.page.proofs.ChangeLaws.{insert-cut, relations-read}
 

@@ -29,7 +29,7 @@ use Rattle.page.specs.between.Changes.{table-in, index-of, put-in, take-
 use Rattle.page.specs.between.Changes.{moved-by-visit, page-write-visit, page-remove-visit, relation-index, relation-place, page-add-relation, page-remove-relation}
 use Rattle.page.specs.between.Changes.{page-lose-train}
 use Rattle.page.proofs.SlotLaws.{index-most, table-of-page}
-use Rattle.page.proofs.PutLaws.{splice-past, counts-few}
+use Rattle.page.proofs.RecordsPut.{splice-past, counts-few}
 use Rattle.page.proofs.FlatLaws.{slots-length, records-slots, put-slots, take-slots, write-slots, keep-cut, change-cut, change-none, none-passes}
 
 -- within the limits of a page

@@ -2,7 +2,7 @@ pub mod FlatLaws
 pub mod SlotLaws
 pub mod FindLaws
 pub mod FoundLaws
-pub mod PutLaws
+pub mod RecordsPut
 pub mod ChangeLaws
 pub mod AnewLaws
 pub mod LossLaws

@@ -1,19 +1,19 @@
 -- Laws of lists of bytes that are moved, copied or cleared one by one: what a loop has left at each turn, and what it
--- leaves at the end. A part that is lent is stated as the whole by `part-back`. Assumes nothing.
+-- leaves at the end. Assumes nothing.
 use mathlib.Core.Path.{_≡_, refl, sym, ap, _∙_}
 use mathlib.Core.Bool.{Bool, true, false, _&&_}
 use mathlib.Core.List.{List, [], _∷_, _++_, append-nil}
 use Prim.Native.Nat.{ℕ, zero, suc, _+_, _-_, _≤_, _<_}
-use native.Mathlib.Nat.{zero-add, le-of-suc-le-suc, not-suc-le-zero, add-sub-cancel-left}
+use native.Mathlib.Nat.{zero-add, le-of-suc-le-suc, not-suc-le-zero}
 use native.Mathlib.Numerals.{add-one}
 use native.Mathlib.Omega.{arith}
 use lib.Dec.{eqb}
 use lib.ListN.{length, take, drop, getD, set, drop-of-length-le, length-take, length-drop, length-replicate, getD-replicate, List·getD-append, List·getD-eq-default}
-use lib.Seq.{take-at, drop-at, drop-drop, drop-cons, getD-take, getD-drop, getD-append-add, length-take-le, take-length, take-all, paste, paste-suc}
+use lib.Seq.{take-at, drop-at, drop-cons, getD-take, getD-drop, getD-append-add, length-take-le, take-length, take-all, paste, paste-suc}
 use borrow.Author.Tests.{le-leb, eq-eqb, ne-eqb}
 use Rattle.base.specs.Lists.{every}
 use Rattle.base.proofs.Lengths.{every-next}
-use Rattle.records.specs.Bytes.{zeros, word, splice, overwritten, roomed, fronted}
+use Rattle.records.specs.Bytes.{zeros, word, overwritten, roomed, fronted}
 
 -- past the end
 
@@ -140,10 +140,3 @@ front-put p new x y m h e f =
     let front : take 16 x ≡ take 16 p = rw (room) (take-at (take 16 p) (take (length p - 16) p) 16 short) in
     let over : y ≡ new = f ∙ rw (front, eq-eqb (length (take 16 p)) (length new) (omega arith)) in
     rw (over, room, le-leb 16 (length p) h, drop-at (take 16 p) (take (length p - 16) p) 16 short)
-
--- a part that is lent
-
--- what a callee that was lent the part from `at` to `at + k` left there, said of the whole
-pub part-back : (b new : List ℕ) (at k : ℕ) → length new ≡ k → take at b ++ (new ++ drop (at + k - at) (drop at b)) ≡ splice at new b
-unfolding splice
-part-back b new at k e = rw (add-sub-cancel-left at k, drop-drop k at b, e)

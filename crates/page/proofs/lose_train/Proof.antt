@@ -5,7 +5,7 @@ use borrow.Author.Needs.{needs}
 use lib.ListN.{take, drop}
 use denote.Ref.{now}
 use Rattle.page.specs.between.Changes.{page-lose-train}
-use Rattle.page.proofs.PutLaws.{counts-short, counts-over}
+use Rattle.page.proofs.RecordsPut.{counts-short, counts-over}
 use Rattle.page.proofs.AnewLaws.{rest-few, lose-done}
 use Rattle.page.proofs.lose_train.Statement.{statement}
 use Rattle.page.proofs.lose_train.Tie as tie

@@ -7,7 +7,7 @@ use mathlib.Core.Path.{_≡_}
 use lib.ListN.{length, take, drop, length-drop}
 use lib.Seq.{length-take-le}
 use denote.Ref.{now}
-use Rattle.page.proofs.PutLaws.{put-done}
+use Rattle.page.proofs.RecordsPut.{put-done}
 use Rattle.page.proofs.put_in.Statement.{statement}
 use Rattle.page.proofs.put_in.Tie as tie
 

@@ -9,7 +9,7 @@ use denote.Ref.{now}
 use borrow.Author.Tests.{lt-ltb, le-ltb}
 use Rattle.page.specs.between.Changes.{page-remove-relation}
 use Rattle.page.proofs.FindLaws.{relation-index-is}
-use Rattle.page.proofs.PutLaws.{counts-short, counts-over, counts-few}
+use Rattle.page.proofs.RecordsPut.{counts-short, counts-over, counts-few}
 use Rattle.page.proofs.remove_relation.Statement.{statement}
 use Rattle.page.proofs.remove_relation.Tie as tie
 

@@ -11,7 +11,7 @@ use denote.Ref.{now}
 use borrow.Author.Tests.{lt-ltb, le-ltb}
 use Rattle.records.proofs.RecordLaws.{relation-length}
 use Rattle.page.specs.between.Changes.{put-in, is-slotted, slotted, slotted-count}
-use Rattle.page.proofs.PutLaws.{put-part}
+use Rattle.page.proofs.RecordsPut.{put-part}
 use Rattle.page.proofs.slot.Statement.{statement}
 use Rattle.page.proofs.slot.Tie as tie
 

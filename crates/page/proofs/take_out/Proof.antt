@@ -3,7 +3,7 @@
 use native.Mathlib.Omega.{arith}
 use borrow.Author.Needs.{needs}
 use denote.Ref.{now}
-use Rattle.page.proofs.PutLaws.{take-done}
+use Rattle.page.proofs.RecordsPut.{take-done}
 use Rattle.page.proofs.take_out.Statement.{statement}
 use Rattle.page.proofs.take_out.Tie as tie
 

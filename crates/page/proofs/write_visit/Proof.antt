@@ -12,7 +12,7 @@ use Rattle.records.specs.Bytes.{splice}
 use Rattle.records.proofs.RecordLaws.{visit-length}
 use Rattle.page.specs.between.Changes.{page-write-visit}
 use Rattle.page.proofs.FindLaws.{train-index-is}
-use Rattle.page.proofs.PutLaws.{written-over, counts-short, counts-over, counts-few}
+use Rattle.page.proofs.RecordsPut.{written-over, counts-short, counts-over, counts-few}
 use Rattle.page.proofs.write_visit.Statement.{statement}
 use Rattle.page.proofs.write_visit.Tie as tie
 

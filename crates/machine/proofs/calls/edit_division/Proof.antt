@@ -1,11 +1,9 @@
 -- `machine::calls::edit_division` meets its contract: the tests that led to each return decide the refusal, and the
 -- edit on pages is the edit on the division. Assumes nothing.
-use mathlib.Core.Bool.{true}
 use mathlib.Core.Path.{sym, _∙_}
 use native.Mathlib.Omega.{arith}
 use denote.Ref.{now}
-use Rattle.actions.proofs.EarlyLaws.{early-facts}
-use Rattle.machine.proofs.EditCalls.{frames-room, division-not, division-short, division-early, division-bad, division-call}
+use Rattle.machine.proofs.EditCalls.{division-not, division-short, division-early, division-bad, division-call}
 use borrow.Author.Needs.{needs}
 use Rattle.machine.proofs.calls.edit_division.Statement.{statement}
 use Rattle.machine.proofs.calls.edit_division.Tie as tie
@@ -37,10 +35,7 @@ named-good-requires : tie.Need-named-good-requires
 named-good-requires c κs = search needs
 
 edit-pages-requires : tie.Need-edit-pages-requires
-edit-pages-requires c κs =
-    let s = c .before .before .before .before .before .before .before .before .args in
-    rw (c .before .before .before .before .before .before .if1 .left)
-    (frames-room true (s .n) (s .e) (early-facts (s .n) (s .e) (sym (c .before .before .before .before .before .early-refusal .ensures) ∙ c .before .before .before .before .if2 .left)))
+edit-pages-requires c κs = search needs
 
 same-length : tie.Need-same-length
 same-length c = search needs

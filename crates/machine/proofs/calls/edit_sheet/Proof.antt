@@ -1,11 +1,9 @@
 -- `machine::calls::edit_sheet` meets its contract: the tests that led to each return decide the refusal, and the edit
 -- on pages is the edit on the sheet. Assumes nothing.
-use mathlib.Core.Bool.{false}
 use mathlib.Core.Path.{sym, _∙_}
 use native.Mathlib.Omega.{arith}
 use denote.Ref.{now}
-use Rattle.actions.proofs.EarlyLaws.{early-facts}
-use Rattle.machine.proofs.EditCalls.{frames-room, sheet-not, sheet-short, sheet-early, sheet-bad, sheet-call}
+use Rattle.machine.proofs.EditCalls.{sheet-not, sheet-short, sheet-early, sheet-bad, sheet-call}
 use borrow.Author.Needs.{needs}
 use Rattle.machine.proofs.calls.edit_sheet.Statement.{statement}
 use Rattle.machine.proofs.calls.edit_sheet.Tie as tie
@@ -36,10 +34,7 @@ good-sheet-requires : tie.Need-good-sheet-requires
 good-sheet-requires c κs = search needs
 
 edit-pages-requires : tie.Need-edit-pages-requires
-edit-pages-requires c κs =
-    let s = c .before .before .before .before .before .before .before .before .args in
-    rw (c .before .before .before .before .before .before .if1 .left)
-    (frames-room false (s .n) (s .e) (early-facts (s .n) (s .e) (sym (c .before .before .before .before .before .early-refusal .ensures) ∙ c .before .before .before .before .if2 .left)))
+edit-pages-requires c κs = search needs
 
 same-length : tie.Need-same-length
 same-length c = search needs

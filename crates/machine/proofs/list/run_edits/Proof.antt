@@ -8,14 +8,15 @@ use native.Mathlib.Omega.{arith}
 use denote.Ref.{now}
 use borrow.Author.Needs.{needs}
 use lib.ListN.{length}
-use Rattle.timetable.specs.Formats.{read, accepted, refused}
+use Rattle.timetable.specs.Formats.{read}
 use Rattle.timetable.specs.EditsFile.{edit-entry}
 use Rattle.timetable.specs.Outputs.{put}
+use Rattle.edit_files.specs.Answers.{next-outcome}
 use Rattle.machine.specs.Calls.{division-answer, division-after}
 use Rattle.machine.specs.Types.{Edit}
 use Rattle.machine.specs.Lists.{known-good, answer-numbers, answers-of, division-of}
 use Rattle.machine.specs.between.Taken.{edits-at, can-be-read}
-use Rattle.machine.proofs.TakenLaws.{entry-some, entry-none, rest-read, not-stopped, none-taken, division-none, answers-none, turn-division, turn-answers}
+use Rattle.machine.proofs.TakenLaws.{rest-read, not-stopped, none-taken, division-none, answers-none, turn-division, turn-answers}
 use Rattle.machine.proofs.list.run_edits.Statement.{statement}
 use Rattle.machine.proofs.list.run_edits.Tie as tie
 
@@ -52,11 +53,12 @@ same-length-2 : tie.Need-same-length-2 Inv-loop μ-loop
 same-length-2 c = c .before .before .before .before .before .loop .inv .2
 
 returns : tie.Need-returns Inv-loop μ-loop
+unfolding next-outcome
 returns c =
     let s = c .before .before .before .before .before .before .before .before .before .args in
     let l = c .before .before .before .before .before .loop in
     let h = c .before .before .before .before .loop-test .taken in
-    let x = entry-none (read edit-entry (now (s .file)) (l .cursor .at)) _ _ (sym (c .before .before .before .next-edit .ensures) ∙ c .before .next .given .1) in
+    let x = sym (c .before .before .before .next-edit .ensures) ∙ ap next-outcome (c .before .next .given .1) in
     let step : s .count - l .i ≡ suc (s .count - (l .i + 1)) = omega (arith, h) in
     absurd (not-stopped (s .count - (l .i + 1)) (now (s .file)) (l .cursor .at) _ _ x (rw step at (l .inv .3)))
 
@@ -80,12 +82,13 @@ loop-less : tie.Need-loop-less Inv-loop μ-loop
 loop-less c = omega arith
 
 loop-again : tie.Need-loop-again Inv-loop μ-loop
+unfolding next-outcome
 loop-again c =
     let s = c .before .before .before .before .before .before .before .before .before .before .before .before .before .before .before .before .before .args in
     let l = c .before .before .before .before .before .before .before .before .before .before .before .before .before .loop in
     let h = c .before .before .before .before .before .before .before .before .before .before .before .before .loop-test .taken in
     let k = c .before .before .before .before .before .before .before .before .before .next2 .given in
-    let x = entry-some (read edit-entry (now (s .file)) (l .cursor .at)) _ _ (sym (c .before .before .before .before .before .before .before .before .before .before .before .next-edit .ensures) ∙ k .1) in
+    let x = sym (c .before .before .before .before .before .before .before .before .before .before .before .next-edit .ensures) ∙ ap next-outcome (k .1) in
     let step : s .count - l .i ≡ suc (s .count - (l .i + 1)) = omega (arith, h) in
     let t = rw step at (l .inv .3) in
     let e = c .before .before .before .before .before .before .edit-once in

@@ -2,7 +2,7 @@
 -- that the edit on pages is the single call. Assumes nothing.
 use mathlib.Core.Path.{sym, _∙_}
 use denote.Ref.{now}
-use Rattle.machine.proofs.KnownGood.{known-stopped, known-room, known-edit}
+use Rattle.machine.proofs.KnownGood.{known-stopped, known-edit}
 use borrow.Author.Needs.{needs}
 use Rattle.machine.proofs.untested.edit_untested.Statement.{statement}
 use Rattle.machine.proofs.untested.edit_untested.Tie as tie
@@ -22,10 +22,7 @@ returns c =
     (c .refused .ensures ∙ x .0, x .1)
 
 edit-pages-requires : tie.Need-edit-pages-requires
-edit-pages-requires c κs =
-    let q = c .before .before .before .before in
-    let s = q .args in
-    known-room (s .n) (now (s .division)) (q .pre) (s .e) (sym (c .before .before .refusal-under .ensures) ∙ c .before .if1 .left)
+edit-pages-requires c κs = search needs
 
 same-length : tie.Need-same-length
 same-length c = search needs

@@ -2,7 +2,7 @@
 use borrow.Author.Needs.{needs}
 use mathlib.Core.Path.{sym, _∙_}
 use Rattle.network.specs.Networks.{station-row}
-use Rattle.network.proofs.RowLaws.{station-some, station-none}
+use Rattle.network.proofs.RowsInUse.{station-some, station-none}
 use Rattle.network.proofs.Network.area_of.Statement.{statement}
 use Rattle.network.proofs.Network.area_of.Tie as tie
 

@@ -2,7 +2,7 @@
 use borrow.Author.Needs.{needs}
 use mathlib.Core.Path.{sym, _∙_}
 use Rattle.network.specs.Networks.{area-of, station-row}
-use Rattle.network.proofs.RowLaws.{area-is, area-not}
+use Rattle.network.proofs.RowsInUse.{area-is, area-not}
 use Rattle.network.proofs.Network.group_of.Statement.{statement}
 use Rattle.network.proofs.Network.group_of.Tie as tie
 

@@ -8,7 +8,7 @@ use borrow.Author.Needs.{needs}
 use Rattle.base.specs.Lists.{every}
 use Rattle.network.specs.Types.{LineRow}
 use Rattle.network.specs.Networks.{blank-line, ends-listed, lines-joined, line-rows}
-use Rattle.network.proofs.RowLaws.{used-rows, every-later, every-not, every-over}
+use Rattle.network.proofs.RowsInUse.{used-rows, every-later, every-not, every-over}
 use Rattle.network.proofs.Network.lines_joined.Statement.{statement}
 use Rattle.network.proofs.Network.lines_joined.Tie as tie
 

@@ -2,7 +2,7 @@
 use borrow.Author.Needs.{needs}
 use mathlib.Core.Path.{sym, _∙_}
 use Rattle.network.specs.Networks.{runs, line-row}
-use Rattle.network.proofs.RowLaws.{line-some, line-none}
+use Rattle.network.proofs.RowsInUse.{line-some, line-none}
 use Rattle.network.proofs.Network.runs.Statement.{statement}
 use Rattle.network.proofs.Network.runs.Tie as tie
 

@@ -2,7 +2,7 @@
 use borrow.Author.Needs.{needs}
 use mathlib.Core.Path.{sym, _∙_}
 use Rattle.network.specs.Networks.{track-known, station-row}
-use Rattle.network.proofs.RowLaws.{station-some, station-none}
+use Rattle.network.proofs.RowsInUse.{station-some, station-none}
 use Rattle.network.proofs.Network.track_known.Statement.{statement}
 use Rattle.network.proofs.Network.track_known.Tie as tie
 

@@ -1,0 +1,66 @@
+// Which sheets of a division are to be good: those of the areas that an edit names.
+ghost use mathlib.Core.Path.{_≡_};
+ghost use lib.ListN.{length};
+ghost use Rattle.machine.specs.between.Named.{touches-at, touches-area, area-passes, named-pass};
+use actions::shape;
+use network::Network;
+use railway::edit::Edit;
+use railway::sorts::Area;
+use railway::sorts::Station;
+use sheet::test;
+use sheet::test::Extent;
+
+fn is_named(n: Network, e: Edit, a: u8, s: Station) -> bool
+    ensures { λ r. ⌜ r ≡ touches-at n e a s ⌝ }
+{
+    if a == n.group_of(s) {
+        return shape::touched(e, s);
+    }
+    false
+}
+
+// The edit names a station of the area.
+fn names_area(n: Network, e: Edit, a: u8) -> bool
+    ensures { λ r. ⌜ r ≡ touches-area n e a ⌝ }
+{
+    let rows = n.stations;
+    let k = network::in_use(n.stationcount, 16);
+    let mut i: usize = 0;
+    while i < k {
+        let row = rows[i];
+        if is_named(n, e, a, row.station) {
+            return true;
+        }
+        i += 1;
+    }
+    false
+}
+
+// The area's sheet is good, where the edit names the area.
+fn area_good(part: &[u8], n: Network, e: Edit, a: u8) -> bool
+    ensures { λ r. ⌜ r ≡ area-passes n e a (now (part .entry)) ⌝ }
+{
+    if names_area(n, e, a) {
+        return test::good_sheet(part, n, Extent::Of(Area(a)));
+    }
+    true
+}
+
+pub fn named_good(division: &[u8], n: Network, e: Edit) -> bool
+    requires { ⌜ length (now division) ≡ 49152 ⌝ }
+    ensures { λ r. ⌜ r ≡ named-pass n e (now (division .entry)) ⌝ }
+{
+    let mut i: usize = 0;
+    let mut a: u8 = 1;
+    while i < 6 {
+        let at = 8192 * i;
+        let end = at + 8192;
+        if area_good(&division[at..end], n, e, a) {
+            i += 1;
+            a += 1;
+        } else {
+            return false;
+        }
+    }
+    true
+}

@@ -1,0 +1,2 @@
+pub mod PairSteps
+pub mod RowSteps
