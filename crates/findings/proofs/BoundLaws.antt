@@ -2,25 +2,28 @@
 -- nothing.
 use Prim.Native.Nat.{ℕ, _≤_}
 use mathlib.Core.Path.{_≡_, refl, sym}
-use mathlib.Core.Bool.{_&&_}
+use mathlib.Core.Bool.{Bool, true, false, _&&_}
 use mathlib.Core.List.{List}
 use native.Mathlib.Omega.{arith}
 use lib.Dec.{T, leb, eqb, leb→le}
 use lib.ListN.{length, length-map, length-take}
 use borrow.Author.Tests.{eqb-true}
 use Rattle.base.proofs.Tests.{T-true, true-T, and-l, and-r}
-use Rattle.railway.specs.Ranges.{area-ok}
+use Rattle.base.specs.Choice.{if_then_else_}
+use Rattle.railway.specs.Ranges.{station-ok, area-ok}
 use Rattle.network.specs.Networks.{station-rows, stations-of, network-refusal, listed}
 use Rattle.network.proofs.NetworkLaws.{network-facts}
 use Rattle.timetable.proofs.RefusalLaws.{call-passed}
-use Rattle.sheet.specs.Sheets.{decode-sheet, good-sheet}
-use Rattle.findings.specs.Types.{Area, Network}
+use Rattle.timetable.specs.Tables.{empty}
+use Rattle.page.specs.Pages.{decode-page}
+use Rattle.sheet.specs.Sheets.{page-at, decode-sheet, good-sheet}
+use Rattle.findings.specs.Types.{Station, Area, Network}
 use Rattle.scope.specs.declared.Scope.{Scope}
 use Rattle.findings.specs.Lists.{sheet-list, area-list, two-list, list-early, good-part, sheet-list-refusal, area-list-refusal, two-areas, two-list-refusal}
 use Rattle.findings.specs.between.Joined.{joined}
-use Rattle.findings.specs.between.Builder.{list-most}
+use Rattle.builder.specs.between.Builder.{list-most}
 use Rattle.findings.proofs.ListCalls.{early-fine, sheet-numbers, area-numbers-are, two-numbers}
-use Rattle.findings.proofs.MostLaws.{sheet-few, all-most}
+use Rattle.builder.proofs.MostLaws.{page-visits, page-relations, all-most}
 
 -- "A network lists 1..16 stations"
 pub stations-few : (n : Network) → network-refusal n ≡ 0 → length (stations-of n) ≤ 16
@@ -28,6 +31,15 @@ unfolding stations-of station-rows
 stations-few n g =
     let c : T (leb (n .stationcount) 16) = and-r (leb 1 (n .stationcount)) (leb (n .stationcount) 16) (network-facts n g .station-count) in
     omega (arith, leb→le (n .stationcount) 16 c, length-map (station-rows n) (λ r. r .station), length-take (n .stationcount) (n .stations))
+
+-- what a sheet holds is within the limits
+sheet-few : (sheet : List ℕ) (s : Station) → (length (decode-sheet sheet s .visits) ≤ 24) × (length (decode-sheet sheet s .relations) ≤ 6)
+unfolding decode-sheet empty
+sheet-few sheet s = go (station-ok s)
+  where
+    go : (b : Bool) → (length ((if b then decode-page (page-at sheet s) else empty) .visits) ≤ 24) × (length ((if b then decode-page (page-at sheet s) else empty) .relations) ≤ 6)
+    go true = (page-visits (page-at sheet s), page-relations (page-at sheet s))
+    go false = (omega arith, omega arith)
 
 -- the lists of the calls, where nothing refuses them
 

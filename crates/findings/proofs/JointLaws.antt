@@ -25,8 +25,8 @@ use Rattle.findings.specs.Types.{Station, Area, Network}
 use Rattle.scope.specs.declared.Scope.{Scope}
 use Rattle.findings.specs.Lists.{two-parts, two-list}
 use Rattle.findings.specs.between.Joined.{joined-page, joined}
-use Rattle.findings.specs.between.Builder.{all-numbers}
-use Rattle.findings.proofs.ListLaws.{pair-numbers}
+use Rattle.builder.specs.between.Builder.{all-numbers}
+use Rattle.findings.proofs.ListsBuilt.{pair-numbers}
 
 module _ (n : Network) (a b : Area) (first second : List ℕ) (long : length first ≡ 8192) (tall : length second ≡ 8192) where
   chosen : Station → List ℕ

@@ -1,7 +1,4 @@
-pub mod PutLaws
-pub mod BuildLaws
-pub mod MostLaws
-pub mod ListLaws
+pub mod ListsBuilt
 pub mod JointLaws
 pub mod TurnLaws
 pub mod BoundLaws

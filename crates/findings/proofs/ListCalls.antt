@@ -23,11 +23,11 @@ use Rattle.findings.specs.Types.{Area, Network, Output}
 use Rattle.scope.specs.declared.Scope.{Scope}
 use Rattle.findings.specs.Lists.{sheet-list, area-list, two-list, Answers, list-early, good-part, sheet-list-refusal, area-list-refusal, two-areas, two-list-refusal}
 use Rattle.findings.specs.between.Joined.{joined}
-use Rattle.findings.specs.between.Builder.{all-numbers}
+use Rattle.builder.specs.between.Builder.{all-numbers}
 use Rattle.timetable.proofs.RefusalLaws.{early-own-range, early-network, early-both, early-passed, call-short, call-early, call-bad, call-late}
-use Rattle.timetable.proofs.PutLaws as put-laws
-use Rattle.timetable.proofs.PutLaws.{refused-so, fits-in}
-use Rattle.findings.proofs.ListLaws.{whole-numbers, area-numbers}
+use Rattle.timetable.proofs.BuffersFilled as put-laws
+use Rattle.timetable.proofs.BuffersFilled.{refused-so, fits-in}
+use Rattle.findings.proofs.ListsBuilt.{whole-numbers, area-numbers}
 use Rattle.findings.proofs.JointLaws.{joined-numbers}
 
 module _ (xs buffer : List ℕ) where

@@ -15,7 +15,7 @@ use Rattle.timetable.specs.Groups.{Divided, in-group}
 use Rattle.timetable.specs.Findings.{numbers-of, findings, group-findings, pair-list}
 use Rattle.timetable.specs.Refusals.{early, call-refusal}
 use Rattle.timetable.specs.Outputs.{reply, output, output-after}
-use Rattle.sheet.specs.Sheets.{decode-sheet, good-sheet}
+use Rattle.sheet.specs.Sheets.{decode-sheet, good-sheet, whole-refusal}
 use Rattle.findings.specs.Types.{Station, Area, Network, Output}
 
 -- the lists
@@ -50,7 +50,7 @@ unfoldable pub good-part : Network → Area → List ℕ → Bool
 good-part n a sheet = good-sheet n (λ k. listed n k && in-group (area-of n) (a .0) k) sheet
 
 unfoldable pub sheet-list-refusal : Network → List ℕ → ℕ
-sheet-list-refusal n sheet = call-refusal (eqb (length sheet) 8192) (network-refusal n) (good-sheet n (listed n) sheet) 0
+sheet-list-refusal n sheet = whole-refusal n sheet
 
 unfoldable pub area-list-refusal : Network → List ℕ → Area → ℕ
 area-list-refusal n sheet a = call-refusal (eqb (length sheet) 8192) (list-early n (area-ok a)) (good-part n a sheet) 0

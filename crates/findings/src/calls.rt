@@ -7,11 +7,10 @@ ghost use Rattle.sheet.specs.between.Passes.{sheet-passes};
 ghost use Rattle.sheet.specs.declared.test.Extent.{Extent};
 ghost use Rattle.scope.specs.declared.Scope.{Scope};
 ghost use Rattle.sheet.specs.Sheets.{decode-sheet};
-ghost use Rattle.findings.specs.between.Builder.{all-numbers};
+ghost use Rattle.builder.specs.between.Builder.{all-numbers};
 ghost use Rattle.findings.specs.Lists.{Answers, sheet-list, area-list, two-list, list-early, sheet-list-refusal, area-list-refusal, two-areas, two-list-refusal};
 ghost use Rattle.findings.specs.between.Joined.{joined};
 use crate::MOST;
-use crate::build;
 use crate::joint;
 use network::Network;
 use railway::sorts::Area;
@@ -27,15 +26,15 @@ fn write_list(out: &mut [u16], sheet: &[u8], n: Network, scope: Scope) -> Output
     ensures { λ r. ⌜ Answers 0 (all-numbers n scope (decode-sheet (now (sheet .entry)))) (now (out .entry)) r (now (out .exit)) ⌝ }
 {
     if MOST <= out.len() {
-        let count = build::tell_all(out, sheet, n, scope);
+        let count = builder::tell_all(out, sheet, n, scope);
         return Output::Written(count);
     }
     let mut none = [0u16; 1];
-    let needed = build::tell_all(&mut none, sheet, n, scope);
+    let needed = builder::tell_all(&mut none, sheet, n, scope);
     if out.len() < needed {
         return Output::TooShort(needed);
     }
-    build::tell_all(out, sheet, n, scope);
+    builder::tell_all(out, sheet, n, scope);
     Output::Written(needed)
 }
 

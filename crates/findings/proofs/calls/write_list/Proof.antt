@@ -2,8 +2,9 @@
 -- Assumes nothing.
 use native.Mathlib.Omega.{arith}
 use denote.Ref.{now}
-use Rattle.sheet.specs.Sheets.{decode-sheet}
-use Rattle.findings.specs.between.Builder.{all-numbers}
+use Rattle.rule_tests.specs.between.Tests.{held}
+use Rattle.rule_tests.proofs.HeldLaws.{held-is}
+use Rattle.builder.specs.between.Builder.{all-numbers}
 use Rattle.findings.proofs.ListCalls.{too-short, written}
 use borrow.Author.Needs.{needs}
 use Rattle.findings.proofs.calls.write_list.Statement.{statement}
@@ -17,9 +18,11 @@ same-length c = search needs
 
 returns : tie.Need-returns
 returns c =
-    let s = c .before .before .before .before .before .before .before .args in
+    let q = c .before .before .before .before .before .before .before in
+    let s = q .args in
     let w = c .before .before .tell-all in
-    written (all-numbers (s .n) (s .scope) (decode-sheet (now (s .sheet)))) (now (s .out)) (w .result) _ (w .ensures .0) (omega (arith, w .ensures .2, c .before .before .before .before .if1 .taken)) (w .ensures .1)
+    rw (← held-is (now (s .sheet)) (q .pre))
+    (written (all-numbers (s .n) (s .scope) (held (now (s .sheet)))) (now (s .out)) (w .result) _ (w .ensures .0) (omega (arith, w .ensures .2, c .before .before .before .before .if1 .taken)) (w .ensures .1))
 
 slice-aggregate-tell-all : tie.Need-slice-aggregate-tell-all
 slice-aggregate-tell-all c = search needs
@@ -28,7 +31,12 @@ tell-all-requires-2 : tie.Need-tell-all-requires-2
 tell-all-requires-2 c κs = search needs
 
 returns-2 : tie.Need-returns-2
-returns-2 c = let s = c .before .before .before .before .before .before .before .args in too-short (all-numbers (s .n) (s .scope) (decode-sheet (now (s .sheet)))) (now (s .out)) (c .before .before .tell-all2 .result) (c .before .before .tell-all2 .ensures .0) (c .if2 .taken)
+returns-2 c =
+    let q = c .before .before .before .before .before .before .before in
+    let s = q .args in
+    let w = c .before .before .tell-all2 in
+    rw (← held-is (now (s .sheet)) (q .pre))
+    (too-short (all-numbers (s .n) (s .scope) (held (now (s .sheet)))) (now (s .out)) (w .result) (w .ensures .0) (c .if2 .taken))
 
 tell-all-requires-3 : tie.Need-tell-all-requires-3
 tell-all-requires-3 c κs = search needs
@@ -37,7 +45,12 @@ same-length-2 : tie.Need-same-length-2
 same-length-2 c = search needs
 
 returns-3 : tie.Need-returns-3
-returns-3 c = let s = c .before .before .before .before .before .before .before .before .before .before .before .args in written (all-numbers (s .n) (s .scope) (decode-sheet (now (s .sheet)))) (now (s .out)) (c .before .before .before .before .before .before .tell-all2 .result) _ (c .before .before .before .before .before .before .tell-all2 .ensures .0) (c .before .before .before .before .if2 .left) (c .before .before .tell-all3 .ensures .1)
+returns-3 c =
+    let q = c .before .before .before .before .before .before .before .before .before .before .before in
+    let s = q .args in
+    let w = c .before .before .before .before .before .before .tell-all2 in
+    rw (← held-is (now (s .sheet)) (q .pre))
+    (written (all-numbers (s .n) (s .scope) (held (now (s .sheet)))) (now (s .out)) (w .result) _ (w .ensures .0) (c .before .before .before .before .if2 .left) (c .before .before .tell-all3 .ensures .1))
 
 pub write-list-spec : {M : Type 1} → statement M
 write-list-spec =

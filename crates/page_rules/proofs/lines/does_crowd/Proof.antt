@@ -1,7 +1,7 @@
 -- `page_rules::lines::does_crowd` meets its contract: the line has no row, or its row is known. Assumes nothing.
 use mathlib.Core.Path.{sym, _∙_}
 use Rattle.network.specs.Networks.{line-row}
-use Rattle.network.proofs.RowLaws.{line-some, line-none}
+use Rattle.network.proofs.RowsInUse.{line-some, line-none}
 use Rattle.page_rules.specs.between.Parts.{crowds}
 use borrow.Author.Needs.{needs}
 use Rattle.page_rules.proofs.lines.does_crowd.Statement.{statement}

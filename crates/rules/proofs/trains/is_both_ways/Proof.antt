@@ -1,7 +1,7 @@
 -- `rules::trains::is_both_ways` meets its contract: the line has no row, or its row is known. Assumes nothing.
 use mathlib.Core.Path.{sym, _∙_}
 use Rattle.network.specs.Networks.{line-row}
-use Rattle.network.proofs.RowLaws.{line-some, line-none}
+use Rattle.network.proofs.RowsInUse.{line-some, line-none}
 use Rattle.rules.specs.between.Parts.{kind-three}
 use borrow.Author.Needs.{needs}
 use Rattle.rules.proofs.trains.is_both_ways.Statement.{statement}

@@ -1,0 +1,3 @@
+pub mod FindingsPut
+pub mod BuildLaws
+pub mod MostLaws
