@@ -1,30 +1,15 @@
 // Prints what the network and the timetable on standard input give: findings of the whole, of areas and of pairs,
 // totals, projections, and whether the timetable is written as it was read. One byte more than an input may have is
 // read, so that a longer one is told from it.
+use inspect_lines::parts;
 use libc::STDIN_FILENO;
-use libc::STDOUT_FILENO;
 use network::Network;
-use printing::inspect;
-use printing::refusal;
-use timetable::Output;
+use text::refusal;
 
-// What was written at the head of the buffer; the buffer has room for any part, so none is refused.
-fn print(out: &[u8], output: Output) {
-    match output {
-        Output::Written(k) => {
-            if k <= out.len() {
-                io::write_all(STDOUT_FILENO, &out[..k]);
-            }
-        }
-        Output::Refused(_k) => {}
-        Output::TooShort(_k) => {}
-    }
-}
-
-// The part with index k.
+// The part with index k; the buffer has room for any, so none is refused.
 fn print_part(sheet: &[u8], n: Network, bytes: &[u8], k: usize, out: &mut [u8]) {
-    let output = inspect::inspect_part(sheet, n, bytes, k, out);
-    print(out, output);
+    let output = parts::inspect_part(sheet, n, bytes, k, out);
+    console::print(out, output);
 }
 
 // All parts, one behind the other.
@@ -39,12 +24,12 @@ fn print_parts(sheet: &[u8], n: Network, bytes: &[u8], out: &mut [u8]) {
 // The line of a refusal.
 fn print_refusal(number: u8, place: usize, out: &mut [u8]) {
     let output = refusal::refusal_line(number, place, out);
-    print(out, output);
+    console::print(out, output);
 }
 
 // The input is read once, into the lent sheet.
 fn print_input(input: &[u8], sheet: &mut [u8], out: &mut [u8]) {
-    let read = inspect::read_input(input, sheet);
+    let read = parts::read_input(input, sheet);
     if read.refusal != 0 {
         print_refusal(read.refusal, read.place, out);
         return;
@@ -65,6 +50,6 @@ fn print_read(input: &[u8], out: &mut [u8]) {
 fn main() {
     let mut buffer = [0u8; 16385];
     let n = io::read_full(STDIN_FILENO, &mut buffer);
-    let mut out = [0u8; inspect::MOST];
+    let mut out = [0u8; parts::MOST];
     print_read(&buffer[..n], &mut out);
 }

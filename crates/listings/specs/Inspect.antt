@@ -15,6 +15,7 @@ use Rattle.network.specs.Networks.{stations-of, area-of}
 use Rattle.timetable.specs.Visits.{arr}
 use Rattle.timetable.specs.Tables.{Entry}
 use Rattle.timetable.specs.Machine.{Timetable}
+use Rattle.timetable.specs.Groups.{six}
 use Rattle.timetable.specs.Formats.{Outcome, accepted, refused, bytes-of}
 use Rattle.timetable.specs.TimetableFile.{timetable-numbers}
 use Rattle.timetable.specs.InspectFile.{Inspection, read-inspect}
@@ -61,10 +62,6 @@ module _ (n : Network) (m : Timetable) where
   -- the bytes that were read as the timetable
   unfoldable pub written-text : List ℕ → List ℕ
   written-text bytes = line 87 ((1 if same (bytes-of (timetable-numbers n m)) bytes else 0) ∷ [])
-
--- the areas
-abbrev pub six : List ℕ
-six = 1 ∷ 2 ∷ 3 ∷ 4 ∷ 5 ∷ 6 ∷ []
 
 -- the parts, in their order: F, six of D, fifteen of P, T, J, W
 unfoldable pub parts-of : Network → Timetable → List ℕ → List (List ℕ)

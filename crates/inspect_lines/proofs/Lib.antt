@@ -1,0 +1,10 @@
+pub mod ElementAt
+pub mod PutEach
+pub mod RowRanges
+pub mod RowTexts
+pub mod JourneyLines
+pub mod AreaLists
+pub mod WrittenLine
+pub mod PartIndices
+pub mod InputHeld
+pub mod InputPrinted

@@ -1,0 +1,2 @@
+-- Between code and definition: the bounds that the functions keep.
+pub mod Bounds

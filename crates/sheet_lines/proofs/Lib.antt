@@ -1,0 +1,3 @@
+pub mod ListedSheet
+pub mod FindingLines
+pub mod TotalsLine

@@ -1,0 +1,5 @@
+pub mod AnswerLines
+pub mod EditsRun
+pub mod PlacesWithin
+pub mod InputRead
+pub mod ListingLines

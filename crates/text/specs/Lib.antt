@@ -1,0 +1,2 @@
+pub mod RefusalLine
+pub mod between
