@@ -10,10 +10,10 @@ use Rattle.base.specs.Lists.{every, pairs}
 use Rattle.base.proofs.Tests.{and-l, and-r, every-head, every-tail}
 use Rattle.network.specs.Networks.{area-of}
 use Rattle.timetable.specs.Machine.{Timetable}
-use Rattle.timetable.specs.Groups.{Divided, divide}
+use Rattle.timetable.specs.Groups.{six, Divided, divide}
 use Rattle.timetable.specs.Findings.{finding, numbers, numbers-of, own-list, pair-list}
 use Rattle.theory.specs.Statements as theory
-use Rattle.sheet.specs.Sheets.{six, decode-sheet, sheet-at}
+use Rattle.sheet.specs.Sheets.{decode-sheet, sheet-at}
 use Rattle.sheet.proofs.SheetLaws.{area-number, all-areas}
 use Rattle.findings.specs.Lists.{area-list, two-list}
 use Rattle.findings.proofs.DividedLists.{area-same, pair-same}
@@ -52,7 +52,7 @@ module _ (n : Network) (division : List ℕ) (m : Timetable) (reads : (a : ℕ) 
   unfolding every pairs
   all-pairs = tt
 
-  pub all-same : all-lists n division ≡ theory.all-lists n (area-of n) theory.six parts
+  pub all-same : all-lists n division ≡ theory.all-lists n (area-of n) six parts
   unfolding all-lists area-lists pair-lists theory.all-lists
   all-same =
       ap findings-in (ap₂ (λ (a b : List ℕ). a ++ b)

@@ -13,7 +13,7 @@ use Rattle.base.proofs.Tests.{T-true}
 use Rattle.railway.specs.Ranges.{area-ok}
 use Rattle.network.specs.Networks.{network-refusal, listed, area-of}
 use Rattle.timetable.specs.Machine.{Timetable, answer, after}
-use Rattle.timetable.specs.Groups.{divide}
+use Rattle.timetable.specs.Groups.{six, divide}
 use Rattle.timetable.specs.Good.{Whole}
 use Rattle.timetable.specs.Findings.{findings}
 use Rattle.theory.specs.Reordering.{along}
@@ -65,11 +65,11 @@ demand-holds n good m w es ps R =
     let whole : Whole n last = run-whole n es m w in
     let g = whole-good n good m w in
     let h = whole-good n good last whole in
-    let shared : Findings n (area-of n) theory.six last = findings-shared n good (area-of n) theory.six (areas-group n good) last whole in
+    let shared : Findings n (area-of n) six last = findings-shared n good (area-of n) six (areas-group n good) last whole in
     let later : run (division-after n) (along es ps) (divided n (encode-sheet m)) ≡ divided n (encode-sheet last) =
     run-divided n good (along es ps) (encode-sheet m) g
     ∙ ap (divided n) (bytes-run n good m w (along es ps) ∙ ap encode-sheet (there .same-timetable)) in
-    let lists : all-lists n (divided n (encode-sheet last)) ≡ theory.all-lists n (area-of n) theory.six (divide (area-of n) last) =
+    let lists : all-lists n (divided n (encode-sheet last)) ≡ theory.all-lists n (area-of n) six (divide (area-of n) last) =
     all-same n (divided n (encode-sheet last)) last (reads n good last whole) in
     record {
       divides = divides n good (encode-sheet m) g;

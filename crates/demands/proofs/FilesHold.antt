@@ -13,20 +13,21 @@ use Rattle.base.specs.Choice.{if_then_else_}
 use Rattle.timetable.specs.Formats.{Outcome, accepted, refused, bytes-of}
 use Rattle.timetable.specs.Machine.{Timetable}
 use Rattle.timetable.specs.TimetableFile.{read-timetable, timetable-numbers}
+use Rattle.fields.specs.Outcomes.{end-of}
+use Rattle.fields.proofs.EndLaws.{end-accepted}
 use Rattle.sheet.specs.Sheets.{decode-sheet}
 use Rattle.machine.proofs.ByteEdits.{whole-of, sheet-of}
 use Rattle.roundtrips.specs.RoundTrips.{Bytes, TimetableRead}
 use Rattle.roundtrips.proofs.TimetableTrips.{timetable-trip}
 use Rattle.timetable_writing.specs.Writing.{timetable-bytes}
-use Rattle.timetable_files.specs.Calls as calls
-use Rattle.timetable_files.specs.Calls.{read-outcome, answer-of, read-answer, read-after}
-use Rattle.timetable_files.specs.declared.calls.TimetableRead as Answer
+use Rattle.timetable_entries.specs.Answers as rest
+use Rattle.timetable_files.specs.Calls.{read-outcome, read-answer, read-after}
 use Rattle.machine.proofs.WholeSheets.{whole-good, whole-back}
 use Rattle.demands.specs.Types.{Network}
 use Rattle.demands.specs.Files.{FileBack, SheetsComeBack, FilesComeBack}
 
 pub sheets-come-back : SheetsComeBack
-unfolding timetable-bytes read-answer read-after read-outcome answer-of calls.sheet-of
+unfolding timetable-bytes read-answer read-after read-outcome end-of rest.sheet-of
 sheets-come-back n good sheet size fine buffer room =
     let r = timetable-trip .back n (decode-sheet sheet) good (whole-of n good sheet size fine) in
     record {
@@ -34,19 +35,13 @@ sheets-come-back n good sheet size fine buffer room =
       same = rw (eq-eqb (length buffer) 8192 room, r) (sym (sheet-of n good sheet size fine));
     }
 
--- what is taken was accepted
-accepted-by : (o : Outcome Timetable) (next : ℕ) → answer-of o ≡ Answer.TimetableRead.Read next → (m : Timetable) × (o ≡ accepted m next)
-unfolding answer-of
-accepted-by (accepted m p) next e = let s : p ≡ next = cc in (m, rw s)
-accepted-by (refused k p) next e = let s : _≡_ {A = ℕ} 0 1 = cc in absurd (omega (arith, s))
-
--- and the buffer had its length
+-- what is taken was accepted, and the buffer had its length
 read-by : (b : Bool) (o : Outcome Timetable) (m : Timetable) (next : ℕ) → (if b then o else refused 5 0) ≡ accepted m next → o ≡ accepted m next
 read-by true o m next e = e
 read-by false o m next e = let s : _≡_ {A = ℕ} 0 1 = cc in absurd (omega (arith, s))
 
 file-back : (n : Network) (file buffer : List ℕ) (m : Timetable) (next : ℕ) → Bytes file → read-outcome n file buffer ≡ accepted m next → FileBack n file buffer
-unfolding timetable-bytes read-after calls.sheet-of read-outcome
+unfolding timetable-bytes read-after rest.sheet-of read-outcome
 file-back n file buffer m next bytes e =
     let t = timetable-trip .only n file m next bytes (read-by (eqb (length buffer) 8192) (read-timetable n file) m next e) in
     let g = whole-good n (t .network-good) m (t .whole) in
@@ -59,4 +54,4 @@ file-back n file buffer m next bytes e =
 pub files-come-back : FilesComeBack
 unfolding read-answer
 files-come-back n file buffer next bytes e =
-    let (m, o) = accepted-by (read-outcome n file buffer) next e in file-back n file buffer m next bytes o
+    let (m, o) = end-accepted (read-outcome n file buffer) next e in file-back n file buffer m next bytes o

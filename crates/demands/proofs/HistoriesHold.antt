@@ -15,14 +15,14 @@ use Rattle.base.specs.Runs.{run, answers}
 use Rattle.base.proofs.Tests.{by-test, by-value, T-true, true-T, T-false, if-no, and-l, and-r, both, or-l, or-r, every-all, every-head, every-tail}
 use Rattle.railway.specs.Ranges.{area-ok}
 use Rattle.network.specs.Networks.{area-of}
-use Rattle.timetable.specs.Groups.{names-group}
+use Rattle.timetable.specs.Groups.{six, names-group}
 use Rattle.theory.specs.Reordering.{at, along, history, Meet, Reordering}
 use Rattle.theory.specs.Serial.{Work, Serial, numbered}
 use Rattle.theory.proofs.Local.{LocalStep}
 use Rattle.theory.proofs.Exchange.{same-answers, same-state}
 use Rattle.theory.proofs.Histories.{said, same-history, reordered}
 use Rattle.theory.proofs.Serialized.{serial-run, serial-answers, after-first, run-serial}
-use Rattle.sheet.specs.Sheets.{six, sheet-at}
+use Rattle.sheet.specs.Sheets.{sheet-at}
 use Rattle.sheet.proofs.SheetLaws.{area-number, each-area, sheet-size, sheet-in, division-size, divisions-equal}
 use Rattle.machine.specs.Calls.{division-answer, division-after}
 use Rattle.demands.specs.Types.{Area, Edit, Network, Answer}

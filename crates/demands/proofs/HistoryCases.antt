@@ -9,7 +9,7 @@ use lib.ListN.{length}
 use Rattle.base.specs.Lists.{keep}
 use Rattle.timetable.specs.Cases as Cases
 use Rattle.timetable.specs.Cases.{net, plan, place, append}
-use Rattle.sheet.specs.Sheets.{six}
+use Rattle.timetable.specs.Groups.{six}
 use Rattle.demands.specs.Types.{Edit}
 use Rattle.demands.specs.Histories.{history-of}
 

@@ -15,7 +15,7 @@ use Rattle.railway.specs.Ranges.{station-ok}
 use Rattle.network.specs.Networks.{network-refusal, listed, area-of}
 use Rattle.timetable.specs.Tables.{empty}
 use Rattle.timetable.specs.Machine.{Timetable, nothing-placed, refusal, answer, after}
-use Rattle.timetable.specs.Groups.{in-group, names, names-group, divide, merge, gather, divided-answer, divided-after}
+use Rattle.timetable.specs.Groups.{six, in-group, names, names-group, divide, merge, gather, divided-answer, divided-after}
 use Rattle.timetable.specs.Good.{Whole, table-good}
 use Rattle.timetable.proofs.Locality.{names-none, others-kept}
 use Rattle.timetable.specs.Refusals.{call-refusal}
@@ -25,7 +25,7 @@ use Rattle.actions.proofs.EarlyLaws.{early-facts}
 use Rattle.theory.proofs.Kept.{after-whole}
 use Rattle.theory.proofs.Divided.{named-group}
 use Rattle.page.specs.Pages.{encode-page}
-use Rattle.sheet.specs.Sheets.{six, page-at, encode-sheet, decode-sheet, good-sheet, sheet-at}
+use Rattle.sheet.specs.Sheets.{page-at, encode-sheet, decode-sheet, good-sheet, sheet-at}
 use Rattle.network.proofs.AreaLaws.{listed-placed, listed-ok}
 use Rattle.page.proofs.PageLaws.{Coded, empty-coded, blank-page, good-bytes}
 use Rattle.sheet.proofs.SheetLaws.{area-number, all-areas, each-area, page-good, page-zeros, encoded-size, encoded-page, decoded-page, good-all-coded, sheet-size, sheet-in, division-size}

@@ -26,19 +26,20 @@ use Rattle.actions.specs.Early.{early-refusal}
 use Rattle.actions.specs.between.Shapes.{shape-of}
 use Rattle.actions.proofs.EarlyLaws.{early-facts}
 use Rattle.listings.specs.Shift.{refusal-text, shift-text}
-use Rattle.printing.specs.Parts.{input-outcome, input-answer, input-after, part-refusal, part-text, line-refusal}
-use Rattle.sheet.specs.Sheets.{good-sheet, divide-refusal, after-divide, merge-refusal, after-merge}
+use Rattle.text.specs.RefusalLine.{line-refusal}
+use Rattle.inspect_lines.specs.Parts.{input-outcome, input-answer, input-after, part-refusal, part-text}
+use Rattle.sheet.specs.Sheets.{good-sheet, whole-refusal, divide-refusal, after-divide, merge-refusal, after-merge}
 use Rattle.machine.specs.Calls.{sheet-refusal, sheet-answer, sheet-after, named-good, division-refusal, division-answer, division-after}
-use Rattle.machine.specs.between.PageEdits.{place-of, pair-refusal, pair-answer, pair-after, frames-answer, frames-after}
+use Rattle.page_edits.specs.between.PageEdits.{place-of, pair-refusal, pair-answer, pair-after, frames-answer, frames-after}
 use Rattle.machine.proofs.EditCalls.{sheet-answers, sheet-bytes, division-answers, division-bytes, sheet-is, sheet-not, division-is, division-not}
 use Rattle.findings.specs.Lists.{sheet-list, area-list, two-list, sheet-list-refusal, area-list-refusal, two-list-refusal}
-use Rattle.timetable_writing.specs.Writing as writing
-use Rattle.network_files.specs.Writing.{write-network, network-written}
-use Rattle.edit_files.specs.Writing.{edits-bytes, write-edit, edit-written, write-edits, edits-written}
+use Rattle.network_writing.specs.Writing.{write-network, network-written}
+use Rattle.edit_writing.specs.Writing.{edits-bytes, write-edit, edit-written, write-edits, edits-written}
 use Rattle.timetable.specs.Machine.{edit-refusal}
 use Rattle.timetable_writing.specs.Writing.{timetable-bytes, write-timetable, timetable-written}
-use Rattle.timetable_files.specs.Calls as sheetfile
-use Rattle.timetable_files.specs.Calls.{read-outcome, answer-of, read-answer, read-after}
+use Rattle.fields.specs.Outcomes.{end-of}
+use Rattle.timetable_entries.specs.Answers as sheetfile
+use Rattle.timetable_files.specs.Calls.{read-outcome, read-answer, read-after}
 use Rattle.timetable_files.specs.Inspect.{inspect-outcome, inspect-read, inspect-sheet, inspect-answer, inspect-after}
 use Rattle.machine.specs.Lists.{answers-of, told-run, division-left, answers-left, run-answer, run-division, run-answers}
 use Rattle.projection.specs.Calls.{project-refusal, projected, project-answer, project-after}
@@ -122,8 +123,8 @@ output-refused k xs buffer z = by-value (eqb k 0)
     (λ c. rw (b, c)))
     (λ b. rw b)
 
-read-refused : (o : Outcome Timetable) (sheet : List ℕ) → ¬ (sheetfile.number (answer-of o) ≡ 0) → sheetfile.sheet-of o sheet ≡ sheet
-unfolding sheetfile.number answer-of sheetfile.sheet-of
+read-refused : (o : Outcome Timetable) (sheet : List ℕ) → ¬ (formats.number (end-of o) ≡ 0) → sheetfile.sheet-of o sheet ≡ sheet
+unfolding formats.number end-of sheetfile.sheet-of
 read-refused (accepted m next) sheet z = absurd (z refl)
 read-refused (refused k p) sheet z = refl
 
@@ -161,7 +162,7 @@ refusals-leave-all = record {
   pair-findings = λ n first second a b out. output-refused (two-list-refusal n first second a b) (two-list n first second a b) out;
   timetable-reading = λ n file sheet. read-refused (read-outcome n file sheet) sheet;
   inspect-reading = λ file sheet. inspect-refused (inspect-outcome file sheet) sheet;
-  timetable-writing = λ n sheet buffer. output-refused (writing.sheet-refusal n sheet) (timetable-bytes n sheet) buffer;
+  timetable-writing = λ n sheet buffer. output-refused (whole-refusal n sheet) (timetable-bytes n sheet) buffer;
   network-writing = λ n buffer. output-refused (network-refusal n) (bytes-of (network-numbers n)) buffer;
   edit-writing = λ e buffer. output-refused (edit-refusal e) (bytes-of (edit-numbers e)) buffer;
   edits-writing = λ file buffer. output-refused (formats.number (read-edits file)) (edits-bytes file) buffer;

@@ -18,12 +18,12 @@ use Rattle.base.specs.Runs.{run, answers}
 use Rattle.railway.specs.Ranges.{area-ok}
 use Rattle.network.specs.Networks.{network-refusal, area-of}
 use Rattle.timetable.specs.Machine.{Timetable, answer, after}
-use Rattle.timetable.specs.Groups.{names-group, divide}
+use Rattle.timetable.specs.Groups.{six, names-group, divide}
 use Rattle.timetable.specs.Good.{Whole}
 use Rattle.timetable.specs.Findings.{finding, numbers, findings}
 use Rattle.theory.specs.Reordering.{along, Reordering}
 use Rattle.theory.specs.Statements.{times-listed}
-use Rattle.sheet.specs.Sheets.{six, encode-sheet, sheet-at, divided, divide-refusal, after-divide, merge-refusal, after-merge}
+use Rattle.sheet.specs.Sheets.{encode-sheet, sheet-at, divided, divide-refusal, after-divide, merge-refusal, after-merge}
 use Rattle.machine.specs.Calls.{division-answer, division-after}
 use Rattle.findings.specs.Lists.{sheet-list, area-list, two-list, two-areas, sheet-list-refusal, area-list-refusal, two-list-refusal}
 use Rattle.demands.specs.Types.{Area, Edit, Network, Finding}

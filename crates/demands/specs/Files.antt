@@ -8,16 +8,16 @@ use mathlib.Core.List.{List}
 use lib.Dec.{T}
 use lib.ListN.{length}
 use Rattle.network.specs.Networks.{network-refusal, listed}
+use Rattle.timetable.specs.Formats.{accepted}
 use Rattle.sheet.specs.Sheets.{good-sheet}
 use Rattle.roundtrips.specs.RoundTrips.{Bytes}
 use Rattle.timetable_writing.specs.Writing.{timetable-bytes}
 use Rattle.timetable_files.specs.Calls.{read-answer, read-after}
-use Rattle.timetable_files.specs.declared.calls.TimetableRead.{TimetableRead}
 use Rattle.demands.specs.Types.{Network}
 
 -- a good sheet, written and read into any buffer of the right length
 pub record SheetBack (n : Network) (sheet buffer : List ℕ) : Type 0 where
-  pub taken : read-answer n (timetable-bytes n sheet) buffer ≡ TimetableRead.Read (length (timetable-bytes n sheet))
+  pub taken : read-answer n (timetable-bytes n sheet) buffer ≡ accepted tt (length (timetable-bytes n sheet))
   pub same : read-after n (timetable-bytes n sheet) buffer ≡ sheet
 
 -- a file that is taken
@@ -31,4 +31,4 @@ SheetsComeBack = (n : Network) → network-refusal n ≡ 0 → (sheet : List ℕ
     → (buffer : List ℕ) → length buffer ≡ 8192 → SheetBack n sheet buffer
 
 abbrev pub FilesComeBack : Type 0
-FilesComeBack = (n : Network) (file buffer : List ℕ) (next : ℕ) → Bytes file → read-answer n file buffer ≡ TimetableRead.Read next → FileBack n file buffer
+FilesComeBack = (n : Network) (file buffer : List ℕ) (next : ℕ) → Bytes file → read-answer n file buffer ≡ accepted tt next → FileBack n file buffer

@@ -15,10 +15,10 @@ use Rattle.base.specs.Lists.{every}
 use Rattle.base.specs.Runs.{run, answers}
 use Rattle.railway.specs.Ranges.{area-ok}
 use Rattle.network.specs.Networks.{area-of}
-use Rattle.timetable.specs.Groups.{names-group}
+use Rattle.timetable.specs.Groups.{six, names-group}
 use Rattle.theory.specs.Reordering.{along, history, Reordering}
 use Rattle.theory.specs.Serial.{Work, Serial, numbered}
-use Rattle.sheet.specs.Sheets.{six, sheet-at}
+use Rattle.sheet.specs.Sheets.{sheet-at}
 use Rattle.machine.specs.Calls.{division-answer, division-after}
 use Rattle.demands.specs.Types.{Area, Edit, Network, Answer}
 

@@ -11,9 +11,9 @@ use lib.ListN.{length}
 use Rattle.base.specs.Choice.{if_then_else_}
 use Rattle.railway.specs.Ranges.{station-ok, area-ok}
 use Rattle.network.specs.Networks.{network-refusal, area-of}
-use Rattle.timetable.specs.Groups.{names, names-group}
+use Rattle.timetable.specs.Groups.{six, names, names-group}
 use Rattle.records.specs.Bytes.{zeros}
-use Rattle.sheet.specs.Sheets.{six, page-at, sheet-at}
+use Rattle.sheet.specs.Sheets.{page-at, sheet-at}
 use Rattle.machine.specs.Calls.{sheet-after, division-answer, division-after}
 use Rattle.demands.specs.Types.{Station, Area, Edit, Network}
 

@@ -13,16 +13,17 @@ use Rattle.base.specs.Lists.{every}
 use Rattle.base.specs.Runs.{answers}
 use Rattle.numbers.specs.Numbers.{width, with-number}
 use Rattle.timetable.specs.Count.{raise-refusal, raise}
+use Rattle.timetable.specs.Formats as formats
 use Rattle.timetable.specs.Outputs.{output, output-after}
 use Rattle.listings.specs.Shift.{refusal-text, shift-text}
-use Rattle.printing.specs.Parts.{input-answer, input-after, part-refusal, part-text, line-refusal}
+use Rattle.text.specs.RefusalLine.{line-refusal}
+use Rattle.inspect_lines.specs.Parts.{input-answer, input-after, part-refusal, part-text}
 use Rattle.sheet.specs.Sheets.{divide-refusal, after-divide, merge-refusal, after-merge}
 use Rattle.machine.specs.Calls.{sheet-answer, sheet-after, division-answer, division-after}
 use Rattle.findings.specs.Lists.{sheet-list, area-list, two-list, sheet-list-refusal, area-list-refusal, two-list-refusal}
-use Rattle.network_files.specs.Writing.{write-network, network-written}
-use Rattle.edit_files.specs.Writing.{write-edit, edit-written, write-edits, edits-written}
+use Rattle.network_writing.specs.Writing.{write-network, network-written}
+use Rattle.edit_writing.specs.Writing.{write-edit, edit-written, write-edits, edits-written}
 use Rattle.timetable_writing.specs.Writing.{write-timetable, timetable-written}
-use Rattle.timetable_files.specs.Calls as sheetfile
 use Rattle.timetable_files.specs.Calls.{read-answer, read-after}
 use Rattle.timetable_files.specs.Inspect.{inspect-answer, inspect-after}
 use Rattle.machine.specs.Lists.{run-answer, run-division, run-answers}
@@ -56,7 +57,7 @@ pub record RefusalsLeaveAll : Type 0 where
       → ¬ (output (two-list-refusal n first second a b) (two-list n first second a b) out .number ≡ 0)
       → output-after (two-list-refusal n first second a b) (two-list n first second a b) out ≡ out
   -- files, 13 too
-  pub timetable-reading : (n : Network) (file sheet : List ℕ) → ¬ (sheetfile.number (read-answer n file sheet) ≡ 0) → read-after n file sheet ≡ sheet
+  pub timetable-reading : (n : Network) (file sheet : List ℕ) → ¬ (formats.number (read-answer n file sheet) ≡ 0) → read-after n file sheet ≡ sheet
   pub inspect-reading : (file sheet : List ℕ) → ¬ (inspect-answer file sheet .refusal ≡ 0) → inspect-after file sheet ≡ sheet
   pub timetable-writing : (n : Network) (sheet buffer : List ℕ) → ¬ (write-timetable n sheet buffer .number ≡ 0) → timetable-written n sheet buffer ≡ buffer
   pub network-writing : (n : Network) (buffer : List ℕ) → ¬ (write-network n buffer .number ≡ 0) → network-written n buffer ≡ buffer

@@ -21,7 +21,7 @@ use Rattle.sheet.proofs.StationLaws.{station-is, station-table}
 use Rattle.projection.specs.Types.{Station, Train, Outward, OutLink, Visit, Row}
 use Rattle.projection.specs.Numbers.{row-numbers, rows-numbers, arrival-numbers, departure-numbers}
 use Rattle.timetable.specs.Outputs.{put}
-use Rattle.timetable.proofs.PutLaws.{put-append}
+use Rattle.timetable.proofs.BuffersFilled.{put-append}
 
 -- the page of a station, as the part from its first byte on is read
 pub page-there : (sheet : List ℕ) (s : Station) (i : ℕ) → length sheet ≡ 8192 → i ≡ s .0 → station-ok s ≡ true

@@ -1,4 +1,4 @@
 pub mod LateLaws
-pub mod RowLaws
+pub mod FourNumbers
 pub mod JourneyLaws
 pub mod ProjectionCall

@@ -23,7 +23,7 @@ use Rattle.projection.specs.Types.{Station, Train, Minute, Visit, Networ
 use Rattle.projection.specs.Numbers.{arrival-numbers}
 use Rattle.projection.specs.Calls.{values-fit, early-refusal, visit-refusal, project-refusal, projected, project-answer, project-after}
 use Rattle.timetable.proofs.RefusalLaws as refusals
-use Rattle.timetable.proofs.PutLaws.{refused-so}
+use Rattle.timetable.proofs.BuffersFilled.{refused-so}
 
 -- before the sheet is looked at
 module _ (n : Network) (s : Station) (t : Train) (a : Minute) where

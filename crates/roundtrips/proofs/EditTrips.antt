@@ -16,7 +16,7 @@ use Rattle.roundtrips.specs.Types.{Edit}
 use Rattle.roundtrips.proofs.Walks.{walks}
 use Rattle.roundtrips.specs.RoundTrips.{EditRoundTrip, EditsRoundTrip}
 use Rattle.roundtrips.proofs.WalkLaws.{span, read-walks, walks-read, file-read, file-walks}
-use Rattle.roundtrips.proofs.RowLaws.{Chain, walks-placed, placed-walks, Entry, walks-plain, plain-walks}
+use Rattle.roundtrips.proofs.RowsWalked.{Chain, walks-placed, placed-walks, Entry, walks-plain, plain-walks}
 use Rattle.roundtrips.proofs.EditWalks.{walks-edit, edit-walks}
 
 pub edit-trip : EditRoundTrip

@@ -20,7 +20,7 @@ use Rattle.roundtrips.specs.Types.{StationRelation, Plan, Extension, Del
 use Rattle.roundtrips.specs.Types.{ReportArrival, ReportDeparture, AddRelation, RemoveRelation, DeleteTrain}
 use Rattle.roundtrips.proofs.Walks.{InRange, walks}
 use Rattle.roundtrips.proofs.WalkLaws.{walks-made, made-walks}
-use Rattle.roundtrips.proofs.RowLaws.{Over, over-none, in-test, test-in, most-test, test-most, RowIn, by-index, row-exact, row-at, Fields, walks-fields, fields-walk}
+use Rattle.roundtrips.proofs.RowsWalked.{Over, over-none, in-test, test-in, most-test, test-most, RowIn, by-index, row-exact, row-at, Fields, walks-fields, fields-walk}
 use Rattle.roundtrips.proofs.RelationWalks.{walks-station-relation, station-relation-walks}
 
 -- fields in a row

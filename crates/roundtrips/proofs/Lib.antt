@@ -1,7 +1,7 @@
 pub mod ListLaws
 pub mod Walks
 pub mod WalkLaws
-pub mod RowLaws
+pub mod RowsWalked
 pub mod RelationWalks
 pub mod EditWalks
 pub mod EditTrips

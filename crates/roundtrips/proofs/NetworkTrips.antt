@@ -27,7 +27,7 @@ use Rattle.roundtrips.specs.RoundTrips.{UnusedBlank, NetworkRead, Networ
 use Rattle.roundtrips.proofs.ListLaws.{first-none, none-first}
 use Rattle.timetable.proofs.OutcomeLaws.{behind-taken, fault-free, fault-taken, joined-free, free-joined}
 use Rattle.roundtrips.proofs.WalkLaws.{span, walks-then, then-walks, walks-made, made-walks, file-read, file-walks}
-use Rattle.roundtrips.proofs.RowLaws.{in-test, test-in, most-test, test-most, values-entries}
+use Rattle.roundtrips.proofs.RowsWalked.{in-test, test-in, most-test, test-most, values-entries}
 use Rattle.roundtrips.proofs.NetworkWalks.{station-number, line-number, line-places, rows-of, rows-numbers, RowsIn, lines-at, walks-network, network-walks}
 use Rattle.roundtrips.proofs.EditTrips.{walks-edits-format, edits-format-walks}
 

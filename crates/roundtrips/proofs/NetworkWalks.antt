@@ -18,8 +18,8 @@ use Rattle.timetable.specs.NetworkFile.{Listed, station-bar, line-bar, stations
 use Rattle.roundtrips.specs.Types.{StationRow, LineRow}
 use Rattle.roundtrips.proofs.Walks.{InRange, walks}
 use Rattle.roundtrips.proofs.WalkLaws.{span, walks-then, then-walks, walks-made, made-walks}
-use Rattle.roundtrips.proofs.RowLaws.{Over, over-none, in-test, test-in, RowIn, by-index, row-exact, row-at, Fields, walks-fields, fields-walk}
-use Rattle.roundtrips.proofs.RowLaws.{Chain, values, Entry, walks-plain, plain-walks, walks-places, places-walk}
+use Rattle.roundtrips.proofs.RowsWalked.{Over, over-none, in-test, test-in, RowIn, by-index, row-exact, row-at, Fields, walks-fields, fields-walk}
+use Rattle.roundtrips.proofs.RowsWalked.{Chain, values, Entry, walks-plain, plain-walks, walks-places, places-walk}
 
 -- rows that rise by their first number
 

@@ -19,7 +19,7 @@ use Rattle.timetable.specs.Formats.{least, bar-after}
 use Rattle.timetable.specs.EditsFile.{station-relation-numbers}
 use Rattle.timetable.specs.TimetableFile.{StationVisit}
 use Rattle.roundtrips.specs.Types.{StationRelation}
-use Rattle.roundtrips.proofs.RowLaws.{Over, over-none, Chain}
+use Rattle.roundtrips.proofs.RowsWalked.{Over, over-none, Chain}
 use Rattle.roundtrips.proofs.RelationWalks.{relation-numbered, unused, StationRelationFits}
 use Rattle.roundtrips.proofs.VisitWalks.{visit-row, visit-ok, VisitFits}
 

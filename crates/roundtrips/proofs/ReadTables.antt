@@ -16,7 +16,7 @@ use Rattle.railway.specs.Relations.{relation-ok, key, precedes}
 use Rattle.railway.specs.Edits.{station-relation-ok}
 use Rattle.network.specs.Networks.{stations-of, station-row, listed, track-known, network-refusal}
 use Rattle.network.proofs.NetworkLaws.{network-facts}
-use Rattle.network.proofs.RowLaws.{listed-found}
+use Rattle.network.proofs.RowsInUse.{listed-found}
 use Rattle.timetable.specs.Tables.{Entry, empty}
 use Rattle.timetable.specs.Good.{Whole, links-good, values-good, visit-good, entry-good}
 use Rattle.timetable.specs.TimetableFile.{StationVisit, visits-at, relations-at}

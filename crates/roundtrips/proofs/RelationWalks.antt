@@ -24,7 +24,7 @@ use Rattle.timetable.proofs.TableLaws.{Further, Places, places, places-fit, use
 use Rattle.roundtrips.specs.Types.{Train, Trains, Relation, Connection, Disconnection, Dependency, StationRelation}
 use Rattle.roundtrips.proofs.Walks.{InRange, walks}
 use Rattle.roundtrips.proofs.WalkLaws.{walks-made, made-walks}
-use Rattle.roundtrips.proofs.RowLaws.{Over, raised, raise, in-test, test-in, most-test, test-most}
+use Rattle.roundtrips.proofs.RowsWalked.{Over, raised, raise, in-test, test-in, most-test, test-most}
 
 -- trains as numbers, each in range, rising where they must
 unfoldable pub TrainsIn : Bool → ℕ → List ℕ → Type 0

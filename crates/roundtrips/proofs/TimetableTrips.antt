@@ -24,7 +24,7 @@ use Rattle.roundtrips.specs.Types.{StationRelation, Network}
 use Rattle.roundtrips.specs.RoundTrips.{Bytes, TimetableRead, TimetableRoundTrip}
 use Rattle.timetable.proofs.OutcomeLaws.{clash, behind-taken}
 use Rattle.roundtrips.proofs.WalkLaws.{span, file-read, file-walks}
-use Rattle.roundtrips.proofs.RowLaws.{values-entries}
+use Rattle.roundtrips.proofs.RowsWalked.{values-entries}
 use Rattle.roundtrips.proofs.OrderLaws.{before, visit-key, relation-key}
 use Rattle.roundtrips.proofs.TimetableWalks.{all-visits, all-relations, entries-of, VisitsIn, RelationsIn, file-numbers, file-entries, walks-timetable, timetable-walks}
 use Rattle.roundtrips.proofs.EnterLaws.{Clear, enters-all, clears-all}

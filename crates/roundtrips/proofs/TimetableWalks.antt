@@ -17,7 +17,7 @@ use Rattle.timetable.specs.TimetableFile.{timetable-format, visits-at, relation
 use Rattle.roundtrips.specs.Types.{StationRelation, Network}
 use Rattle.roundtrips.proofs.Walks.{InRange, walks}
 use Rattle.roundtrips.proofs.WalkLaws.{span, walks-then, then-walks, walks-made, made-walks}
-use Rattle.roundtrips.proofs.RowLaws.{values, Entry, walks-places, places-walk}
+use Rattle.roundtrips.proofs.RowsWalked.{values, Entry, walks-places, places-walk}
 use Rattle.roundtrips.proofs.RelationWalks.{StationRelationFits, walks-station-relation, station-relation-walks}
 use Rattle.roundtrips.proofs.VisitWalks.{visit-ok, VisitFits, visit-law}
 use Rattle.roundtrips.proofs.OrderLaws.{before, visit-key, visits-chain, chain-visits, relation-key, relations-chain, chain-relations}

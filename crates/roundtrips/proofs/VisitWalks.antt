@@ -19,7 +19,7 @@ use Rattle.timetable.specs.TimetableFile.{station-visit-of, visit-entry, visit-
 use Rattle.roundtrips.specs.Types.{InLink, OutLink}
 use Rattle.roundtrips.proofs.Walks.{InRange, walks}
 use Rattle.roundtrips.proofs.WalkLaws.{span, walks-then, then-walks, walks-made, made-walks}
-use Rattle.roundtrips.proofs.RowLaws.{Over, in-test, test-in, most-test, test-most, RowIn, walks-row, row-walks, by-index, row-exact, row-at, Entry}
+use Rattle.roundtrips.proofs.RowsWalked.{Over, in-test, test-in, most-test, test-most, RowIn, walks-row, row-walks, by-index, row-exact, row-at, Entry}
 
 -- links
 

@@ -5,10 +5,10 @@
 use mathlib.Core.Path.{_≡_, _∙_, ap}
 use Rattle.base.specs.Runs.{run}
 use Rattle.timetable.specs.Machine.{Timetable, after}
-use Rattle.timetable.specs.Groups.{areas, divide, merge, divided-after}
+use Rattle.timetable.specs.Groups.{six, areas, divide, merge, divided-after}
 use Rattle.timetable.specs.Good.{Whole}
 use Rattle.theory.specs.Reordering.{along}
-use Rattle.theory.specs.Statements.{six, AnyOrder, SameOrder, Findings, DemandOfGroups, DemandOfAreas}
+use Rattle.theory.specs.Statements.{AnyOrder, SameOrder, Findings, DemandOfGroups, DemandOfAreas}
 use Rattle.theory.proofs.Ordered.{any-order, same-order, round-trip, areas-group}
 use Rattle.theory.proofs.Shared.{findings-shared}
 use Rattle.theory.proofs.Kept.{run-whole}

@@ -19,10 +19,10 @@ use Rattle.network.proofs.NetworkLaws.{network-facts}
 use Rattle.network.specs.declared.StationRow.{StationRow}
 use Rattle.timetable.specs.Machine.{answer, after}
 use Rattle.timetable.specs.Tables.{empty}
-use Rattle.timetable.specs.Groups.{names, names-group, merge, gather}
+use Rattle.timetable.specs.Groups.{six, names, names-group, merge, gather}
 use Rattle.timetable.proofs.Locality.{same-answer, same-change, others-kept, names-none}
 use Rattle.theory.specs.Types.{Station}
-use Rattle.theory.specs.Statements.{six, EveryEditIsLocal, AnyOrderIsTheFirst, DividedIsWhole, DivisionsRoundTrip, CentresMerge, AreasGroup}
+use Rattle.theory.specs.Statements.{EveryEditIsLocal, AnyOrderIsTheFirst, DividedIsWhole, DivisionsRoundTrip, CentresMerge, AreasGroup}
 use Rattle.theory.proofs.Exchange.{same-answers, same-state}
 use Rattle.theory.proofs.Split.{merged-by-centres}
 use Rattle.theory.proofs.Divided.{local-step, groups-apart, run-divided, answers-divided, merged-back, divided-back, divided-good, merged-whole}

@@ -11,7 +11,7 @@
 -- `divided-after` and `divided-answer` is the work on a division. A record collects what is promised together; of what
 -- it is promised stands at the end of the file. Assumes nothing.
 use mathlib.Core.Bool.{_||_}
-use mathlib.Core.List.{List, [], _∷_, _++_, flatMap}
+use mathlib.Core.List.{List, [], _++_, flatMap}
 use mathlib.Core.Path.{_≡_}
 use Prim.Native.Nat.{ℕ, _+_}
 use lib.Dec.{T, eqb, ltb}
@@ -19,7 +19,7 @@ use Rattle.base.specs.Lists.{any, count, each-two, pairs, below, same}
 use Rattle.base.specs.Runs.{run, answers}
 use Rattle.network.specs.Networks.{network-refusal, listed}
 use Rattle.timetable.specs.Machine.{Timetable, refusal, answer, after}
-use Rattle.timetable.specs.Groups.{Grouping, areas, names, names-group, Divided, divide, merge, gather, divided-answer, divided-after}
+use Rattle.timetable.specs.Groups.{Grouping, areas, six, names, names-group, Divided, divide, merge, gather, divided-answer, divided-after}
 use Rattle.timetable.specs.Good.{Whole, GoodDivision}
 use Rattle.timetable.specs.Findings.{findings, numbers, own-list, pair-list}
 use Rattle.timetable.specs.Count.{zero-tally, raise-all, counts-in-full, visit-count}
@@ -37,10 +37,6 @@ GoodNetwork n = network-refusal n ≡ 0
 pub record Grouped (n : Network) (γ : Grouping) (gs : List ℕ) : Type 0 where
   pub in-one : (k : Station) → T (listed n k) → count (eqb (γ k)) gs ≡ 1
   pub in-none : (k : Station) → listed n k ≡ ltb 0 (γ k)
-
--- the six areas
-abbrev pub six : List ℕ
-six = 1 ∷ 2 ∷ 3 ∷ 4 ∷ 5 ∷ 6 ∷ []
 
 -- 1. An edit reads and changes only the tables of the stations that it names; "one refused with 3 or 7 names none". So
 -- two timetables that agree at those stations give the same answer and the same new tables there, whatever they have

@@ -1,7 +1,7 @@
 pub mod Locality
 pub mod Partition
 pub mod TableLaws
-pub mod PutLaws
+pub mod BuffersFilled
 pub mod ReplyLaws
 pub mod RefusalLaws
 pub mod OutcomeLaws

@@ -19,6 +19,10 @@ Grouping = Station → ℕ
 abbrev pub areas : Network → Grouping
 areas n = area-of n
 
+-- "area 1..6": their numbers
+abbrev pub six : List ℕ
+six = 1 ∷ 2 ∷ 3 ∷ 4 ∷ 5 ∷ 6 ∷ []
+
 -- what an edit names
 
 unfoldable pub reaches : Network → Meaning → Station → Bool

@@ -1,7 +1,8 @@
 -- Calls that fill a lent buffer: what they answer and what the buffer then holds. Document 01, "Who brings on which
 -- number": "13 the output is too short (its needed length comes along; a longer one keeps its rest)"; "Each leaves all
 -- lent bytes untouched". Assumes nothing.
-use Prim.Native.Nat.{ℕ, _+_}
+use Prim.Native.Nat.{ℕ, _+_, _≤_}
+use mathlib.Core.Path.{_≡_}
 use mathlib.Core.Bool.{Bool, _&&_}
 use mathlib.Core.List.{List, [], _∷_, _++_}
 use mathlib.Core.Option.{Option, none, some}
@@ -46,6 +47,10 @@ module _ {X : Type 0} (k : ℕ) (xs : List X) (buffer : List X) where
 unfoldable pub put : {X : Type 0} → ℕ → List X → List X → List X
 put at [] buffer = buffer
 put at (x ∷ xs) buffer = put (at + 1) xs (set buffer at x)
+
+-- xs, at most k of them, were put from `at` on, and r is the place behind them: what each part of such a pass promises
+abbrev pub Puts : ℕ → List ℕ → List ℕ → ℕ → List ℕ → ℕ → Type 0
+Puts at xs before r after k = (r ≡ at + length xs) × (after ≡ put at xs before) × (r ≤ at + k)
 
 -- The key ring of this module: `unfolding opened` opens every definition above.
 unfoldable pub opened : Unit {0}

@@ -1,6 +1,5 @@
--- What refuses a call, in document 01's order: "5, 3, 4, 7, 6, 8, 9, 10, 11, 12, 13". Numbers that a request places
--- straight after 3 come from the call's own values (15, 17, 18, 20) or from the network (14), and before 4; those after
--- 4 from the network (21). Assumes nothing.
+-- What refuses a call, in document 01's order: "5, 3, 4, 7, 6, 8, 9, 10, 11, 12, 13". A number that stands between 3
+-- and 4 is the call's own or the network's, one behind 4 the network's. Assumes nothing.
 use Prim.Native.Nat.{ℕ}
 use mathlib.Core.Bool.{Bool, true, false, not, _||_}
 use lib.Dec.{eqb}

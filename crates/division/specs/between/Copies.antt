@@ -8,9 +8,10 @@ use lib.ListN.{getD}
 use Rattle.base.specs.Choice.{if_then_else_}
 use Rattle.base.specs.Lists.{every}
 use Rattle.network.specs.Networks.{area-of}
+use Rattle.timetable.specs.Groups.{six}
 use Rattle.records.specs.Bytes.{zeros}
 use Rattle.division.specs.Types.{Network}
-use Rattle.sheet.specs.Sheets.{sixteen, six, page-at, sheet-at}
+use Rattle.sheet.specs.Sheets.{sixteen, page-at, sheet-at}
 
 -- a page, or zeros in its place
 abbrev pub kept-page : Bool → List ℕ → List ℕ

@@ -3,7 +3,7 @@ use native.Mathlib.Omega.{arith}
 use denote.Ref.{now}
 use Rattle.projection.specs.Calls.{projected}
 use Rattle.page.proofs.FoundLaws.{found-some, found-none}
-use Rattle.timetable.proofs.PutLaws.{refused-so}
+use Rattle.timetable.proofs.BuffersFilled.{refused-so}
 use Rattle.projection.proofs.ProjectionCall.{visit-missing, visit-there}
 use borrow.Author.Needs.{needs}
 use Rattle.projection.proofs.calls.project_visit.Statement.{statement}

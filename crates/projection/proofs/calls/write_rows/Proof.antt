@@ -7,7 +7,7 @@ use lib.IntN.{ℤ}
 use lib.ListN.{length}
 use Rattle.timetable.specs.Outputs.{put}
 use Rattle.projection.specs.Calls.{projected}
-use Rattle.timetable.proofs.PutLaws.{too-short, fits-in}
+use Rattle.timetable.proofs.BuffersFilled.{too-short, fits-in}
 use Rattle.projection.proofs.ProjectionCall.{from-first}
 use borrow.Author.Needs.{needs}
 use Rattle.projection.proofs.calls.write_rows.Statement.{statement}

@@ -3,7 +3,7 @@ use native.Mathlib.Omega.{arith}
 use denote.Ref.{now}
 use mir.Syntax.{w32}
 use mir.Facts.{toZ-pos, toZ-ofZ}
-use Rattle.projection.proofs.RowLaws.{put-four}
+use Rattle.projection.proofs.FourNumbers.{put-four}
 use borrow.Author.Needs.{needs}
 use Rattle.projection.proofs.journey.put_row.Statement.{statement}
 use Rattle.projection.proofs.journey.put_row.Tie as tie
