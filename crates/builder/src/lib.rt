@@ -31,7 +31,7 @@ mod put; // numbers put into the lent buffer
 pub const RULES: u16 = 10;
 
 // t with each train of a page from an index on.
-fn tell_against(
+fn list_against(
     out: &mut [u16],
     at: usize,
     there: &[u8],
@@ -54,14 +54,14 @@ fn tell_against(
         let u = record::train_in(r);
         let w = record::visit_in(r);
         let found = rule_tests::does_clash(here, n, s, rule, t, v, u, w);
-        to = put::tell(out, to, found, s, rule, t.0, u.0);
+        to = put::finding(out, to, found, s, rule, t.0, u.0);
         i += 1;
     }
     to
 }
 
 // 10: t with each train at the far station of its out-link, where the list takes that.
-fn tell_facing(
+fn list_facing(
     out: &mut [u16],
     at: usize,
     sheet: &[u8],
@@ -80,7 +80,7 @@ fn tell_facing(
         OutLink::Nothing => at,
         OutLink::To(o) => {
             if scope::is_taken(n, scope, s, o.station) {
-                return tell_against(
+                return list_against(
                     out,
                     at,
                     station_page::page_of(sheet, o.station),
@@ -110,7 +110,7 @@ fn is_paired(rule: u16) -> bool
 }
 
 // One visit, by its index.
-fn tell_one(
+fn list_one(
     out: &mut [u16],
     at: usize,
     sheet: &[u8],
@@ -128,18 +128,18 @@ fn tell_one(
     let t = record::train_in(r);
     let v = record::visit_in(r);
     if is_paired(rule) {
-        return tell_against(out, at, here, i + 1, here, n, s, rule, t, v);
+        return list_against(out, at, here, i + 1, here, n, s, rule, t, v);
     }
     if rule == 10 {
-        return tell_facing(out, at, sheet, here, n, scope, s, t, v);
+        return list_facing(out, at, sheet, here, n, scope, s, t, v);
     }
     let found = rule_tests::is_broken(sheet, here, n, scope, s, rule, t, v);
     let second = rule_tests::second_of(rule, t, v);
-    put::tell(out, at, found, s, rule, t.0, second)
+    put::finding(out, at, found, s, rule, t.0, second)
 }
 
 // All visits of the station.
-fn tell_visits(
+fn list_visits(
     out: &mut [u16],
     at: usize,
     sheet: &[u8],
@@ -156,14 +156,14 @@ fn tell_visits(
     let mut to = at;
     let mut i: usize = 0;
     while i < k {
-        to = tell_one(out, to, sheet, here, n, scope, s, rule, i);
+        to = list_one(out, to, sheet, here, n, scope, s, rule, i);
         i += 1;
     }
     to
 }
 
 // 4: the relations of the station, by their rank.
-fn tell_unmet(out: &mut [u16], at: usize, here: &[u8], s: Station) -> usize
+fn list_unmet(out: &mut [u16], at: usize, here: &[u8], s: Station) -> usize
     requires { ⌜ at ≤ list-most ⌝ }
     ensures { λ r. ⌜ Puts at (unmet-numbers (table-in (now (here .entry))) s 1 (table-in (now (here .entry)) .relations)) (now (out .entry)) r (now (out .exit)) relations-most ⌝ }
 {
@@ -174,7 +174,7 @@ fn tell_unmet(out: &mut [u16], at: usize, here: &[u8], s: Station) -> usize
     while i < k {
         let q = record::relation_in(entries::relation_record(here, i));
         let met = relations::is_met(here, q);
-        to = put::tell(out, to, !met, s, 4, rank, 0);
+        to = put::finding(out, to, !met, s, 4, rank, 0);
         i += 1;
         rank += 1;
     }
@@ -201,7 +201,7 @@ fn is_asked(n: Network, scope: Scope, s: Station, rule: u16) -> bool
     scope::is_taken(n, scope, s, s)
 }
 
-fn tell_rule(
+fn list_rule(
     out: &mut [u16],
     at: usize,
     sheet: &[u8],
@@ -216,15 +216,15 @@ fn tell_rule(
 {
     if is_asked(n, scope, s, rule) {
         if rule == 4 {
-            return tell_unmet(out, at, here, s);
+            return list_unmet(out, at, here, s);
         }
-        return tell_visits(out, at, sheet, here, n, scope, s, rule);
+        return list_visits(out, at, sheet, here, n, scope, s, rule);
     }
     at
 }
 
 // All rules, by their numbers.
-fn tell_station(
+fn list_station(
     out: &mut [u16],
     at: usize,
     sheet: &[u8],
@@ -239,14 +239,14 @@ fn tell_station(
     let mut to = at;
     let mut rule: u16 = 1;
     while rule <= RULES {
-        to = tell_rule(out, to, sheet, here, n, scope, s, rule);
+        to = list_rule(out, to, sheet, here, n, scope, s, rule);
         rule += 1;
     }
     to
 }
 
 // All stations, from the buffer's start.
-pub fn tell_all(out: &mut [u16], sheet: &[u8], n: Network, scope: Scope) -> usize
+pub fn list_all(out: &mut [u16], sheet: &[u8], n: Network, scope: Scope) -> usize
     ensures { λ r. ⌜ Puts 0 (all-numbers n scope (held (now (sheet .entry)))) (now (out .entry)) r (now (out .exit)) list-most ⌝ }
 {
     let rows = n.stations;
@@ -255,7 +255,7 @@ pub fn tell_all(out: &mut [u16], sheet: &[u8], n: Network, scope: Scope) -> usiz
     let mut i: usize = 0;
     while i < k {
         let row = rows[i];
-        to = tell_station(out, to, sheet, n, scope, row.station);
+        to = list_station(out, to, sheet, n, scope, row.station);
         i += 1;
     }
     to

@@ -25,25 +25,25 @@ use Rattle.network_files.proofs.ReadingLaws.{draft-value, draft-refusal}
 
 pub edits-many : (k : ℕ) (file : List ℕ) (at : ℕ) (es : List Edit) (next : ℕ) → read (edits-on k) file at ≡ accepted es next → length es ≡ k
 unfolding edits-on
-edits-many k file at es next e = entries-many (λ bar. edit-entry) (λ e. []) k [] file at es next e
+edits-many k file at es next e = entries-many (λ floor. edit-entry) (λ e. []) k [] file at es next e
 
 -- what is left to read of a list, edit by edit
 abbrev pub left-at : List ℕ → ℕ → ℕ → Outcome (List Edit)
-left-at file k place = read (entries (λ bar. edit-entry) (λ e. []) k []) file place
+left-at file k place = read (entries (λ floor. edit-entry) (λ e. []) k []) file place
 
 module _ (file : List ℕ) (n i place : ℕ) where
   pub edit-taken : i < n → (e : Edit) (next : ℕ) → read edit-entry file place ≡ accepted e next → left-at file (n - i) place ≡ prefixed (e ∷ []) (left-at file (n - (i + 1)) next)
   edit-taken h e next q =
       let m : n - i ≡ suc (n - (i + 1)) = omega arith in
-      rw m (entries-next (λ bar. edit-entry) (λ e. []) [] file place (n - (i + 1)) e next q)
+      rw m (entries-next (λ floor. edit-entry) (λ e. []) [] file place (n - (i + 1)) e next q)
 
   pub edit-stopped : i < n → (k p : ℕ) → read edit-entry file place ≡ refused k p → left-at file (n - i) place ≡ refused k p
   edit-stopped h k p q =
       let m : n - i ≡ suc (n - (i + 1)) = omega arith in
-      rw m (entries-stop (λ bar. edit-entry) (λ e. []) [] file place (n - (i + 1)) k p q)
+      rw m (entries-stop (λ floor. edit-entry) (λ e. []) [] file place (n - (i + 1)) k p q)
 
   pub edits-over : n ≤ i → left-at file (n - i) place ≡ accepted [] place
-  edits-over h = let m : n - i ≡ 0 = omega arith in rw m (entries-over (λ bar. edit-entry) (λ e. []) [] file place)
+  edits-over h = let m : n - i ≡ 0 = omega arith in rw m (entries-over (λ floor. edit-entry) (λ e. []) [] file place)
 
 module _ (o : Outcome (Placed (List Edit))) (r : EditsPart) (e : r ≡ edits-read o) where
   pub edits-value : r .accepted ≡ true → (x : Placed (List Edit)) × (o ≡ accepted x (r .place)) × (r .first ≡ x .place) × (r .count ≡ length (x .entry))

@@ -9,13 +9,13 @@ ghost use Rattle.railway.specs.declared.edit.Edit.the-variants.{AddRelation, Re
 ghost use Rattle.timetable.specs.EditsFile.{plan-of, extension-of, deletion-of, report-of, edit-ranges, edit-of, edit-fields, edit-entry};
 ghost use Rattle.fields.specs.between.Answers.{ranges-of};
 ghost use Rattle.edit_files.specs.Answers.{edit-outcome, next-outcome};
-use fields::bar::no_bar;
 use fields::field::FieldRead;
 use fields::field::Span;
 use fields::field::Spans;
 use fields::field::field;
 use fields::field::narrow;
 use fields::field::row;
+use fields::floor::no_floor;
 use railway::edit::Cancellation;
 use railway::edit::Deletion;
 use railway::edit::Edit;
@@ -229,7 +229,7 @@ fn fields_edit(file: &[u8], at: usize, kind: u16) -> EditRead
 fn add_edit(file: &[u8], at: usize) -> EditRead
     ensures { λ r. ⌜ edit-outcome r ≡ read (station-relation-entry [] and-then (λ x. done (AddRelation x))) (now (file .entry)) at ⌝ }
 {
-    let read = relation_entry(file, at, no_bar());
+    let read = relation_entry(file, at, no_floor());
     match read {
         RelationRead::Refused(k, p) => EditRead::Refused(k, p),
         RelationRead::Entry(x, next) => EditRead::Entry(Edit::AddRelation(x), next),
@@ -239,7 +239,7 @@ fn add_edit(file: &[u8], at: usize) -> EditRead
 fn remove_edit(file: &[u8], at: usize) -> EditRead
     ensures { λ r. ⌜ edit-outcome r ≡ read (station-relation-entry [] and-then (λ x. done (RemoveRelation x))) (now (file .entry)) at ⌝ }
 {
-    let read = relation_entry(file, at, no_bar());
+    let read = relation_entry(file, at, no_floor());
     match read {
         RelationRead::Refused(k, p) => EditRead::Refused(k, p),
         RelationRead::Entry(x, next) => EditRead::Entry(Edit::RemoveRelation(x), next),

@@ -13,7 +13,7 @@ use Rattle.base.specs.Lists.{within}
 use Rattle.numbers.specs.Numbers.{read-number}
 use Rattle.numbers.specs.declared.Reading.{Reading}
 use Rattle.numbers.specs.declared.Reading.the-variants.{Value, Refused}
-use Rattle.timetable.specs.Formats.{Format, done, field, here, Outcome, accepted, refused, _and-then_, placed-field, field-at, behind, read, ended, Range, _to_, least, bar-after}
+use Rattle.timetable.specs.Formats.{Format, done, field, here, Outcome, accepted, refused, _and-then_, placed-field, field-at, behind, read, ended, Range, _to_, least, floor-after}
 use Rattle.timetable.specs.Formats.{compared, row, entries, Placed, placed}
 use Rattle.timetable.proofs.OutcomeLaws.{clash, behind-taken}
 use Rattle.fields.specs.declared.field.RowRead.{RowRead}
@@ -39,33 +39,33 @@ then-taken f g file at b next e = behind-taken (read f file at) (λ a p. read (g
 
 -- rows
 
-pub row-taken : (r : Range) (rs : List Range) (bar : List ℕ) (file : List ℕ) (at : ℕ) (ns : List ℕ) (next : ℕ) → read (row (r ∷ rs) bar) file at ≡ accepted ns next
-    → (n : ℕ) × (p : ℕ) × (ms : List ℕ) × (field-at (least (r .lo) bar) (r .hi) file at ≡ accepted n p)
-    × (read (row rs (bar-after n bar)) file p ≡ accepted ms next) × (ns ≡ n ∷ ms)
+pub row-taken : (r : Range) (rs : List Range) (floor : List ℕ) (file : List ℕ) (at : ℕ) (ns : List ℕ) (next : ℕ) → read (row (r ∷ rs) floor) file at ≡ accepted ns next
+    → (n : ℕ) × (p : ℕ) × (ms : List ℕ) × (field-at (least (r .lo) floor) (r .hi) file at ≡ accepted n p)
+    × (read (row rs (floor-after n floor)) file p ≡ accepted ms next) × (ns ≡ n ∷ ms)
 unfolding row compared read
-row-taken r rs bar file at ns next e =
-    let (n, p, u, v) = behind-taken (field-at (least (r .lo) bar) (r .hi) file at) (λ n p. read (row rs (bar-after n bar) and-then (λ ms. done (n ∷ ms))) file p) ns next e in
-    let (ms, q, w, x) = then-taken (row rs (bar-after n bar)) (λ ms. done (n ∷ ms)) file p ns next v in
+row-taken r rs floor file at ns next e =
+    let (n, p, u, v) = behind-taken (field-at (least (r .lo) floor) (r .hi) file at) (λ n p. read (row rs (floor-after n floor) and-then (λ ms. done (n ∷ ms))) file p) ns next e in
+    let (ms, q, w, x) = then-taken (row rs (floor-after n floor)) (λ ms. done (n ∷ ms)) file p ns next v in
     let y : q ≡ next = cc in
     (n, p, ms, u, (w ∙ rw y), (cc))
 
 -- each number is at most its range's last
-pub row-bounded : (rs : List Range) (bar : List ℕ) (file : List ℕ) (at : ℕ) (ns : List ℕ) (next : ℕ) → read (row rs bar) file at ≡ accepted ns next
+pub row-bounded : (rs : List Range) (floor : List ℕ) (file : List ℕ) (at : ℕ) (ns : List ℕ) (next : ℕ) → read (row rs floor) file at ≡ accepted ns next
     → (i : ℕ) → getD ns i 0 ≤ getD (map (λ r. r .hi) rs) i 0
 unfolding row read
-row-bounded [] bar file at ns next e i = let z : ns ≡ [] = cc in rw z (omega arith)
-row-bounded (r ∷ rs) bar file at ns next e i =
-    let (n, p, ms, u, v, w) = row-taken r rs bar file at ns next e in
-    rw w (go i n (field-bounded _ _ file at n p u .1) ms (row-bounded rs (bar-after n bar) file p ms next v))
+row-bounded [] floor file at ns next e i = let z : ns ≡ [] = cc in rw z (omega arith)
+row-bounded (r ∷ rs) floor file at ns next e i =
+    let (n, p, ms, u, v, w) = row-taken r rs floor file at ns next e in
+    rw w (go i n (field-bounded _ _ file at n p u .1) ms (row-bounded rs (floor-after n floor) file p ms next v))
   where
     go : (i n : ℕ) → n ≤ r .hi → (ms : List ℕ) → ((j : ℕ) → getD ms j 0 ≤ getD (map (λ r. r .hi) rs) j 0)
         → getD (n ∷ ms) i 0 ≤ getD (r .hi ∷ map (λ r. r .hi) rs) i 0
     go zero n h ms ih = h
     go (suc j) n h ms ih = ih j
 
--- a bar of one number raises the first range
+-- a floor of one number raises the first range
 pub row-above : (lo hi : ℕ) (rs : List Range) (b : ℕ) → lo ≤ b + 1 → row (lo to hi ∷ rs) (b ∷ []) ≡ row ((b + 1) to hi ∷ rs) []
-unfolding row compared least bar-after
+unfolding row compared least floor-after
 row-above lo hi rs b h = let e : max lo (b + 1) ≡ b + 1 = omega arith in ap (λ (k : ℕ). field k hi (λ n. row rs [] and-then (λ ns. done (n ∷ ns)))) e
 
 pub padded-at : (k : ℕ) (ns : List ℕ) (i : ℕ) → getD (padded k 0 ns) i 0 ≡ getD ns i 0
@@ -162,15 +162,15 @@ module _ {A : Type 0} (f : Format A) (file : List ℕ) (at : ℕ) where
   placed-none k p e = placed-read ∙ rw e
 
 -- as many entries as the count says
-pub entries-many : {A : Type 0} (entry : List ℕ → Format A) (bar-of : A → List ℕ) (k : ℕ) (bar file : List ℕ) (at : ℕ) (xs : List A) (next : ℕ)
-    → read (entries entry bar-of k bar) file at ≡ accepted xs next → length xs ≡ k
+pub entries-many : {A : Type 0} (entry : List ℕ → Format A) (floor-of : A → List ℕ) (k : ℕ) (floor file : List ℕ) (at : ℕ) (xs : List A) (next : ℕ)
+    → read (entries entry floor-of k floor) file at ≡ accepted xs next → length xs ≡ k
 unfolding entries read
-entries-many entry bar-of zero bar file at xs next e = let z : xs ≡ [] = cc in rw z
-entries-many entry bar-of (suc k) bar file at xs next e =
-    let (a, p, u, v) = then-taken (entry bar) (λ a. entries entry bar-of k (bar-of a) and-then (λ rest. done (a ∷ rest))) file at xs next e in
-    let (rest, q, w, x) = then-taken (entries entry bar-of k (bar-of a)) (λ rest. done (a ∷ rest)) file p xs next v in
+entries-many entry floor-of zero floor file at xs next e = let z : xs ≡ [] = cc in rw z
+entries-many entry floor-of (suc k) floor file at xs next e =
+    let (a, p, u, v) = then-taken (entry floor) (λ a. entries entry floor-of k (floor-of a) and-then (λ rest. done (a ∷ rest))) file at xs next e in
+    let (rest, q, w, x) = then-taken (entries entry floor-of k (floor-of a)) (λ rest. done (a ∷ rest)) file p xs next v in
     let z : xs ≡ a ∷ rest = cc in
-    rw z (ap suc (entries-many entry bar-of k (bar-of a) file p rest q w))
+    rw z (ap suc (entries-many entry floor-of k (floor-of a) file p rest q w))
 
 -- the end of a file
 

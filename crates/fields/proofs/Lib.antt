@@ -2,6 +2,6 @@ pub mod FieldLaws
 pub mod ReadLaws
 pub mod EntryLaws
 pub mod EndLaws
-pub mod BarLaws
+pub mod FloorLaws
 pub mod ByteLaws
 pub mod NumbersPut

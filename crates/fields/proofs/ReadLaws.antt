@@ -9,7 +9,7 @@ use native.Mathlib.Numerals.{add-one}
 use lib.ListN.{length, getD, set, take, drop, replicate, length-append, length-take, drop-of-length-le}
 use lib.Seq.{append-snoc, set-append-seam, getD-take}
 use Rattle.base.proofs.Lengths.{drop-next}
-use Rattle.timetable.specs.Formats.{Format, done, field, here, Outcome, accepted, refused, _and-then_, field-at, behind, read, Range, least, bar-after, compared, row, entries}
+use Rattle.timetable.specs.Formats.{Format, done, field, here, Outcome, accepted, refused, _and-then_, field-at, behind, read, Range, least, floor-after, compared, row, entries}
 use Rattle.fields.specs.between.Answers.{padded}
 
 -- one format and then another
@@ -85,14 +85,14 @@ padded-next k d xs i a e h =
 
 module _ (r : Range) (rs : List Range) (file : List ℕ) (at : ℕ) where
   pub row-next : (n next : ℕ) → field-at (r .lo) (r .hi) file at ≡ accepted n next → read (row (r ∷ rs) []) file at ≡ prefixed (n ∷ []) (read (row rs []) file next)
-  unfolding row compared least bar-after read behind
+  unfolding row compared least floor-after read behind
   row-next n next e =
       ap (λ (o : Outcome ℕ). behind o (λ m p. read (row rs [] and-then (λ ms. done (m ∷ ms))) file p)) e
       ∙ read-then (row rs []) (λ ms. done (n ∷ ms)) file next
       ∙ prefixed-one n (read (row rs []) file next)
 
   pub row-stop : (k p : ℕ) → field-at (r .lo) (r .hi) file at ≡ refused k p → read (row (r ∷ rs) []) file at ≡ refused k p
-  unfolding row compared least bar-after read behind
+  unfolding row compared least floor-after read behind
   row-stop k p e = ap (λ (o : Outcome ℕ). behind o (λ m p. read (row rs [] and-then (λ ms. done (m ∷ ms))) file p)) e
 
 pub row-over : (file : List ℕ) (at : ℕ) → read (row [] []) file at ≡ accepted [] at
@@ -101,28 +101,28 @@ row-over file at = refl
 
 -- entries
 
-module _ {A : Type 0} (entry : List ℕ → Format A) (bar-of : A → List ℕ) (bar : List ℕ) (file : List ℕ) (at : ℕ) where
-  first-entry : (k : ℕ) → read (entries entry bar-of (suc k) bar) file at
-      ≡ behind (read (entry bar) file at) (λ a next. read (entries entry bar-of k (bar-of a) and-then (λ rest. done (a ∷ rest))) file next)
+module _ {A : Type 0} (entry : List ℕ → Format A) (floor-of : A → List ℕ) (floor : List ℕ) (file : List ℕ) (at : ℕ) where
+  first-entry : (k : ℕ) → read (entries entry floor-of (suc k) floor) file at
+      ≡ behind (read (entry floor) file at) (λ a next. read (entries entry floor-of k (floor-of a) and-then (λ rest. done (a ∷ rest))) file next)
   unfolding entries
-  first-entry k = read-then (entry bar) (λ a. entries entry bar-of k (bar-of a) and-then (λ rest. done (a ∷ rest))) file at
+  first-entry k = read-then (entry floor) (λ a. entries entry floor-of k (floor-of a) and-then (λ rest. done (a ∷ rest))) file at
 
-  pub entries-next : (k : ℕ) (a : A) (next : ℕ) → read (entry bar) file at ≡ accepted a next
-      → read (entries entry bar-of (suc k) bar) file at ≡ prefixed (a ∷ []) (read (entries entry bar-of k (bar-of a)) file next)
+  pub entries-next : (k : ℕ) (a : A) (next : ℕ) → read (entry floor) file at ≡ accepted a next
+      → read (entries entry floor-of (suc k) floor) file at ≡ prefixed (a ∷ []) (read (entries entry floor-of k (floor-of a)) file next)
   unfolding read behind
   entries-next k a next e =
       first-entry k
-      ∙ ap (λ (o : Outcome A). behind o (λ a next. read (entries entry bar-of k (bar-of a) and-then (λ rest. done (a ∷ rest))) file next)) e
-      ∙ read-then (entries entry bar-of k (bar-of a)) (λ rest. done (a ∷ rest)) file next
-      ∙ prefixed-one a (read (entries entry bar-of k (bar-of a)) file next)
+      ∙ ap (λ (o : Outcome A). behind o (λ a next. read (entries entry floor-of k (floor-of a) and-then (λ rest. done (a ∷ rest))) file next)) e
+      ∙ read-then (entries entry floor-of k (floor-of a)) (λ rest. done (a ∷ rest)) file next
+      ∙ prefixed-one a (read (entries entry floor-of k (floor-of a)) file next)
 
-  pub entries-stop : (k j p : ℕ) → read (entry bar) file at ≡ refused j p → read (entries entry bar-of (suc k) bar) file at ≡ refused j p
+  pub entries-stop : (k j p : ℕ) → read (entry floor) file at ≡ refused j p → read (entries entry floor-of (suc k) floor) file at ≡ refused j p
   unfolding behind
   entries-stop k j p e =
       first-entry k
-      ∙ ap (λ (o : Outcome A). behind o (λ a next. read (entries entry bar-of k (bar-of a) and-then (λ rest. done (a ∷ rest))) file next)) e
+      ∙ ap (λ (o : Outcome A). behind o (λ a next. read (entries entry floor-of k (floor-of a) and-then (λ rest. done (a ∷ rest))) file next)) e
 
-  pub entries-over : read (entries entry bar-of 0 bar) file at ≡ accepted [] at
+  pub entries-over : read (entries entry floor-of 0 floor) file at ≡ accepted [] at
   unfolding entries read
   entries-over = refl
 

@@ -26,15 +26,15 @@ fn write_list(out: &mut [u16], sheet: &[u8], n: Network, scope: Scope) -> Output
     ensures { λ r. ⌜ Answers 0 (all-numbers n scope (decode-sheet (now (sheet .entry)))) (now (out .entry)) r (now (out .exit)) ⌝ }
 {
     if MOST <= out.len() {
-        let count = builder::tell_all(out, sheet, n, scope);
+        let count = builder::list_all(out, sheet, n, scope);
         return Output::Written(count);
     }
     let mut none = [0u16; 1];
-    let needed = builder::tell_all(&mut none, sheet, n, scope);
+    let needed = builder::list_all(&mut none, sheet, n, scope);
     if out.len() < needed {
         return Output::TooShort(needed);
     }
-    builder::tell_all(out, sheet, n, scope);
+    builder::list_all(out, sheet, n, scope);
     Output::Written(needed)
 }
 

@@ -62,7 +62,7 @@ held-by file r (accepted x next) e q z =
     let (k, p, f, g) = behind-taken (field-at 0 1000 file 0) (λ k p. read (placed (edits-on k)) file p) x next (ended-taken file (read edits-format file 0) x next e) in
     let (es, u, h, v) = behind-taken (read (edits-on k) file p) (λ es u. accepted (record { place = p; entry = es }) u) x next (sym (placed-read (edits-on k) file p) ∙ g) in
     let same : x ≡ record { place = p; entry = es } = cc in
-    let count : length es ≡ k = entries-many (λ bar. edit-entry) (λ e. []) k [] file p es u h in
+    let count : length es ≡ k = entries-many (λ floor. edit-entry) (λ e. []) k [] file p es u h in
     let c : r .count ≡ k = rw q (ap (λ (y : Placed (List Edit)). length (y .entry)) same ∙ count) in
     let s : r .first ≡ p = rw q (ap (λ (y : Placed (List Edit)). y .place) same) in
     let there = taken-there file k p (r .count) (r .first) es u c s h in

@@ -35,8 +35,8 @@ module _ (k : ℕ) (file : List ℕ) (at : ℕ) where
   one-more : read (edits-on (suc k)) file at ≡ behind (read edit-entry file at) (λ e p. behind (read (edits-on k) file p) (λ es next. accepted (e ∷ es) next))
   unfolding edits-on entries read behind
   one-more =
-      read-then edit-entry (λ e. entries (λ bar. edit-entry) (λ e. []) k [] and-then (λ es. done (e ∷ es))) file at
-      ∙ ap (behind (read edit-entry file at)) (fun-ext λ e. fun-ext λ p. read-then (entries (λ bar. edit-entry) (λ e. []) k []) (λ es. done (e ∷ es)) file p)
+      read-then edit-entry (λ e. entries (λ floor. edit-entry) (λ e. []) k [] and-then (λ es. done (e ∷ es))) file at
+      ∙ ap (behind (read edit-entry file at)) (fun-ext λ e. fun-ext λ p. read-then (entries (λ floor. edit-entry) (λ e. []) k []) (λ es. done (e ∷ es)) file p)
 
   module _ (e : Edit) (p : ℕ) (here : read edit-entry file at ≡ accepted e p) where
     next-are : read (edits-on (suc k)) file at ≡ behind (read (edits-on k) file p) (λ es next. accepted (e ∷ es) next)

@@ -14,7 +14,7 @@ use Rattle.network.specs.declared.LineRow.{LineRow}
 use Rattle.network.specs.declared.Network.{Network}
 use Rattle.network.specs.Networks.{blank-station, blank-line, station-rows, stations-of, listed, ends-listed}
 use Rattle.timetable.specs.Formats.{Format, done, Outcome, accepted, refused, _and-then_, behind, read, _to_, row, entries, Placed, placed}
-use Rattle.timetable.specs.NetworkFile.{station-ranges, station-of, station-entry, station-bar, line-ranges, line-of, line-fields, line-entry, line-bar}
+use Rattle.timetable.specs.NetworkFile.{station-ranges, station-of, station-entry, station-floor, line-ranges, line-of, line-fields, line-entry, line-floor}
 use Rattle.timetable.specs.NetworkFile.{Listed, stations-format, lines-format, lines-part, only-stations, with-headway, with-lines, blank-network, network-with, network-of, unjoined, unjoined-fault, network-fault}
 use Rattle.network_files.specs.declared.draft.StationsRead.{StationsRead}
 use Rattle.network_files.specs.declared.draft.LinesRead.{LinesRead}
@@ -107,7 +107,7 @@ module _ (n : Network) (o : Outcome (List (Placed LineRow))) (r : LinesRead) (e 
 
 lines-many : (file : List ℕ) (at m : ℕ) (ls : List (Placed LineRow)) (next : ℕ) → read (lines-format m) file at ≡ accepted ls next → length ls ≡ m
 unfolding lines-format
-lines-many file at m ls next o = entries-many line-entry line-bar m (0 ∷ []) file at ls next o
+lines-many file at m ls next o = entries-many line-entry line-floor m (0 ∷ []) file at ls next o
 
 -- a network with these lines
 abbrev pub drafted : Network → ℕ → LinesRead → Draft
@@ -151,4 +151,4 @@ headway-known x known h k e p =
 
 pub stations-many : (file : List ℕ) (at k : ℕ) (ss : List StationRow) (next : ℕ) → read (stations-format k) file at ≡ accepted ss next → length ss ≡ k
 unfolding stations-format
-stations-many file at k ss next o = entries-many station-entry station-bar k (0 ∷ []) file at ss next o
+stations-many file at k ss next o = entries-many station-entry station-floor k (0 ∷ []) file at ss next o

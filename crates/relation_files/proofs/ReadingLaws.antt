@@ -9,7 +9,7 @@ use lib.ListN.{getD, List·getD-map}
 use Rattle.base.specs.Choice.{if_then_else_}
 use Rattle.railway.specs.declared.sorts.Train.{Train}
 use Rattle.railway.specs.declared.edit.StationRelation.{StationRelation}
-use Rattle.timetable.specs.Formats.{Format, done, field, here, Outcome, accepted, refused, _and-then_, field-at, behind, read, least, bar-after, compared}
+use Rattle.timetable.specs.Formats.{Format, done, field, here, Outcome, accepted, refused, _and-then_, field-at, behind, read, least, floor-after, compared}
 use Rattle.timetable.specs.Tables.{packed}
 use Rattle.timetable.specs.EditsFile.{trains-format, pair-of, group-of, relation-of, most-trains, trains-part, train-count-part, interval-part, relation-entry, station-relation-entry}
 use Rattle.fields.specs.between.Answers.{padded}
@@ -22,20 +22,20 @@ use Rattle.relation_files.specs.between.Answers.{relation-trains, relati
 abbrev pub least-train : Bool → ℕ → ℕ
 least-train rise before = if rise then before + 1 else 1
 
-module _ (rise : Bool) (before : ℕ) (bar file : List ℕ) (at : ℕ) where
-  pub train-taken : (k t next : ℕ) → field-at (least (least-train rise before) bar) 9999 file at ≡ accepted t next
-      → read (trains-format rise (suc k) before bar) file at ≡ prefixed (t ∷ []) (read (trains-format rise k t (bar-after t bar)) file next)
+module _ (rise : Bool) (before : ℕ) (floor file : List ℕ) (at : ℕ) where
+  pub train-taken : (k t next : ℕ) → field-at (least (least-train rise before) floor) 9999 file at ≡ accepted t next
+      → read (trains-format rise (suc k) before floor) file at ≡ prefixed (t ∷ []) (read (trains-format rise k t (floor-after t floor)) file next)
   unfolding trains-format compared read behind
   train-taken k t next e =
-      field-on (least (least-train rise before) bar) 9999 (λ t. trains-format rise k t (bar-after t bar) and-then (λ ts. done (t ∷ ts))) file at t next e
-      ∙ read-then (trains-format rise k t (bar-after t bar)) (λ ts. done (t ∷ ts)) file next
-      ∙ prefixed-one t (read (trains-format rise k t (bar-after t bar)) file next)
+      field-on (least (least-train rise before) floor) 9999 (λ t. trains-format rise k t (floor-after t floor) and-then (λ ts. done (t ∷ ts))) file at t next e
+      ∙ read-then (trains-format rise k t (floor-after t floor)) (λ ts. done (t ∷ ts)) file next
+      ∙ prefixed-one t (read (trains-format rise k t (floor-after t floor)) file next)
 
-  pub train-refused : (k j p : ℕ) → field-at (least (least-train rise before) bar) 9999 file at ≡ refused j p → read (trains-format rise (suc k) before bar) file at ≡ refused j p
+  pub train-refused : (k j p : ℕ) → field-at (least (least-train rise before) floor) 9999 file at ≡ refused j p → read (trains-format rise (suc k) before floor) file at ≡ refused j p
   unfolding trains-format compared
-  train-refused k j p e = field-stop (least (least-train rise before) bar) 9999 (λ t. trains-format rise k t (bar-after t bar) and-then (λ ts. done (t ∷ ts))) file at j p e
+  train-refused k j p e = field-stop (least (least-train rise before) floor) 9999 (λ t. trains-format rise k t (floor-after t floor) and-then (λ ts. done (t ∷ ts))) file at j p e
 
-  pub trains-over : read (trains-format rise 0 before bar) file at ≡ accepted [] at
+  pub trains-over : read (trains-format rise 0 before floor) file at ≡ accepted [] at
   unfolding trains-format read
   trains-over = refl
 
@@ -67,52 +67,52 @@ relation-padded kind i ns = rw (group-padded ns, padded-at 12 ns 0, padded-at 12
 
 -- the fields
 
-module _ (s kind i k : ℕ) (bar file : List ℕ) (at : ℕ) where
-  pub trains-stop : (j p : ℕ) → read (trains-format (not (eqb kind 3)) k 0 bar) file at ≡ refused j p → read (relation-trains s kind i k bar) file at ≡ refused j p
+module _ (s kind i k : ℕ) (floor file : List ℕ) (at : ℕ) where
+  pub trains-stop : (j p : ℕ) → read (trains-format (not (eqb kind 3)) k 0 floor) file at ≡ refused j p → read (relation-trains s kind i k floor) file at ≡ refused j p
   unfolding relation-trains
   trains-stop j p e =
       then-stop _ (λ r. done (record { station = record { 0 = s }; relation = r })) file at j p
-      (then-stop (trains-format (not (eqb kind 3)) k 0 bar) (λ ts. done (relation-of kind i ts)) file at j p e)
+      (then-stop (trains-format (not (eqb kind 3)) k 0 floor) (λ ts. done (relation-of kind i ts)) file at j p e)
 
-  pub trains-some : (ts : List ℕ) (next : ℕ) → read (trains-format (not (eqb kind 3)) k 0 bar) file at ≡ accepted ts next
-      → read (relation-trains s kind i k bar) file at ≡ accepted (record { station = record { 0 = s }; relation = relation-of kind i ts }) next
+  pub trains-some : (ts : List ℕ) (next : ℕ) → read (trains-format (not (eqb kind 3)) k 0 floor) file at ≡ accepted ts next
+      → read (relation-trains s kind i k floor) file at ≡ accepted (record { station = record { 0 = s }; relation = relation-of kind i ts }) next
   unfolding relation-trains read
   trains-some ts next e =
       then-on _ (λ r. done (record { station = record { 0 = s }; relation = r })) file at (relation-of kind i ts) next
-      (then-on (trains-format (not (eqb kind 3)) k 0 bar) (λ ts. done (relation-of kind i ts)) file at ts next e)
+      (then-on (trains-format (not (eqb kind 3)) k 0 floor) (λ ts. done (relation-of kind i ts)) file at ts next e)
 
-module _ (s kind : ℕ) (bar file : List ℕ) (at : ℕ) where
-  pub interval-stop : (k p : ℕ) → field-at (least 0 bar) 240 file at ≡ refused k p → read (relation-fields s kind bar) file at ≡ refused k p
+module _ (s kind : ℕ) (floor file : List ℕ) (at : ℕ) where
+  pub interval-stop : (k p : ℕ) → field-at (least 0 floor) 240 file at ≡ refused k p → read (relation-fields s kind floor) file at ≡ refused k p
   unfolding relation-fields compared
-  interval-stop k p e = field-stop (least 0 bar) 240 _ file at k p e
+  interval-stop k p e = field-stop (least 0 floor) 240 _ file at k p e
 
-  module _ (i next : ℕ) (e : field-at (least 0 bar) 240 file at ≡ accepted i next) where
-    interval-then : read (relation-fields s kind bar) file at ≡ read (compared 2 (most-trains kind) (bar-after i bar) (λ k left. relation-trains s kind i k left)) file next
+  module _ (i next : ℕ) (e : field-at (least 0 floor) 240 file at ≡ accepted i next) where
+    interval-then : read (relation-fields s kind floor) file at ≡ read (compared 2 (most-trains kind) (floor-after i floor) (λ k left. relation-trains s kind i k left)) file next
     unfolding relation-fields compared
-    interval-then = field-on (least 0 bar) 240 _ file at i next e
+    interval-then = field-on (least 0 floor) 240 _ file at i next e
 
-    pub count-stop : (k p : ℕ) → field-at (least 2 (bar-after i bar)) (most-trains kind) file next ≡ refused k p → read (relation-fields s kind bar) file at ≡ refused k p
+    pub count-stop : (k p : ℕ) → field-at (least 2 (floor-after i floor)) (most-trains kind) file next ≡ refused k p → read (relation-fields s kind floor) file at ≡ refused k p
     unfolding compared
-    count-stop k p q = interval-then ∙ field-stop (least 2 (bar-after i bar)) (most-trains kind) _ file next k p q
+    count-stop k p q = interval-then ∙ field-stop (least 2 (floor-after i floor)) (most-trains kind) _ file next k p q
 
-    pub count-then : (k later : ℕ) → field-at (least 2 (bar-after i bar)) (most-trains kind) file next ≡ accepted k later
-        → read (relation-fields s kind bar) file at ≡ read (relation-trains s kind i k (bar-after k (bar-after i bar))) file later
+    pub count-then : (k later : ℕ) → field-at (least 2 (floor-after i floor)) (most-trains kind) file next ≡ accepted k later
+        → read (relation-fields s kind floor) file at ≡ read (relation-trains s kind i k (floor-after k (floor-after i floor))) file later
     unfolding compared
-    count-then k later q = interval-then ∙ field-on (least 2 (bar-after i bar)) (most-trains kind) _ file next k later q
+    count-then k later q = interval-then ∙ field-on (least 2 (floor-after i floor)) (most-trains kind) _ file next k later q
 
-module _ (bar file : List ℕ) (at : ℕ) where
-  pub place-stop : (k p : ℕ) → field-at (least 1 bar) 16 file at ≡ refused k p → read (station-relation-entry bar) file at ≡ refused k p
+module _ (floor file : List ℕ) (at : ℕ) where
+  pub place-stop : (k p : ℕ) → field-at (least 1 floor) 16 file at ≡ refused k p → read (station-relation-entry floor) file at ≡ refused k p
   unfolding station-relation-entry compared
-  place-stop k p e = field-stop (least 1 bar) 16 _ file at k p e
+  place-stop k p e = field-stop (least 1 floor) 16 _ file at k p e
 
-  module _ (s next : ℕ) (e : field-at (least 1 bar) 16 file at ≡ accepted s next) where
-    place-then : read (station-relation-entry bar) file at ≡ read (field (least 1 (bar-after s bar)) 3 (λ kind. relation-fields s kind (bar-after kind (bar-after s bar)))) file next
+  module _ (s next : ℕ) (e : field-at (least 1 floor) 16 file at ≡ accepted s next) where
+    place-then : read (station-relation-entry floor) file at ≡ read (field (least 1 (floor-after s floor)) 3 (λ kind. relation-fields s kind (floor-after kind (floor-after s floor)))) file next
     unfolding station-relation-entry relation-entry interval-part train-count-part trains-part relation-fields relation-trains compared _and-then_
-    place-then = field-on (least 1 bar) 16 _ file at s next e
+    place-then = field-on (least 1 floor) 16 _ file at s next e
 
-    pub kind-stop : (k p : ℕ) → field-at (least 1 (bar-after s bar)) 3 file next ≡ refused k p → read (station-relation-entry bar) file at ≡ refused k p
-    kind-stop k p q = place-then ∙ field-stop (least 1 (bar-after s bar)) 3 (λ kind. relation-fields s kind (bar-after kind (bar-after s bar))) file next k p q
+    pub kind-stop : (k p : ℕ) → field-at (least 1 (floor-after s floor)) 3 file next ≡ refused k p → read (station-relation-entry floor) file at ≡ refused k p
+    kind-stop k p q = place-then ∙ field-stop (least 1 (floor-after s floor)) 3 (λ kind. relation-fields s kind (floor-after kind (floor-after s floor))) file next k p q
 
-    pub kind-then : (kind later : ℕ) → field-at (least 1 (bar-after s bar)) 3 file next ≡ accepted kind later
-        → read (station-relation-entry bar) file at ≡ read (relation-fields s kind (bar-after kind (bar-after s bar))) file later
-    kind-then kind later q = place-then ∙ field-on (least 1 (bar-after s bar)) 3 (λ kind. relation-fields s kind (bar-after kind (bar-after s bar))) file next kind later q
+    pub kind-then : (kind later : ℕ) → field-at (least 1 (floor-after s floor)) 3 file next ≡ accepted kind later
+        → read (station-relation-entry floor) file at ≡ read (relation-fields s kind (floor-after kind (floor-after s floor))) file later
+    kind-then kind later q = place-then ∙ field-on (least 1 (floor-after s floor)) 3 (λ kind. relation-fields s kind (floor-after kind (floor-after s floor))) file next kind later q

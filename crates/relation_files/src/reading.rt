@@ -8,11 +8,11 @@ ghost use Rattle.timetable.specs.Formats.{read};
 ghost use Rattle.timetable.specs.EditsFile.{trains-format, most-trains, group-of, relation-of, station-relation-entry};
 ghost use Rattle.fields.specs.between.Answers.{in-use, row-read};
 ghost use Rattle.relation_files.specs.between.Answers.{relation-trains, relation-fields, relation-outcome};
-use fields::bar;
 use fields::field::Numbers;
 use fields::field::RowRead;
 use fields::field::narrow;
 use fields::field::refused_row;
+use fields::floor;
 use railway::edit::StationRelation;
 use railway::relation::Pair;
 use railway::relation::Relation;
@@ -37,20 +37,20 @@ fn least_train(rise: bool, before: u16) -> u32
 }
 
 // So many trains.
-fn trains(file: &[u8], at: usize, rise: bool, count: usize, bar: Numbers) -> RowRead
+fn trains(file: &[u8], at: usize, rise: bool, count: usize, floor: Numbers) -> RowRead
     requires { ⌜ count ≤ 12 ⌝ }
-    ensures { λ r. ⌜ r ≡ row-read (read (trains-format rise count 0 (in-use bar)) (now (file .entry)) at) ⌝ }
+    ensures { λ r. ⌜ r ≡ row-read (read (trains-format rise count 0 (in-use floor)) (now (file .entry)) at) ⌝ }
 {
     let mut values: [u16; 12] = [0; 12];
     let mut place = at;
     let mut before: u16 = 0;
-    let mut left = bar;
+    let mut left = floor;
     let mut i: usize = 0;
     while i < count {
-        let t = bar::compared(file, place, least_train(rise, before), 9999, left);
+        let t = floor::compared(file, place, least_train(rise, before), 9999, left);
         if t.accepted {
             values[i] = t.value;
-            left = bar::bar_after(left, t.value);
+            left = floor::floor_after(left, t.value);
             before = t.value;
             place = t.place;
         } else {
@@ -113,12 +113,12 @@ fn relation_trains(
     kind: u16,
     interval: u16,
     count: u16,
-    bar: Numbers,
+    floor: Numbers,
 ) -> RelationRead
     requires { ⌜ count ≤ 12 ⌝ }
-    ensures { λ r. ⌜ (s ≤ 16 → interval ≤ 240 → relation-outcome r ≡ read (relation-trains s kind interval count (in-use bar)) (now (file .entry)) at) ⌝ }
+    ensures { λ r. ⌜ (s ≤ 16 → interval ≤ 240 → relation-outcome r ≡ read (relation-trains s kind interval count (in-use floor)) (now (file .entry)) at) ⌝ }
 {
-    let found = trains(file, at, kind != 3, count as usize, bar);
+    let found = trains(file, at, kind != 3, count as usize, floor);
     if found.accepted {
         let v = found.values;
         return RelationRead::Entry(
@@ -133,13 +133,13 @@ fn relation_trains(
 }
 
 // Behind the station and the kind.
-fn relation_fields(file: &[u8], at: usize, s: u16, kind: u16, bar: Numbers) -> RelationRead
-    ensures { λ r. ⌜ (s ≤ 16 → relation-outcome r ≡ read (relation-fields s kind (in-use bar)) (now (file .entry)) at) ⌝ }
+fn relation_fields(file: &[u8], at: usize, s: u16, kind: u16, floor: Numbers) -> RelationRead
+    ensures { λ r. ⌜ (s ≤ 16 → relation-outcome r ≡ read (relation-fields s kind (in-use floor)) (now (file .entry)) at) ⌝ }
 {
-    let i = bar::compared(file, at, 0, 240, bar);
+    let i = floor::compared(file, at, 0, 240, floor);
     if i.accepted {
-        let left = bar::bar_after(bar, i.value);
-        let k = bar::compared(file, i.place, 2, most_trains(kind), left);
+        let left = floor::floor_after(floor, i.value);
+        let k = floor::compared(file, i.place, 2, most_trains(kind), left);
         if k.accepted {
             return relation_trains(
                 file,
@@ -148,7 +148,7 @@ fn relation_fields(file: &[u8], at: usize, s: u16, kind: u16, bar: Numbers) -> R
                 kind,
                 i.value,
                 k.value,
-                bar::bar_after(left, k.value),
+                floor::floor_after(left, k.value),
             );
         }
         return RelationRead::Refused(k.refusal, k.place);
@@ -157,20 +157,20 @@ fn relation_fields(file: &[u8], at: usize, s: u16, kind: u16, bar: Numbers) -> R
 }
 
 // The relation entry at a place, behind the numbers of the entry before.
-pub fn relation_entry(file: &[u8], at: usize, bar: Numbers) -> RelationRead
-    ensures { λ r. ⌜ relation-outcome r ≡ read (station-relation-entry (in-use bar)) (now (file .entry)) at ⌝ }
+pub fn relation_entry(file: &[u8], at: usize, floor: Numbers) -> RelationRead
+    ensures { λ r. ⌜ relation-outcome r ≡ read (station-relation-entry (in-use floor)) (now (file .entry)) at ⌝ }
 {
-    let s = bar::compared(file, at, 1, 16, bar);
+    let s = floor::compared(file, at, 1, 16, floor);
     if s.accepted {
-        let left = bar::bar_after(bar, s.value);
-        let kind = bar::compared(file, s.place, 1, 3, left);
+        let left = floor::floor_after(floor, s.value);
+        let kind = floor::compared(file, s.place, 1, 3, left);
         if kind.accepted {
             return relation_fields(
                 file,
                 kind.place,
                 s.value,
                 kind.value,
-                bar::bar_after(left, kind.value),
+                floor::floor_after(left, kind.value),
             );
         }
         return RelationRead::Refused(kind.refusal, kind.place);

@@ -31,32 +31,32 @@ edit-trip = record {
 -- lists
 
 abbrev fits : List ℕ → Edit → Type 0
-fits bar e = T (edit-ok e)
+fits floor e = T (edit-ok e)
 
-abbrev no-bar : Edit → List ℕ
-no-bar e = []
+abbrev no-floor : Edit → List ℕ
+no-floor e = []
 
-every-chain : (bar : List ℕ) (es : List Edit) → T (every edit-ok es) → Chain no-bar fits bar es
+every-chain : (floor : List ℕ) (es : List Edit) → T (every edit-ok es) → Chain no-floor fits floor es
 unfolding Chain
-every-chain bar [] t = tt
-every-chain bar (e ∷ es) t = (every-head edit-ok e es t, every-chain [] es (every-tail edit-ok e es t))
+every-chain floor [] t = tt
+every-chain floor (e ∷ es) t = (every-head edit-ok e es t, every-chain [] es (every-tail edit-ok e es t))
 
-chain-every : (bar : List ℕ) (es : List Edit) → Chain no-bar fits bar es → T (every edit-ok es)
+chain-every : (floor : List ℕ) (es : List Edit) → Chain no-floor fits floor es → T (every edit-ok es)
 unfolding Chain every
-chain-every bar [] c = tt
-chain-every bar (e ∷ es) (t, c) = every-cons edit-ok e es t (chain-every [] es c)
+chain-every floor [] c = tt
+chain-every floor (e ∷ es) (t, c) = every-cons edit-ok e es t (chain-every [] es c)
 
-edit-law : Entry (λ bar. edit-entry) edit-numbers fits
-edit-law = record { walk = λ bar p e t. walks-edit p e t; back = λ bar p ns e w. edit-walks p ns e w }
+edit-law : Entry (λ floor. edit-entry) edit-numbers fits
+edit-law = record { walk = λ floor p e t. walks-edit p e t; back = λ floor p ns e w. edit-walks p ns e w }
 
 pub walks-edits : (p : ℕ) (es : List Edit) → T (every edit-ok es) → walks (edits-on (length es)) p (flatMap edit-numbers es) es
 unfolding edits-on
-walks-edits p es t = walks-plain (λ bar. edit-entry) edit-numbers no-bar fits edit-law es [] p (every-chain [] es t)
+walks-edits p es t = walks-plain (λ floor. edit-entry) edit-numbers no-floor fits edit-law es [] p (every-chain [] es t)
 
 pub edits-walk : (k p : ℕ) (ns : List ℕ) (es : List Edit) → walks (edits-on k) p ns es → (ns ≡ flatMap edit-numbers es) × T (every edit-ok es) × (length es ≡ k)
 unfolding edits-on
 edits-walk k p ns es w =
-    let (x, c, l) = plain-walks (λ bar. edit-entry) edit-numbers no-bar fits edit-law k [] p ns es w in
+    let (x, c, l) = plain-walks (λ floor. edit-entry) edit-numbers no-floor fits edit-law k [] p ns es w in
     (x, chain-every [] es c, l)
 
 pub walks-edits-format : (p : ℕ) (es : List Edit) → length es ≤ 1000 → T (every edit-ok es)

@@ -12,9 +12,9 @@ use Rattle.base.proofs.Tests.{both, parts, every-head, every-tail, every-cons, 
 use Rattle.base.proofs.Sorted.{smaller, two-head, two-tail, two-cons}
 use Rattle.numbers.specs.Numbers.{width}
 use Rattle.network.specs.Networks.{station-row-ok, line-row-ok}
-use Rattle.timetable.specs.Formats.{least, bar-after, Placed}
+use Rattle.timetable.specs.Formats.{least, floor-after, Placed}
 use Rattle.timetable.specs.NetworkFile.{station-ranges, station-of, station-numbers, station-entry, line-ranges, line-of, line-numbers, line-fields, line-entry}
-use Rattle.timetable.specs.NetworkFile.{Listed, station-bar, line-bar, stations-format, lines-format, lines-part, count-part, headway-part, stations-part, network-format, only-stations, with-headway, with-lines}
+use Rattle.timetable.specs.NetworkFile.{Listed, station-floor, line-floor, stations-format, lines-format, lines-part, count-part, headway-part, stations-part, network-format, only-stations, with-headway, with-lines}
 use Rattle.roundtrips.specs.Types.{StationRow, LineRow}
 use Rattle.roundtrips.proofs.Walks.{InRange, walks}
 use Rattle.roundtrips.proofs.WalkLaws.{span, walks-then, then-walks, walks-made, made-walks}
@@ -24,22 +24,22 @@ use Rattle.roundtrips.proofs.RowsWalked.{Chain, values, Entry, walks-pl
 -- rows that rise by their first number
 
 module _ {A : Type 0} (number : A → ℕ) (more : A → List ℕ) (ok : A → Bool) where
-  -- in range, and above the bar
+  -- in range, and above the floor
   abbrev pub RowFits : List ℕ → A → Type 0
-  RowFits bar x = T (ok x) × Over bar (number x ∷ more x)
+  RowFits floor x = T (ok x) × Over floor (number x ∷ more x)
 
-  abbrev pub first-bar : A → List ℕ
-  first-bar x = number x ∷ []
+  abbrev pub first-floor : A → List ℕ
+  first-floor x = number x ∷ []
 
   over-one : (b : ℕ) (x : A) → b < number x → Over (b ∷ []) (number x ∷ more x)
-  unfolding Over least bar-after
+  unfolding Over least floor-after
   over-one b x h = (omega arith, over-none (more x))
 
   one-over : (b : ℕ) (x : A) → Over (b ∷ []) (number x ∷ more x) → b < number x
-  unfolding Over least bar-after
+  unfolding Over least floor-after
   one-over b x (h, o) = omega arith
 
-  pub rising-chain : (b : ℕ) (xs : List A) → T (every ok xs) → T (every (λ x. ltb b (number x)) xs) → T (each-two (smaller number) xs) → Chain first-bar RowFits (b ∷ []) xs
+  pub rising-chain : (b : ℕ) (xs : List A) → T (every ok xs) → T (every (λ x. ltb b (number x)) xs) → T (each-two (smaller number) xs) → Chain first-floor RowFits (b ∷ []) xs
   unfolding Chain
   rising-chain b [] t a r = tt
   rising-chain b (x ∷ xs) t a r = (
@@ -52,7 +52,7 @@ module _ {A : Type 0} (number : A → ℕ) (more : A → List ℕ) (ok : A → B
     pub above : T (every (λ x. ltb b (number x)) xs)
     pub order : T (each-two (smaller number) xs)
 
-  pub chain-rising : (b : ℕ) (xs : List A) → Chain first-bar RowFits (b ∷ []) xs → Rises b xs
+  pub chain-rising : (b : ℕ) (xs : List A) → Chain first-floor RowFits (b ∷ []) xs → Rises b xs
   unfolding Chain every each-two
   chain-rising b [] c = record { good = tt; above = tt; order = tt }
   chain-rising b (x ∷ xs) ((t, o), c) =
@@ -148,31 +148,31 @@ LinesRise ls = Rises line-number line-more line-row-ok 0 ls
 pub station-law : Entry station-entry station-numbers StationFits
 unfolding station-entry station-numbers
 station-law = record {
-  walk = λ bar p x f. walks-fields station-fields (λ x. x) bar p x (f .0) (f .1);
-  back = λ bar p ns x w.
-      let (a, e, t, o, q) = fields-walk station-fields (λ x. x) bar p ns x w in
+  walk = λ floor p x f. walks-fields station-fields (λ x. x) floor p x (f .0) (f .1);
+  back = λ floor p ns x w.
+      let (a, e, t, o, q) = fields-walk station-fields (λ x. x) floor p ns x w in
       rw (← q) (e, (t, o));
 }
 
 pub line-law : Entry line-fields line-numbers LineFits
 unfolding line-fields line-numbers
 line-law = record {
-  walk = λ bar p x f. walks-fields line-row-fields (λ x. x) bar p x (f .0) (f .1);
-  back = λ bar p ns x w.
-      let (a, e, t, o, q) = fields-walk line-row-fields (λ x. x) bar p ns x w in
+  walk = λ floor p x f. walks-fields line-row-fields (λ x. x) floor p x (f .0) (f .1);
+  back = λ floor p ns x w.
+      let (a, e, t, o, q) = fields-walk line-row-fields (λ x. x) floor p ns x w in
       rw (← q) (e, (t, o));
 }
 
 pub walks-stations : (p : ℕ) (ss : List StationRow) → StationsRise ss → walks (stations-format (length ss)) p (flatMap station-numbers ss) ss
-unfolding stations-format station-bar
+unfolding stations-format station-floor
 walks-stations p ss r =
-    walks-plain station-entry station-numbers station-bar StationFits station-law ss (0 ∷ []) p
+    walks-plain station-entry station-numbers station-floor StationFits station-law ss (0 ∷ []) p
     (rising-chain station-number station-more station-row-ok 0 ss (r .good) (r .above) (r .order))
 
 pub stations-walk : (k p : ℕ) (ns : List ℕ) (ss : List StationRow) → walks (stations-format k) p ns ss → (ns ≡ flatMap station-numbers ss) × StationsRise ss × (length ss ≡ k)
-unfolding stations-format station-bar
+unfolding stations-format station-floor
 stations-walk k p ns ss w =
-    let (x, c, l) = plain-walks station-entry station-numbers station-bar StationFits station-law k (0 ∷ []) p ns ss w in
+    let (x, c, l) = plain-walks station-entry station-numbers station-floor StationFits station-law k (0 ∷ []) p ns ss w in
     (x, chain-rising station-number station-more station-row-ok 0 ss c, l)
 
 -- lines with their places
@@ -183,16 +183,16 @@ abbrev pub rows-of : List (Placed LineRow) → List LineRow
 rows-of ls = map (λ (l : Placed LineRow). l .entry) ls
 
 pub walks-lines : (p : ℕ) (ls : List LineRow) → LinesRise ls → walks (lines-format (length ls)) p (flatMap line-numbers ls) (line-places p ls)
-unfolding lines-format line-bar line-entry
+unfolding lines-format line-floor line-entry
 walks-lines p ls r =
-    walks-places line-fields line-numbers (first-bar line-number line-more line-row-ok) LineFits line-law ls (0 ∷ []) p
+    walks-places line-fields line-numbers (first-floor line-number line-more line-row-ok) LineFits line-law ls (0 ∷ []) p
     (rising-chain line-number line-more line-row-ok 0 ls (r .good) (r .above) (r .order))
 
 pub lines-walk : (k p : ℕ) (ns : List ℕ) (ls : List (Placed LineRow)) → walks (lines-format k) p ns ls
     → (ns ≡ flatMap line-numbers (rows-of ls)) × LinesRise (rows-of ls) × (length ls ≡ k)
-unfolding lines-format line-bar line-entry
+unfolding lines-format line-floor line-entry
 lines-walk k p ns ls w =
-    let (x, c, l) = places-walk line-fields line-numbers (first-bar line-number line-more line-row-ok) LineFits line-law k (0 ∷ []) p ns ls w in
+    let (x, c, l) = places-walk line-fields line-numbers (first-floor line-number line-more line-row-ok) LineFits line-law k (0 ∷ []) p ns ls w in
     (x, chain-rising line-number line-more line-row-ok 0 (rows-of ls) c, l)
 
 -- the whole format

@@ -1,4 +1,4 @@
--- Entries rise if each is above the bar that the one before it sets. Above a bar is below the other way round, number
+-- Entries rise if each is above the floor that the one before it sets. Above a floor is below the other way round, number
 -- by number; a relation's numbers are its key without the places not used, and as the count stands before the trains,
 -- both order alike. Assumes nothing.
 use Prim.Native.Nat.{ℕ, _≤_}
@@ -15,7 +15,7 @@ use Rattle.base.proofs.Tests.{T-false, parts, every-head, every-tail, every-con
 use Rattle.base.proofs.Sorted.{two-head, two-tail, two-step, below-smaller, below-equal, below-cases, below-itself, below-trans}
 use Rattle.railway.specs.Relations.{relation-ok, key}
 use Rattle.railway.specs.Edits.{station-relation-ok}
-use Rattle.timetable.specs.Formats.{least, bar-after}
+use Rattle.timetable.specs.Formats.{least, floor-after}
 use Rattle.timetable.specs.EditsFile.{station-relation-numbers}
 use Rattle.timetable.specs.TimetableFile.{StationVisit}
 use Rattle.roundtrips.specs.Types.{StationRelation}
@@ -23,34 +23,34 @@ use Rattle.roundtrips.proofs.RowsWalked.{Over, over-none, Chain}
 use Rattle.roundtrips.proofs.RelationWalks.{relation-numbered, unused, StationRelationFits}
 use Rattle.roundtrips.proofs.VisitWalks.{visit-row, visit-ok, VisitFits}
 
--- one number of the bar, and then the next
+-- one number of the floor, and then the next
 module _ (b c : ℕ) (bs : List ℕ) (n : ℕ) (ns : List ℕ) (xs ys : List ℕ) where
   step-to : (b ≡ n → T (below xs ys) → Over (c ∷ bs) ns) → T (below (b ∷ xs) (n ∷ ys)) → Over (b ∷ c ∷ bs) (n ∷ ns)
-  unfolding Over least bar-after
+  unfolding Over least floor-after
   step-to f t =
       below-cases b n xs ys t
       (λ h. (omega arith, rw (ne-eqb n b (λ e. omega arith)) (over-none ns)))
       (λ e u. (omega arith, rw (eq-eqb n b (sym e)) (f e u)))
 
   step-from : (b ≡ n → Over (c ∷ bs) ns → T (below xs ys)) → Over (b ∷ c ∷ bs) (n ∷ ns) → T (below (b ∷ xs) (n ∷ ys))
-  unfolding Over least bar-after
+  unfolding Over least floor-after
   step-from f (h, o) = go (eqb n b) refl o
     where
       go : (t : Bool) → eqb n b ≡ t → Over (if t then c ∷ bs else []) ns → T (below (b ∷ xs) (n ∷ ys))
       go true e o = let q : b ≡ n = sym (eqb-true n b e) in below-equal b n xs ys q (f q o)
       go false e o = below-smaller b n xs ys (omega (arith, eqb-false n b e))
 
--- the last number of the bar
+-- the last number of the floor
 last-to : (b n : ℕ) (ns : List ℕ) → T (below (b ∷ []) (n ∷ [])) → Over (b ∷ []) (n ∷ ns)
-unfolding Over least bar-after below
+unfolding Over least floor-after below
 last-to b n ns t = below-cases b n [] [] t (λ h. (omega arith, over-none ns)) (λ e u. absurd u)
 
 last-from : (b n : ℕ) (ns : List ℕ) → Over (b ∷ []) (n ∷ ns) → T (below (b ∷ []) (n ∷ []))
-unfolding Over least bar-after
+unfolding Over least floor-after
 last-from b n ns (h, o) = below-smaller b n [] [] (omega arith)
 
--- a bar as long as the numbers that are compared with it, others behind them
-pub below-over : (bar ns more : List ℕ) → length bar ≡ length ns → T (below bar ns) → Over bar (ns ++ more)
+-- a floor as long as the numbers that are compared with it, others behind them
+pub below-over : (floor ns more : List ℕ) → length floor ≡ length ns → T (below floor ns) → Over floor (ns ++ more)
 unfolding below
 below-over [] [] more l t = absurd t
 below-over [] (n ∷ ns) more l t = absurd (omega arith)
@@ -78,35 +78,35 @@ module _ {A : Type 0} (key : A → List ℕ) where
   pub before-across : (x y z : A) → T (before x y) → T (before y z) → T (before x z)
   before-across x y z t u = below-trans (key x) (key y) (key z) t u
 
-  -- what follows an entry in range is above its bar just if its key is above
-  pub record Keyed (ok : A → Bool) (bar-by : A → List ℕ) (Fits : List ℕ → A → Type 0) : Type 0 where
-    pub good : (bar : List ℕ) (x : A) → Fits bar x → T (ok x)
+  -- what follows an entry in range is above its floor just if its key is above
+  pub record Keyed (ok : A → Bool) (floor-by : A → List ℕ) (Fits : List ℕ → A → Type 0) : Type 0 where
+    pub good : (floor : List ℕ) (x : A) → Fits floor x → T (ok x)
     pub starts : (x : A) → T (ok x) → Fits [] x
-    pub follows : (x y : A) → T (ok x) → T (ok y) → T (before x y) → Fits (bar-by x) y
-    pub above : (x y : A) → T (ok x) → Fits (bar-by x) y → T (before x y)
+    pub follows : (x y : A) → T (ok x) → T (ok y) → T (before x y) → Fits (floor-by x) y
+    pub above : (x y : A) → T (ok x) → Fits (floor-by x) y → T (before x y)
 
-  module _ (ok : A → Bool) (bar-by : A → List ℕ) (Fits : List ℕ → A → Type 0) (law : Keyed ok bar-by Fits) where
-    chain-behind : (x : A) (xs : List A) → T (ok x) → T (every ok xs) → T (each-two before (x ∷ xs)) → Chain bar-by Fits (bar-by x) xs
+  module _ (ok : A → Bool) (floor-by : A → List ℕ) (Fits : List ℕ → A → Type 0) (law : Keyed ok floor-by Fits) where
+    chain-behind : (x : A) (xs : List A) → T (ok x) → T (every ok xs) → T (each-two before (x ∷ xs)) → Chain floor-by Fits (floor-by x) xs
     unfolding Chain
     chain-behind x [] t u r = tt
     chain-behind x (y ∷ xs) t u r =
         let v = every-head ok y xs u in
         (law .follows x y t v (every-head (before x) y xs (two-head before x (y ∷ xs) r)), chain-behind y xs v (every-tail ok y xs u) (two-tail before x (y ∷ xs) r))
 
-    pub ordered-chain : (xs : List A) → T (every ok xs) → T (each-two before xs) → Chain bar-by Fits [] xs
+    pub ordered-chain : (xs : List A) → T (every ok xs) → T (each-two before xs) → Chain floor-by Fits [] xs
     unfolding Chain
     ordered-chain [] u r = tt
     ordered-chain (x ∷ xs) u r = (law .starts x (every-head ok x xs u), chain-behind x xs (every-head ok x xs u) (every-tail ok x xs u) r)
 
-    behind-ordered : (x : A) (xs : List A) → T (ok x) → Chain bar-by Fits (bar-by x) xs → T (every ok xs) × T (each-two before (x ∷ xs))
+    behind-ordered : (x : A) (xs : List A) → T (ok x) → Chain floor-by Fits (floor-by x) xs → T (every ok xs) × T (each-two before (x ∷ xs))
     unfolding Chain every each-two
     behind-ordered x [] t c = (tt, tt)
     behind-ordered x (y ∷ xs) t (f, c) =
-        let v = law .good (bar-by x) y f in
+        let v = law .good (floor-by x) y f in
         let (u, r) = behind-ordered y xs v c in
         (every-cons ok y xs v u, two-step before before-across x y xs (law .above x y t f) r)
 
-    pub chain-ordered : (xs : List A) → Chain bar-by Fits [] xs → T (every ok xs) × T (each-two before xs)
+    pub chain-ordered : (xs : List A) → Chain floor-by Fits [] xs → T (every ok xs) × T (each-two before xs)
     unfolding Chain every each-two
     chain-ordered [] c = (tt, tt)
     chain-ordered (x ∷ xs) (f, c) =
@@ -122,7 +122,7 @@ visit-key e = e .station .0 ∷ e .train .0 ∷ []
 
 visit-keyed : Keyed visit-key visit-ok visit-key VisitFits
 visit-keyed = record {
-  good = λ bar x f. f .0;
+  good = λ floor x f. f .0;
   starts = λ x t. (t, over-none (visit-row x));
   follows = λ x y t u r. (u, below-over (visit-key x) (visit-key y) _ refl r);
   above = λ x y t f. over-below _ _ (visit-key y) _ refl (f .1);
@@ -215,7 +215,7 @@ relation-part x t = search parts
 
 relation-keyed : Keyed relation-key station-relation-ok station-relation-numbers StationRelationFits
 relation-keyed = record {
-  good = λ bar x f. f .good;
+  good = λ floor x f. f .good;
   starts = λ x t. record { good = t; above = over-none (station-relation-numbers x) };
   follows = λ x y t u r. record { good = u; above = relations-to x y (relation-part x t) (relation-part y u) r };
   above = λ x y t f. relations-from x y (relation-part x t) (relation-part y (f .good)) (f .above);

@@ -1,5 +1,5 @@
 -- A relation's entry, walked: its numbers are those that the relation is written with, it is in range, and it is above
--- the bar; and such a relation walks it. The trains as numbers by induction; the four places of a group by how many are
+-- the floor; and such a relation walks it. The trains as numbers by induction; the four places of a group by how many are
 -- in use. Assumes nothing.
 use Prim.Native.Nat.{ℕ, zero, suc, _+_, _-_, _≤_}
 use mathlib.Core.Path.{_≡_, refl, sym, _∙_, ap, ap₂, subst}
@@ -17,7 +17,7 @@ use Rattle.railway.specs.Ranges.{interval-ok}
 use Rattle.railway.specs.Relations.{used, trains-ok, pair-ok, relation-ok, group-key, key}
 use Rattle.railway.specs.Edits.{station-relation-ok}
 use Rattle.timetable.specs.Tables.{packed}
-use Rattle.timetable.specs.Formats.{least, bar-after, compared}
+use Rattle.timetable.specs.Formats.{least, floor-after, compared}
 use Rattle.timetable.specs.EditsFile.{trains-format, pair-of, group-of, relation-of, most-trains, trains-part, train-count-part, interval-part, relation-entry, group-numbers, relation-numbers}
 use Rattle.timetable.specs.EditsFile.{station-relation-entry, station-relation-numbers}
 use Rattle.timetable.proofs.TableLaws.{Further, Places, places, places-fit, used-two, used-three, used-four}
@@ -31,25 +31,25 @@ unfoldable pub TrainsIn : Bool → ℕ → List ℕ → Type 0
 TrainsIn rise before [] = Unit
 TrainsIn rise before (t ∷ ts) = InRange (if rise then before + 1 else 1) 9999 t × TrainsIn rise t ts
 
-pub walks-trains : (rise : Bool) (before : ℕ) (bar : List ℕ) (p : ℕ) (ts : List ℕ) → TrainsIn rise before ts → Over bar ts
-    → walks (trains-format rise (length ts) before bar) p ts ts
+pub walks-trains : (rise : Bool) (before : ℕ) (floor : List ℕ) (p : ℕ) (ts : List ℕ) → TrainsIn rise before ts → Over floor ts
+    → walks (trains-format rise (length ts) before floor) p ts ts
 unfolding walks trains-format compared TrainsIn Over
-walks-trains rise before bar p [] i o = refl
-walks-trains rise before bar p (t ∷ ts) (x, i) (h, o) = (
-  raise (if rise then before + 1 else 1) 9999 bar t x h,
-  walks-made (λ ts. t ∷ ts) (trains-format rise (length ts) t (bar-after t bar)) (p + width t) ts ts (walks-trains rise t (bar-after t bar) (p + width t) ts i o),
+walks-trains rise before floor p [] i o = refl
+walks-trains rise before floor p (t ∷ ts) (x, i) (h, o) = (
+  raise (if rise then before + 1 else 1) 9999 floor t x h,
+  walks-made (λ ts. t ∷ ts) (trains-format rise (length ts) t (floor-after t floor)) (p + width t) ts ts (walks-trains rise t (floor-after t floor) (p + width t) ts i o),
 )
 
-pub trains-walk : (rise : Bool) (k before : ℕ) (bar : List ℕ) (p : ℕ) (ns ts : List ℕ) → walks (trains-format rise k before bar) p ns ts
-    → (ns ≡ ts) × (length ts ≡ k) × TrainsIn rise before ts × Over bar ts
+pub trains-walk : (rise : Bool) (k before : ℕ) (floor : List ℕ) (p : ℕ) (ns ts : List ℕ) → walks (trains-format rise k before floor) p ns ts
+    → (ns ≡ ts) × (length ts ≡ k) × TrainsIn rise before ts × Over floor ts
 unfolding walks trains-format compared TrainsIn Over
-trains-walk rise zero before bar p [] ts w = rw (sym w) (refl, refl, tt, tt)
-trains-walk rise zero before bar p (n ∷ ns) ts w = absurd w
-trains-walk rise (suc k) before bar p [] ts w = absurd w
-trains-walk rise (suc k) before bar p (n ∷ ns) ts (x, w) =
-    let (us, v, e) = made-walks (λ ts. n ∷ ts) (trains-format rise k n (bar-after n bar)) (p + width n) ns ts w in
-    let (q, l, i, o) = trains-walk rise k n (bar-after n bar) (p + width n) ns us v in
-    let (y, h) = raised (if rise then before + 1 else 1) 9999 bar n x in
+trains-walk rise zero before floor p [] ts w = rw (sym w) (refl, refl, tt, tt)
+trains-walk rise zero before floor p (n ∷ ns) ts w = absurd w
+trains-walk rise (suc k) before floor p [] ts w = absurd w
+trains-walk rise (suc k) before floor p (n ∷ ns) ts (x, w) =
+    let (us, v, e) = made-walks (λ ts. n ∷ ts) (trains-format rise k n (floor-after n floor)) (p + width n) ns ts w in
+    let (q, l, i, o) = trains-walk rise k n (floor-after n floor) (p + width n) ns us v in
+    let (y, h) = raised (if rise then before + 1 else 1) 9999 floor n x in
     rw (sym e) (ap (λ (l : List ℕ). n ∷ l) q, ap suc l, (y, i), (h, o))
 
 -- groups
@@ -155,11 +155,11 @@ pub record RelationIn (kind i : ℕ) (ts : List ℕ) : Type 0 where
 abbrev listed : ℕ → ℕ → List ℕ → List ℕ
 listed kind i ts = kind ∷ i ∷ length ts ∷ ts
 
-pub walks-numbers : (bar : List ℕ) (p kind i : ℕ) (ts : List ℕ) → RelationIn kind i ts → Over bar (listed kind i ts)
-    → walks (relation-entry bar) p (listed kind i ts) (relation-of kind i ts)
+pub walks-numbers : (floor : List ℕ) (p kind i : ℕ) (ts : List ℕ) → RelationIn kind i ts → Over floor (listed kind i ts)
+    → walks (relation-entry floor) p (listed kind i ts) (relation-of kind i ts)
 unfolding walks relation-entry interval-part train-count-part trains-part compared Over
-walks-numbers bar p kind i ts r (a, (b, (c, o))) = (
-  raise 1 3 bar kind (r .kinds) a,
+walks-numbers floor p kind i ts r (a, (b, (c, o))) = (
+  raise 1 3 floor kind (r .kinds) a,
   (
     raise 0 240 _ i (r .interval) b,
     (
@@ -169,16 +169,16 @@ walks-numbers bar p kind i ts r (a, (b, (c, o))) = (
   ),
 )
 
-pub numbers-walk : (bar : List ℕ) (p : ℕ) (ns : List ℕ) (r : Relation) → walks (relation-entry bar) p ns r
-    → (kind : ℕ) × (i : ℕ) × (ts : List ℕ) × (ns ≡ listed kind i ts) × RelationIn kind i ts × Over bar ns × (relation-of kind i ts ≡ r)
+pub numbers-walk : (floor : List ℕ) (p : ℕ) (ns : List ℕ) (r : Relation) → walks (relation-entry floor) p ns r
+    → (kind : ℕ) × (i : ℕ) × (ts : List ℕ) × (ns ≡ listed kind i ts) × RelationIn kind i ts × Over floor ns × (relation-of kind i ts ≡ r)
 unfolding walks relation-entry interval-part train-count-part trains-part compared Over
-numbers-walk bar p [] r w = absurd w
-numbers-walk bar p (kind ∷ []) r w = absurd (w .1)
-numbers-walk bar p (kind ∷ i ∷ []) r w = absurd (w .1 .1)
-numbers-walk bar p (kind ∷ i ∷ k ∷ ns) r (x, (y, (z, w))) =
+numbers-walk floor p [] r w = absurd w
+numbers-walk floor p (kind ∷ []) r w = absurd (w .1)
+numbers-walk floor p (kind ∷ i ∷ []) r w = absurd (w .1 .1)
+numbers-walk floor p (kind ∷ i ∷ k ∷ ns) r (x, (y, (z, w))) =
     let (ts, v, e) = made-walks (relation-of kind i) (trains-format (not (eqb kind 3)) k 0 _) _ ns r w in
     let (q, l, t, o) = trains-walk (not (eqb kind 3)) k 0 _ _ ns ts v in
-    let (a, f) = raised 1 3 bar kind x in
+    let (a, f) = raised 1 3 floor kind x in
     let (b, g) = raised 0 240 _ i y in
     let (c, h) = raised 2 (most-trains kind) _ k z in
     (kind, i, ts, ap₂ (λ (k : ℕ) (l : List ℕ). kind ∷ i ∷ k ∷ l) (sym l) q, record { kinds = a; interval = b; many = rw l c; trains = t }, (f, (g, (h, rw q o))), e)
@@ -280,45 +280,45 @@ relation-numbered (Dependency i q) t = record {
 
 -- the entry
 
--- in range, and above the bar
-pub record RelationFits (bar : List ℕ) (r : Relation) : Type 0 where
+-- in range, and above the floor
+pub record RelationFits (floor : List ℕ) (r : Relation) : Type 0 where
   pub good : T (relation-ok r)
-  pub above : Over bar (relation-numbers r)
+  pub above : Over floor (relation-numbers r)
 
-pub walks-relation : (bar : List ℕ) (p : ℕ) (r : Relation) → RelationFits bar r → walks (relation-entry bar) p (relation-numbers r) r
-walks-relation bar p r f =
+pub walks-relation : (floor : List ℕ) (p : ℕ) (r : Relation) → RelationFits floor r → walks (relation-entry floor) p (relation-numbers r) r
+walks-relation floor p r f =
     let m = relation-numbered r (f .good) in
-    rw (m .written) (rw (m .value) at (walks-numbers bar p (m .kind) (m .interval) (m .trains) (m .within) (rw (m .written) at (f .above))))
+    rw (m .written) (rw (m .value) at (walks-numbers floor p (m .kind) (m .interval) (m .trains) (m .within) (rw (m .written) at (f .above))))
 
-pub relation-walks : (bar : List ℕ) (p : ℕ) (ns : List ℕ) (r : Relation) → walks (relation-entry bar) p ns r → (ns ≡ relation-numbers r) × RelationFits bar r
-relation-walks bar p ns r w =
-    let (kind, i, ts, e, x, o, v) = numbers-walk bar p ns r w in
+pub relation-walks : (floor : List ℕ) (p : ℕ) (ns : List ℕ) (r : Relation) → walks (relation-entry floor) p ns r → (ns ≡ relation-numbers r) × RelationFits floor r
+relation-walks floor p ns r w =
+    let (kind, i, ts, e, x, o, v) = numbers-walk floor p ns r w in
     let (q, t) = relation-made kind i ts x in
     let z : ns ≡ relation-numbers r = e ∙ sym q ∙ ap relation-numbers v in
-    (z, record { good = subst (λ (r : Relation). T (relation-ok r)) v t; above = subst (Over bar) z o })
+    (z, record { good = subst (λ (r : Relation). T (relation-ok r)) v t; above = subst (Over floor) z o })
 
 -- a relation with its station before it
-pub record StationRelationFits (bar : List ℕ) (r : StationRelation) : Type 0 where
+pub record StationRelationFits (floor : List ℕ) (r : StationRelation) : Type 0 where
   pub good : T (station-relation-ok r)
-  pub above : Over bar (station-relation-numbers r)
+  pub above : Over floor (station-relation-numbers r)
 
-pub walks-station-relation : (bar : List ℕ) (p : ℕ) (r : StationRelation) → StationRelationFits bar r
-    → walks (station-relation-entry bar) p (station-relation-numbers r) r
+pub walks-station-relation : (floor : List ℕ) (p : ℕ) (r : StationRelation) → StationRelationFits floor r
+    → walks (station-relation-entry floor) p (station-relation-numbers r) r
 unfolding walks station-relation-entry station-relation-numbers station-relation-ok compared Over
-walks-station-relation bar p r f =
+walks-station-relation floor p r f =
     let (h, o) = f .above in (
-      raise 1 16 bar (r .station .0) (test-in 1 16 (r .station .0) (omega arith) (search parts)) h,
-      walks-made (λ q. record { station = record { 0 = r .station .0 }; relation = q }) (relation-entry (bar-after (r .station .0) bar)) _
+      raise 1 16 floor (r .station .0) (test-in 1 16 (r .station .0) (omega arith) (search parts)) h,
+      walks-made (λ q. record { station = record { 0 = r .station .0 }; relation = q }) (relation-entry (floor-after (r .station .0) floor)) _
           (relation-numbers (r .relation)) (r .relation)
           (walks-relation _ _ (r .relation) (record { good = search parts; above = o })),
     )
 
-pub station-relation-walks : (bar : List ℕ) (p : ℕ) (ns : List ℕ) (r : StationRelation) → walks (station-relation-entry bar) p ns r
-    → (ns ≡ station-relation-numbers r) × StationRelationFits bar r
+pub station-relation-walks : (floor : List ℕ) (p : ℕ) (ns : List ℕ) (r : StationRelation) → walks (station-relation-entry floor) p ns r
+    → (ns ≡ station-relation-numbers r) × StationRelationFits floor r
 unfolding walks station-relation-entry station-relation-numbers station-relation-ok compared Over
-station-relation-walks bar p [] r w = absurd w
-station-relation-walks bar p (s ∷ ns) r (x, w) =
-    let (q, v, e) = made-walks (λ q. record { station = record { 0 = s }; relation = q }) (relation-entry (bar-after s bar)) _ ns r w in
-    let (y, h) = raised 1 16 bar s x in
-    let (z, f) = relation-walks (bar-after s bar) _ ns q v in
+station-relation-walks floor p [] r w = absurd w
+station-relation-walks floor p (s ∷ ns) r (x, w) =
+    let (q, v, e) = made-walks (λ q. record { station = record { 0 = s }; relation = q }) (relation-entry (floor-after s floor)) _ ns r w in
+    let (y, h) = raised 1 16 floor s x in
+    let (z, f) = relation-walks (floor-after s floor) _ ns q v in
     rw (← e) (ap (λ (l : List ℕ). s ∷ l) z, record { good = both (within 1 16 s) (relation-ok q) (in-test 1 16 s y) (f .good); above = (h, f .above) })

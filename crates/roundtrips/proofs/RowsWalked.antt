@@ -1,5 +1,5 @@
 -- Rows of numbers and lists of entries, walked: a row gives its own numbers back, each in its range and all above the
--- bar; entries are those of each entry in turn, each behind the bar that the one before sets. By induction on the
+-- floor; entries are those of each entry in turn, each behind the floor that the one before sets. By induction on the
 -- ranges, and on the entries. Assumes nothing.
 use Prim.Native.Nat.{ℕ, zero, suc, _+_, _≤_, _<_, max}
 use mathlib.Core.Path.{_≡_, refl, sym, _∙_, ap, ap₂, subst}
@@ -12,7 +12,7 @@ use lib.Seq.{drop-drop, getD-drop}
 use Rattle.base.specs.Lists.{within}
 use Rattle.base.proofs.Tests.{and-l, and-r, both}
 use Rattle.numbers.specs.Numbers.{width}
-use Rattle.timetable.specs.Formats.{Format, done, _and-then_, Range, _to_, least, bar-after, compared, row, entries, Placed, placed}
+use Rattle.timetable.specs.Formats.{Format, done, _and-then_, Range, _to_, least, floor-after, compared, row, entries, Placed, placed}
 use Rattle.roundtrips.proofs.Walks.{InRange, walks}
 use Rattle.roundtrips.proofs.WalkLaws.{span, walks-then, then-walks, walks-made, made-walks}
 
@@ -33,31 +33,31 @@ most-test hi n r = le→leb n hi (r .high)
 pub test-most : (hi n : ℕ) → hi < 2097152 → T (leb n hi) → InRange 0 hi n
 test-most hi n h t = let u : n ≤ hi = leb→le n hi t in record { low = omega arith; high = u; short = omega arith }
 
--- bars
+-- floors
 
--- the numbers are above the bar: none falls below its namesake while the earlier ones are equal, and they are not all
+-- the numbers are above the floor: none falls below its namesake while the earlier ones are equal, and they are not all
 -- equal
 unfoldable pub Over : List ℕ → List ℕ → Type 0
-Over bar [] = Unit
-Over bar (n ∷ ns) = (least 0 bar ≤ n) × Over (bar-after n bar) ns
+Over floor [] = Unit
+Over floor (n ∷ ns) = (least 0 floor ≤ n) × Over (floor-after n floor) ns
 
 pub over-none : (ns : List ℕ) → Over [] ns
-unfolding Over least bar-after
+unfolding Over least floor-after
 over-none [] = tt
 over-none (n ∷ ns) = (omega arith, over-none ns)
 
-least-max : (lo : ℕ) (bar : List ℕ) → least lo bar ≡ max lo (least 0 bar)
+least-max : (lo : ℕ) (floor : List ℕ) → least lo floor ≡ max lo (least 0 floor)
 unfolding least
 least-max lo [] = omega arith
 least-max lo (b ∷ []) = omega arith
 least-max lo (b ∷ c ∷ bs) = omega arith
 
-module _ (lo hi : ℕ) (bar : List ℕ) (n : ℕ) where
-  pub raised : InRange (least lo bar) hi n → InRange lo hi n × (least 0 bar ≤ n)
-  raised r = (record { low = omega (arith, r .low, least-max lo bar); high = r .high; short = r .short }, omega (arith, r .low, least-max lo bar))
+module _ (lo hi : ℕ) (floor : List ℕ) (n : ℕ) where
+  pub raised : InRange (least lo floor) hi n → InRange lo hi n × (least 0 floor ≤ n)
+  raised r = (record { low = omega (arith, r .low, least-max lo floor); high = r .high; short = r .short }, omega (arith, r .low, least-max lo floor))
 
-  pub raise : InRange lo hi n → least 0 bar ≤ n → InRange (least lo bar) hi n
-  raise r h = record { low = omega (arith, r .low, least-max lo bar); high = r .high; short = r .short }
+  pub raise : InRange lo hi n → least 0 floor ≤ n → InRange (least lo floor) hi n
+  raise r h = record { low = omega (arith, r .low, least-max lo floor); high = r .high; short = r .short }
 
 -- rows
 
@@ -68,25 +68,25 @@ RowIn [] (n ∷ ns) = ⊥
 RowIn (r ∷ rs) [] = ⊥
 RowIn (r ∷ rs) (n ∷ ns) = InRange (r .lo) (r .hi) n × RowIn rs ns
 
-pub walks-row : (rs : List Range) (bar : List ℕ) (p : ℕ) (ns : List ℕ) → RowIn rs ns → Over bar ns → walks (row rs bar) p ns ns
+pub walks-row : (rs : List Range) (floor : List ℕ) (p : ℕ) (ns : List ℕ) → RowIn rs ns → Over floor ns → walks (row rs floor) p ns ns
 unfolding walks row compared RowIn Over
-walks-row [] bar p [] i o = refl
-walks-row [] bar p (n ∷ ns) i o = absurd i
-walks-row (r ∷ rs) bar p [] i o = absurd i
-walks-row (r ∷ rs) bar p (n ∷ ns) (x, i) (h, o) = (
-  raise (r .lo) (r .hi) bar n x h,
-  walks-made (λ ns. n ∷ ns) (row rs (bar-after n bar)) (p + width n) ns ns (walks-row rs (bar-after n bar) (p + width n) ns i o),
+walks-row [] floor p [] i o = refl
+walks-row [] floor p (n ∷ ns) i o = absurd i
+walks-row (r ∷ rs) floor p [] i o = absurd i
+walks-row (r ∷ rs) floor p (n ∷ ns) (x, i) (h, o) = (
+  raise (r .lo) (r .hi) floor n x h,
+  walks-made (λ ns. n ∷ ns) (row rs (floor-after n floor)) (p + width n) ns ns (walks-row rs (floor-after n floor) (p + width n) ns i o),
 )
 
-pub row-walks : (rs : List Range) (bar : List ℕ) (p : ℕ) (ns ms : List ℕ) → walks (row rs bar) p ns ms → (ns ≡ ms) × RowIn rs ms × Over bar ms
+pub row-walks : (rs : List Range) (floor : List ℕ) (p : ℕ) (ns ms : List ℕ) → walks (row rs floor) p ns ms → (ns ≡ ms) × RowIn rs ms × Over floor ms
 unfolding walks row compared RowIn Over
-row-walks [] bar p [] ms w = (w, rw (sym w) tt, rw (sym w) tt)
-row-walks [] bar p (n ∷ ns) ms w = absurd w
-row-walks (r ∷ rs) bar p [] ms w = absurd w
-row-walks (r ∷ rs) bar p (n ∷ ns) ms (x, w) =
-    let (ks, v, e) = made-walks (λ ns. n ∷ ns) (row rs (bar-after n bar)) (p + width n) ns ms w in
-    let (q, i, o) = row-walks rs (bar-after n bar) (p + width n) ns ks v in
-    let (y, h) = raised (r .lo) (r .hi) bar n x in
+row-walks [] floor p [] ms w = (w, rw (sym w) tt, rw (sym w) tt)
+row-walks [] floor p (n ∷ ns) ms w = absurd w
+row-walks (r ∷ rs) floor p [] ms w = absurd w
+row-walks (r ∷ rs) floor p (n ∷ ns) ms (x, w) =
+    let (ks, v, e) = made-walks (λ ns. n ∷ ns) (row rs (floor-after n floor)) (p + width n) ns ms w in
+    let (q, i, o) = row-walks rs (floor-after n floor) (p + width n) ns ks v in
+    let (y, h) = raised (r .lo) (r .hi) floor n x in
     (ap (λ (l : List ℕ). n ∷ l) q ∙ e, rw (sym e) (y, i), rw (sym e) (h, o))
 
 -- the numbers of a list by their index, from one on
@@ -128,28 +128,28 @@ pub record Fields {A : Type 0} (ranges : List Range) (make : List ℕ → A) (nu
   pub within : (a : A) → T (ok a) → RowIn ranges (numbers a)
 
 module _ {A B : Type 0} {ranges : List Range} {make : List ℕ → A} {numbers : A → List ℕ} {ok : A → Bool} (f : Fields ranges make numbers ok) (g : A → B) where
-  pub walks-fields : (bar : List ℕ) (p : ℕ) (a : A) → T (ok a) → Over bar (numbers a) → walks (row ranges bar and-then (λ ns. done (g (make ns)))) p (numbers a) (g a)
-  walks-fields bar p a t o =
+  pub walks-fields : (floor : List ℕ) (p : ℕ) (a : A) → T (ok a) → Over floor (numbers a) → walks (row ranges floor and-then (λ ns. done (g (make ns)))) p (numbers a) (g a)
+  walks-fields floor p a t o =
       rw (ap g (f .back a)) at
-      (walks-made (λ ns. g (make ns)) (row ranges bar) p (numbers a) (numbers a) (walks-row ranges bar p (numbers a) (f .within a t) o))
+      (walks-made (λ ns. g (make ns)) (row ranges floor) p (numbers a) (numbers a) (walks-row ranges floor p (numbers a) (f .within a t) o))
 
-  pub fields-walk : (bar : List ℕ) (p : ℕ) (ns : List ℕ) (b : B) → walks (row ranges bar and-then (λ ns. done (g (make ns)))) p ns b
-      → (a : A) × (ns ≡ numbers a) × T (ok a) × Over bar (numbers a) × (g a ≡ b)
-  fields-walk bar p ns b w =
-      let (ms, v, q) = made-walks (λ ns. g (make ns)) (row ranges bar) p ns b w in
-      let (x, i, o) = row-walks ranges bar p ns ms v in
-      (make ms, x ∙ f .written ms i, f .good ms i, subst (Over bar) (f .written ms i) o, q)
+  pub fields-walk : (floor : List ℕ) (p : ℕ) (ns : List ℕ) (b : B) → walks (row ranges floor and-then (λ ns. done (g (make ns)))) p ns b
+      → (a : A) × (ns ≡ numbers a) × T (ok a) × Over floor (numbers a) × (g a ≡ b)
+  fields-walk floor p ns b w =
+      let (ms, v, q) = made-walks (λ ns. g (make ns)) (row ranges floor) p ns b w in
+      let (x, i, o) = row-walks ranges floor p ns ms v in
+      (make ms, x ∙ f .written ms i, f .good ms i, subst (Over floor) (f .written ms i) o, q)
 
 -- entries
 
--- each fits behind the bar that the one before it sets
-module _ {A : Type 0} (bar-by : A → List ℕ) (Fits : List ℕ → A → Type 0) where
+-- each fits behind the floor that the one before it sets
+module _ {A : Type 0} (floor-by : A → List ℕ) (Fits : List ℕ → A → Type 0) where
   unfoldable pub Chain : List ℕ → List A → Type 0
-  Chain bar [] = Unit
-  Chain bar (x ∷ xs) = Fits bar x × Chain (bar-by x) xs
+  Chain floor [] = Unit
+  Chain floor (x ∷ xs) = Fits floor x × Chain (floor-by x) xs
 
-  chain-at : (bar bar′ : List ℕ) (xs : List A) → bar ≡ bar′ → Chain bar xs → Chain bar′ xs
-  chain-at bar bar′ xs e c = rw e at c
+  chain-at : (floor floor′ : List ℕ) (xs : List A) → floor ≡ floor′ → Chain floor xs → Chain floor′ xs
+  chain-at floor floor′ xs e c = rw e at c
 
 -- the values of entries in a row, the first at a place
 module _ {A B : Type 0} (numbers : A → List ℕ) (value : ℕ → A → B) where
@@ -157,34 +157,34 @@ module _ {A B : Type 0} (numbers : A → List ℕ) (value : ℕ → A → B) whe
   values p [] = []
   values p (x ∷ xs) = value p x ∷ values (p + span (numbers x)) xs
 
--- An entry and the value that it gives at a place; the numbers of an entry; what an entry must be behind a bar.
-module _ {A B : Type 0} (entry : List ℕ → Format B) (bar-of : B → List ℕ) (numbers : A → List ℕ) (bar-by : A → List ℕ) (Fits : List ℕ → A → Type 0) where
-  pub walks-entries : (value : ℕ → A → B) → ((p : ℕ) (x : A) → bar-of (value p x) ≡ bar-by x)
-      → ((bar : List ℕ) (p : ℕ) (x : A) → Fits bar x → walks (entry bar) p (numbers x) (value p x))
-      → (xs : List A) (bar : List ℕ) (p : ℕ) → Chain bar-by Fits bar xs → walks (entries entry bar-of (length xs) bar) p (flatMap numbers xs) (values numbers value p xs)
+-- An entry and the value that it gives at a place; the numbers of an entry; what an entry must be behind a floor.
+module _ {A B : Type 0} (entry : List ℕ → Format B) (floor-of : B → List ℕ) (numbers : A → List ℕ) (floor-by : A → List ℕ) (Fits : List ℕ → A → Type 0) where
+  pub walks-entries : (value : ℕ → A → B) → ((p : ℕ) (x : A) → floor-of (value p x) ≡ floor-by x)
+      → ((floor : List ℕ) (p : ℕ) (x : A) → Fits floor x → walks (entry floor) p (numbers x) (value p x))
+      → (xs : List A) (floor : List ℕ) (p : ℕ) → Chain floor-by Fits floor xs → walks (entries entry floor-of (length xs) floor) p (flatMap numbers xs) (values numbers value p xs)
   unfolding walks entries Chain values flatMap
-  walks-entries value same each [] bar p c = refl
-  walks-entries value same each (x ∷ xs) bar p (f, c) =
-      walks-then (entry bar) (λ v. entries entry bar-of (length xs) (bar-of v) and-then (λ rest. done (v ∷ rest))) p (numbers x) (flatMap numbers xs) (value p x) _
-      (each bar p x f)
-      (walks-made (λ rest. value p x ∷ rest) (entries entry bar-of (length xs) (bar-of (value p x))) (p + span (numbers x)) (flatMap numbers xs)
+  walks-entries value same each [] floor p c = refl
+  walks-entries value same each (x ∷ xs) floor p (f, c) =
+      walks-then (entry floor) (λ v. entries entry floor-of (length xs) (floor-of v) and-then (λ rest. done (v ∷ rest))) p (numbers x) (flatMap numbers xs) (value p x) _
+      (each floor p x f)
+      (walks-made (λ rest. value p x ∷ rest) (entries entry floor-of (length xs) (floor-of (value p x))) (p + span (numbers x)) (flatMap numbers xs)
       (values numbers value (p + span (numbers x)) xs)
-      (rw (same p x) (walks-entries value same each xs (bar-by x) (p + span (numbers x)) c)))
+      (rw (same p x) (walks-entries value same each xs (floor-by x) (p + span (numbers x)) c)))
 
-  pub entries-walk : (of : B → A) → ((v : B) → bar-of v ≡ bar-by (of v))
-      → ((bar : List ℕ) (p : ℕ) (ns : List ℕ) (v : B) → walks (entry bar) p ns v → (ns ≡ numbers (of v)) × Fits bar (of v))
-      → (k : ℕ) (bar : List ℕ) (p : ℕ) (ns : List ℕ) (vs : List B) → walks (entries entry bar-of k bar) p ns vs
-      → (ns ≡ flatMap numbers (map of vs)) × Chain bar-by Fits bar (map of vs) × (length vs ≡ k)
+  pub entries-walk : (of : B → A) → ((v : B) → floor-of v ≡ floor-by (of v))
+      → ((floor : List ℕ) (p : ℕ) (ns : List ℕ) (v : B) → walks (entry floor) p ns v → (ns ≡ numbers (of v)) × Fits floor (of v))
+      → (k : ℕ) (floor : List ℕ) (p : ℕ) (ns : List ℕ) (vs : List B) → walks (entries entry floor-of k floor) p ns vs
+      → (ns ≡ flatMap numbers (map of vs)) × Chain floor-by Fits floor (map of vs) × (length vs ≡ k)
   unfolding walks entries Chain flatMap
-  entries-walk of same each zero bar p [] vs w = rw (sym w) (refl, tt, refl)
-  entries-walk of same each zero bar p (n ∷ ns) vs w = absurd w
-  entries-walk of same each (suc k) bar p ns vs w =
-      let s = then-walks (entry bar) (λ v. entries entry bar-of k (bar-of v) and-then (λ rest. done (v ∷ rest))) p ns vs w in
+  entries-walk of same each zero floor p [] vs w = rw (sym w) (refl, tt, refl)
+  entries-walk of same each zero floor p (n ∷ ns) vs w = absurd w
+  entries-walk of same each (suc k) floor p ns vs w =
+      let s = then-walks (entry floor) (λ v. entries entry floor-of k (floor-of v) and-then (λ rest. done (v ∷ rest))) p ns vs w in
       let v = s .value in
-      let (us, u, e) = made-walks (λ rest. v ∷ rest) (entries entry bar-of k (bar-of v)) (p + span (s .before)) (s .behind) vs (s .second) in
-      let (q, f) = each bar p (s .before) v (s .first) in
-      let (x, c, l) = entries-walk of same each k (bar-of v) (p + span (s .before)) (s .behind) us u in
-      rw (sym e) ((s .whole ∙ ap₂ _++_ q x), (f, chain-at bar-by Fits (bar-of v) (bar-by (of v)) (map of us) (same v) c), ap suc l)
+      let (us, u, e) = made-walks (λ rest. v ∷ rest) (entries entry floor-of k (floor-of v)) (p + span (s .before)) (s .behind) vs (s .second) in
+      let (q, f) = each floor p (s .before) v (s .first) in
+      let (x, c, l) = entries-walk of same each k (floor-of v) (p + span (s .before)) (s .behind) us u in
+      rw (sym e) ((s .whole ∙ ap₂ _++_ q x), (f, chain-at floor-by Fits (floor-of v) (floor-by (of v)) (map of us) (same v) c), ap suc l)
 
 -- entries with their places
 module _ {A : Type 0} (f : Format A) where
@@ -211,29 +211,29 @@ module _ {A : Type 0} (numbers : A → List ℕ) where
   values-entries p [] = refl
   values-entries p (x ∷ xs) = ap (λ (l : List A). x ∷ l) (values-entries (p + span (numbers x)) xs)
 
--- what a kind of entry is: those that fit behind the bar walk it with their numbers, and no other numbers do
+-- what a kind of entry is: those that fit behind the floor walk it with their numbers, and no other numbers do
 pub record Entry {A : Type 0} (entry : List ℕ → Format A) (numbers : A → List ℕ) (Fits : List ℕ → A → Type 0) : Type 0 where
-  pub walk : (bar : List ℕ) (p : ℕ) (x : A) → Fits bar x → walks (entry bar) p (numbers x) x
-  pub back : (bar : List ℕ) (p : ℕ) (ns : List ℕ) (x : A) → walks (entry bar) p ns x → (ns ≡ numbers x) × Fits bar x
+  pub walk : (floor : List ℕ) (p : ℕ) (x : A) → Fits floor x → walks (entry floor) p (numbers x) x
+  pub back : (floor : List ℕ) (p : ℕ) (ns : List ℕ) (x : A) → walks (entry floor) p ns x → (ns ≡ numbers x) × Fits floor x
 
-module _ {A : Type 0} (entry : List ℕ → Format A) (numbers : A → List ℕ) (bar-by : A → List ℕ) (Fits : List ℕ → A → Type 0) (law : Entry entry numbers Fits) where
-  pub walks-plain : (xs : List A) (bar : List ℕ) (p : ℕ) → Chain bar-by Fits bar xs → walks (entries entry bar-by (length xs) bar) p (flatMap numbers xs) xs
-  walks-plain xs bar p c =
-      subst (walks (entries entry bar-by (length xs) bar) p (flatMap numbers xs)) (values-plain numbers p xs)
-      (walks-entries entry bar-by numbers bar-by Fits (λ p x. x) (λ p x. refl) (law .walk) xs bar p c)
+module _ {A : Type 0} (entry : List ℕ → Format A) (numbers : A → List ℕ) (floor-by : A → List ℕ) (Fits : List ℕ → A → Type 0) (law : Entry entry numbers Fits) where
+  pub walks-plain : (xs : List A) (floor : List ℕ) (p : ℕ) → Chain floor-by Fits floor xs → walks (entries entry floor-by (length xs) floor) p (flatMap numbers xs) xs
+  walks-plain xs floor p c =
+      subst (walks (entries entry floor-by (length xs) floor) p (flatMap numbers xs)) (values-plain numbers p xs)
+      (walks-entries entry floor-by numbers floor-by Fits (λ p x. x) (λ p x. refl) (law .walk) xs floor p c)
 
-  pub plain-walks : (k : ℕ) (bar : List ℕ) (p : ℕ) (ns : List ℕ) (xs : List A) → walks (entries entry bar-by k bar) p ns xs
-      → (ns ≡ flatMap numbers xs) × Chain bar-by Fits bar xs × (length xs ≡ k)
-  plain-walks k bar p ns xs w =
-      let (x, c, l) = entries-walk entry bar-by numbers bar-by Fits (λ x. x) (λ x. refl) (law .back) k bar p ns xs w in
-      (x ∙ ap (flatMap numbers) (map-id xs), subst (Chain bar-by Fits bar) (map-id xs) c, l)
+  pub plain-walks : (k : ℕ) (floor : List ℕ) (p : ℕ) (ns : List ℕ) (xs : List A) → walks (entries entry floor-by k floor) p ns xs
+      → (ns ≡ flatMap numbers xs) × Chain floor-by Fits floor xs × (length xs ≡ k)
+  plain-walks k floor p ns xs w =
+      let (x, c, l) = entries-walk entry floor-by numbers floor-by Fits (λ x. x) (λ x. refl) (law .back) k floor p ns xs w in
+      (x ∙ ap (flatMap numbers) (map-id xs), subst (Chain floor-by Fits floor) (map-id xs) c, l)
 
   -- the same with places
   abbrev pub placed-by : Placed A → List ℕ
-  placed-by v = bar-by (v .entry)
+  placed-by v = floor-by (v .entry)
 
   abbrev pub placed-entry : List ℕ → Format (Placed A)
-  placed-entry bar = placed (entry bar)
+  placed-entry floor = placed (entry floor)
 
   abbrev pub put : ℕ → A → Placed A
   put p x = record { place = p; entry = x }
@@ -241,13 +241,13 @@ module _ {A : Type 0} (entry : List ℕ → Format A) (numbers : A → List ℕ)
   abbrev pub taken : Placed A → A
   taken v = v .entry
 
-  pub walks-places : (xs : List A) (bar : List ℕ) (p : ℕ) → Chain bar-by Fits bar xs
-      → walks (entries placed-entry placed-by (length xs) bar) p (flatMap numbers xs) (values numbers put p xs)
-  walks-places xs bar p c =
-      walks-entries placed-entry placed-by numbers bar-by Fits put (λ p x. refl) (λ bar p x f. walks-placed (entry bar) p (numbers x) x (law .walk bar p x f)) xs bar p c
+  pub walks-places : (xs : List A) (floor : List ℕ) (p : ℕ) → Chain floor-by Fits floor xs
+      → walks (entries placed-entry placed-by (length xs) floor) p (flatMap numbers xs) (values numbers put p xs)
+  walks-places xs floor p c =
+      walks-entries placed-entry placed-by numbers floor-by Fits put (λ p x. refl) (λ floor p x f. walks-placed (entry floor) p (numbers x) x (law .walk floor p x f)) xs floor p c
 
-  pub places-walk : (k : ℕ) (bar : List ℕ) (p : ℕ) (ns : List ℕ) (vs : List (Placed A)) → walks (entries placed-entry placed-by k bar) p ns vs
-      → (ns ≡ flatMap numbers (map taken vs)) × Chain bar-by Fits bar (map taken vs) × (length vs ≡ k)
-  places-walk k bar p ns vs w =
-      entries-walk placed-entry placed-by numbers bar-by Fits taken (λ v. refl)
-      (λ bar p ns v w. law .back bar p ns (v .entry) (placed-walks (entry bar) p ns v w .0)) k bar p ns vs w
+  pub places-walk : (k : ℕ) (floor : List ℕ) (p : ℕ) (ns : List ℕ) (vs : List (Placed A)) → walks (entries placed-entry placed-by k floor) p ns vs
+      → (ns ≡ flatMap numbers (map taken vs)) × Chain floor-by Fits floor (map taken vs) × (length vs ≡ k)
+  places-walk k floor p ns vs w =
+      entries-walk placed-entry placed-by numbers floor-by Fits taken (λ v. refl)
+      (λ floor p ns v w. law .back floor p ns (v .entry) (placed-walks (entry floor) p ns v w .0)) k floor p ns vs w

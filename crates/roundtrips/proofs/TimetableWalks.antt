@@ -12,7 +12,7 @@ use Rattle.network.specs.Networks.{stations-of}
 use Rattle.timetable.specs.Formats.{done, field, _and-then_, Placed}
 use Rattle.timetable.specs.EditsFile.{station-relation-entry, station-relation-numbers}
 use Rattle.timetable.specs.Machine.{Timetable}
-use Rattle.timetable.specs.TimetableFile.{StationVisit, visit-entry, visit-numbers, visit-bar, relation-bar, Entries, visits-format, relations-format}
+use Rattle.timetable.specs.TimetableFile.{StationVisit, visit-entry, visit-numbers, visit-floor, relation-floor, Entries, visits-format, relations-format}
 use Rattle.timetable.specs.TimetableFile.{timetable-format, visits-at, relations-at}
 use Rattle.roundtrips.specs.Types.{StationRelation, Network}
 use Rattle.roundtrips.proofs.Walks.{InRange, walks}
@@ -45,12 +45,12 @@ relation-law : Entry station-relation-entry station-relation-numbers StationRela
 relation-law = record { walk = walks-station-relation; back = station-relation-walks }
 
 walks-visits : (p : ℕ) (vs : List StationVisit) → VisitsIn vs → walks (visits-format (length vs)) p (flatMap visit-numbers vs) (set-out visit-numbers p vs)
-unfolding visits-format visit-bar
+unfolding visits-format visit-floor
 walks-visits p vs i = walks-places visit-entry visit-numbers visit-key VisitFits visit-law vs [] p (visits-chain vs (i .good) (i .order))
 
 walks-relations : (p : ℕ) (rs : List StationRelation) → RelationsIn rs
     → walks (relations-format (length rs)) p (flatMap station-relation-numbers rs) (set-out station-relation-numbers p rs)
-unfolding relations-format relation-bar
+unfolding relations-format relation-floor
 walks-relations p rs i =
     walks-places station-relation-entry station-relation-numbers station-relation-numbers StationRelationFits relation-law rs [] p (relations-chain rs (i .good) (i .order))
 
@@ -89,7 +89,7 @@ walks-timetable p vs rs i j = (
 
 visits-walk : (k p : ℕ) (ns : List ℕ) (vs : List (Placed StationVisit)) → walks (visits-format k) p ns vs → InRange 0 384 k
     → (ns ≡ flatMap visit-numbers (entries-of vs)) × VisitsIn (entries-of vs) × (length (entries-of vs) ≡ k)
-unfolding visits-format visit-bar
+unfolding visits-format visit-floor
 visits-walk k p ns vs w r =
     let (x, c, l) = places-walk visit-entry visit-numbers visit-key VisitFits visit-law k [] p ns vs w in
     let (t, o) = chain-visits (entries-of vs) c in
@@ -98,7 +98,7 @@ visits-walk k p ns vs w r =
 
 relations-walk : (k p : ℕ) (ns : List ℕ) (rs : List (Placed StationRelation)) → walks (relations-format k) p ns rs → InRange 0 96 k
     → (ns ≡ flatMap station-relation-numbers (entries-of rs)) × RelationsIn (entries-of rs) × (length (entries-of rs) ≡ k)
-unfolding relations-format relation-bar
+unfolding relations-format relation-floor
 relations-walk k p ns rs w r =
     let (x, c, l) = places-walk station-relation-entry station-relation-numbers station-relation-numbers StationRelationFits relation-law k [] p ns rs w in
     let (t, o) = chain-relations (entries-of rs) c in

@@ -183,44 +183,44 @@ module _ (ns : List ℕ) (r : RowIn visit-ranges ns) (i : InLink) (o : OutLink) 
 
 -- the entry
 
--- in range, and its row above the bar
+-- in range, and its row above the floor
 abbrev pub VisitFits : List ℕ → StationVisit → Type 0
-VisitFits bar e = T (visit-ok e) × Over bar (visit-row e)
+VisitFits floor e = T (visit-ok e) × Over floor (visit-row e)
 
-pub walks-visit : (bar : List ℕ) (p : ℕ) (e : StationVisit) → VisitFits bar e → walks (visit-entry bar) p (visit-numbers e) e
+pub walks-visit : (floor : List ℕ) (p : ℕ) (e : StationVisit) → VisitFits floor e → walks (visit-entry floor) p (visit-numbers e) e
 unfolding visit-entry visit-numbers visit-ok
-walks-visit bar p e (t, o) =
+walks-visit floor p e (t, o) =
     let i = e .visit .inward in
     let u = e .visit .outward in
     let q = p + span (visit-row e) in
-    subst (walks (visit-entry bar) p (visit-numbers e)) (row-back e)
-    (walks-then (row visit-ranges bar) (λ ns. in-link-entry and-then (λ i. out-link-entry and-then (λ o. done (station-visit-of ns i o))))
-    p (visit-row e) (in-link-numbers i ++ out-link-numbers u) (visit-row e) _ (walks-row visit-ranges bar p (visit-row e) (row-in e t) o)
+    subst (walks (visit-entry floor) p (visit-numbers e)) (row-back e)
+    (walks-then (row visit-ranges floor) (λ ns. in-link-entry and-then (λ i. out-link-entry and-then (λ o. done (station-visit-of ns i o))))
+    p (visit-row e) (in-link-numbers i ++ out-link-numbers u) (visit-row e) _ (walks-row visit-ranges floor p (visit-row e) (row-in e t) o)
     (walks-then in-link-entry (λ i. out-link-entry and-then (λ o. done (station-visit-of (visit-row e) i o)))
     q (in-link-numbers i) (out-link-numbers u) i _ (walks-in q i (search parts))
     (walks-made (station-visit-of (visit-row e) i) out-link-entry (q + span (in-link-numbers i)) (out-link-numbers u) u
     (walks-out (q + span (in-link-numbers i)) u (search parts)))))
 
 -- the numbers of the three parts, put together
-visit-parts : (bar xs ms ys zs : List ℕ) (i : InLink) (o : OutLink) → xs ≡ ms → RowIn visit-ranges ms → Over bar ms → ys ≡ in-link-numbers i → T (in-link-ok i)
-    → zs ≡ out-link-numbers o → T (out-link-ok o) → (xs ++ (ys ++ zs) ≡ visit-numbers (station-visit-of ms i o)) × VisitFits bar (station-visit-of ms i o)
+visit-parts : (floor xs ms ys zs : List ℕ) (i : InLink) (o : OutLink) → xs ≡ ms → RowIn visit-ranges ms → Over floor ms → ys ≡ in-link-numbers i → T (in-link-ok i)
+    → zs ≡ out-link-numbers o → T (out-link-ok o) → (xs ++ (ys ++ zs) ≡ visit-numbers (station-visit-of ms i o)) × VisitFits floor (station-visit-of ms i o)
 unfolding visit-numbers station-visit-of
-visit-parts bar xs ms ys zs i o x y z a b c d =
+visit-parts floor xs ms ys zs i o x y z a b c d =
     let m : ms ≡ visit-row (station-visit-of ms i o) = row-written ms y i o in
-    (ap₂ _++_ (x ∙ m) (ap₂ _++_ a c), (row-good ms y i o b d, subst (Over bar) m z))
+    (ap₂ _++_ (x ∙ m) (ap₂ _++_ a c), (row-good ms y i o b d, subst (Over floor) m z))
 
-pub visit-walks : (bar : List ℕ) (p : ℕ) (ns : List ℕ) (e : StationVisit) → walks (visit-entry bar) p ns e → (ns ≡ visit-numbers e) × VisitFits bar e
+pub visit-walks : (floor : List ℕ) (p : ℕ) (ns : List ℕ) (e : StationVisit) → walks (visit-entry floor) p ns e → (ns ≡ visit-numbers e) × VisitFits floor e
 unfolding visit-entry
-visit-walks bar p ns e w =
-    let s = then-walks (row visit-ranges bar) (λ ns. in-link-entry and-then (λ i. out-link-entry and-then (λ o. done (station-visit-of ns i o)))) p ns e w in
+visit-walks floor p ns e w =
+    let s = then-walks (row visit-ranges floor) (λ ns. in-link-entry and-then (λ i. out-link-entry and-then (λ o. done (station-visit-of ns i o)))) p ns e w in
     let r = then-walks in-link-entry (λ i. out-link-entry and-then (λ o. done (station-visit-of (s .value) i o))) (p + span (s .before)) (s .behind) e (s .second) in
     let (o, v, q) = made-walks (station-visit-of (s .value) (r .value)) out-link-entry (p + span (s .before) + span (r .before)) (r .behind) e (r .second) in
-    let (x, y, z) = row-walks visit-ranges bar p (s .before) (s .value) (s .first) in
+    let (x, y, z) = row-walks visit-ranges floor p (s .before) (s .value) (s .first) in
     let (a, b) = in-walks (p + span (s .before)) (r .before) (r .value) (r .first) in
     let (c, d) = out-walks (p + span (s .before) + span (r .before)) (r .behind) o v in
-    let (k, f) = visit-parts bar (s .before) (s .value) (r .before) (r .behind) (r .value) o x y z a b c d in
+    let (k, f) = visit-parts floor (s .before) (s .value) (r .before) (r .behind) (r .value) o x y z a b c d in
     let l : ns ≡ s .before ++ (r .before ++ r .behind) = s .whole ∙ ap (λ (l : List ℕ). s .before ++ l) (r .whole) in
-    (l ∙ k ∙ ap visit-numbers q, subst (VisitFits bar) q f)
+    (l ∙ k ∙ ap visit-numbers q, subst (VisitFits floor) q f)
 
 pub visit-law : Entry visit-entry visit-numbers VisitFits
 visit-law = record { walk = walks-visit; back = visit-walks }

@@ -17,7 +17,7 @@ use Rattle.numbers.specs.declared.Reading.{Reading}
 use Rattle.numbers.specs.declared.Reading.the-variants.{Value, Refused}
 use Rattle.network.specs.Networks.{ends-listed}
 use Rattle.timetable.specs.Formats.{Format, done, field, here, Outcome, accepted, refused, _and-then_, placed-field, field-at, behind, read, ended, read-file, entries, Placed, place-of}
-use Rattle.timetable.specs.NetworkFile.{Listed, line-fields, line-entry, line-bar, stations-format, lines-format, lines-part, count-part, headway-part, stations-part, network-format, network-of, unjoined, unjoined-fault, network-fault, unless-fault, only-stations, with-headway, with-lines}
+use Rattle.timetable.specs.NetworkFile.{Listed, line-fields, line-entry, line-floor, stations-format, lines-format, lines-part, count-part, headway-part, stations-part, network-format, network-of, unjoined, unjoined-fault, network-fault, unless-fault, only-stations, with-headway, with-lines}
 use Rattle.timetable.specs.EditsFile.{Shift, Input, edits-format, shift-format, read-shift}
 use Rattle.fields.proofs.FieldLaws.{number-within}
 use Rattle.timetable.proofs.OutcomeLaws.{behind-taken}
@@ -71,22 +71,22 @@ module _ (file : List ℕ) where
   abbrev placed-in : Placed LineRow → Bool
   placed-in l = leb (l .place) (length file)
 
-  line-in : (bar : List ℕ) (at : ℕ) (l : Placed LineRow) (next : ℕ) → at ≤ length file → read (line-entry bar) file at ≡ accepted l next → T (placed-in l)
+  line-in : (floor : List ℕ) (at : ℕ) (l : Placed LineRow) (next : ℕ) → at ≤ length file → read (line-entry floor) file at ≡ accepted l next → T (placed-in l)
   unfolding line-entry
-  line-in bar at l next h e =
-      let (r, p, u, v) = behind-taken (read (line-fields bar) file at) (λ r p. accepted (record { place = at; entry = r }) p) l next (sym (placed-read (line-fields bar) file at) ∙ e) in
+  line-in floor at l next h e =
+      let (r, p, u, v) = behind-taken (read (line-fields floor) file at) (λ r p. accepted (record { place = at; entry = r }) p) l next (sym (placed-read (line-fields floor) file at) ∙ e) in
       let same : at ≡ l .place = cc in
       le→leb (l .place) (length file) (omega (arith, h, same))
 
-  lines-in : (k : ℕ) (bar : List ℕ) (at : ℕ) (ls : List (Placed LineRow)) (next : ℕ) → at ≤ length file
-      → read (entries line-entry line-bar k bar) file at ≡ accepted ls next → T (every placed-in ls)
+  lines-in : (k : ℕ) (floor : List ℕ) (at : ℕ) (ls : List (Placed LineRow)) (next : ℕ) → at ≤ length file
+      → read (entries line-entry line-floor k floor) file at ≡ accepted ls next → T (every placed-in ls)
   unfolding entries read every
-  lines-in zero bar at ls next h e = let z : ls ≡ [] = cc in rw z tt
-  lines-in (suc k) bar at ls next h e =
-      let (l, p, u, v) = then-taken (line-entry bar) (λ l. entries line-entry line-bar k (line-bar l) and-then (λ rest. done (l ∷ rest))) file at ls next e in
-      let (rest, q, w, x) = then-taken (entries line-entry line-bar k (line-bar l)) (λ rest. done (l ∷ rest)) file p ls next v in
+  lines-in zero floor at ls next h e = let z : ls ≡ [] = cc in rw z tt
+  lines-in (suc k) floor at ls next h e =
+      let (l, p, u, v) = then-taken (line-entry floor) (λ l. entries line-entry line-floor k (line-floor l) and-then (λ rest. done (l ∷ rest))) file at ls next e in
+      let (rest, q, w, x) = then-taken (entries line-entry line-floor k (line-floor l)) (λ rest. done (l ∷ rest)) file p ls next v in
       let z : ls ≡ l ∷ rest = cc in
-      rw z (every-cons placed-in l rest (line-in bar at l p h u) (lines-in k (line-bar l) p rest q (reached (line-entry bar) at l p h u) w))
+      rw z (every-cons placed-in l rest (line-in floor at l p h u) (lines-in k (line-floor l) p rest q (reached (line-entry floor) at l p h u) w))
 
   network-in : (x : Listed) (next : ℕ) → read network-format file 0 ≡ accepted x next → T (every placed-in (x .lines))
   unfolding network-format stations-part headway-part count-part lines-part only-stations with-headway with-lines lines-format read place-of

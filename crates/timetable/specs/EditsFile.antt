@@ -21,9 +21,9 @@ use Rattle.timetable.specs.NetworkFile.{Listed, network-format, network-
 
 -- k trains; where they rise, each is above the one before it
 unfoldable pub trains-format : Bool → ℕ → ℕ → List ℕ → Format (List ℕ)
-trains-format rise zero before bar = done []
-trains-format rise (suc k) before bar =
-    compared (if rise then before + 1 else 1) 9999 bar (λ t left. trains-format rise k t left and-then (λ ts. done (t ∷ ts)))
+trains-format rise zero before floor = done []
+trains-format rise (suc k) before floor =
+    compared (if rise then before + 1 else 1) 9999 floor (λ t left. trains-format rise k t left and-then (λ ts. done (t ∷ ts)))
 
 unfoldable pub pair-of : List ℕ → Pair
 pair-of ts = record { arriver = record { 0 = getD ts 0 0 }; departer = record { 0 = getD ts 1 0 } }
@@ -43,16 +43,16 @@ most-trains kind = 2 if eqb kind 3 else 4
 
 -- kind, interval, count of trains, trains: each with what is behind it
 unfoldable pub trains-part : ℕ → ℕ → ℕ → List ℕ → Format Relation
-trains-part kind i k bar = trains-format (not (eqb kind 3)) k 0 bar and-then (λ ts. done (relation-of kind i ts))
+trains-part kind i k floor = trains-format (not (eqb kind 3)) k 0 floor and-then (λ ts. done (relation-of kind i ts))
 
 unfoldable pub train-count-part : ℕ → ℕ → List ℕ → Format Relation
-train-count-part kind i bar = compared 2 (most-trains kind) bar (λ k left. trains-part kind i k left)
+train-count-part kind i floor = compared 2 (most-trains kind) floor (λ k left. trains-part kind i k left)
 
 unfoldable pub interval-part : ℕ → List ℕ → Format Relation
-interval-part kind bar = compared 0 240 bar (λ i left. train-count-part kind i left)
+interval-part kind floor = compared 0 240 floor (λ i left. train-count-part kind i left)
 
 unfoldable pub relation-entry : List ℕ → Format Relation
-relation-entry bar = compared 1 3 bar (λ kind left. interval-part kind left)
+relation-entry floor = compared 1 3 floor (λ kind left. interval-part kind left)
 
 unfoldable pub group-numbers : ℕ → ℕ → Trains → List ℕ
 group-numbers kind i ts = kind ∷ i ∷ length (used ts) ∷ map (λ t. t .0) (used ts)
@@ -64,8 +64,8 @@ relation-numbers (Dependency i p) = 3 ∷ i ∷ 2 ∷ p .arriver .0 ∷ p .depar
 
 -- a relation with its station before it
 unfoldable pub station-relation-entry : List ℕ → Format StationRelation
-station-relation-entry bar =
-    compared 1 16 bar (λ s left. relation-entry left and-then (λ r. done (record { station = record { 0 = s }; relation = r })))
+station-relation-entry floor =
+    compared 1 16 floor (λ s left. relation-entry left and-then (λ r. done (record { station = record { 0 = s }; relation = r })))
 
 unfoldable pub station-relation-numbers : StationRelation → List ℕ
 station-relation-numbers r = r .station .0 ∷ relation-numbers (r .relation)
@@ -169,7 +169,7 @@ edit-numbers (DeleteTrain c) = 11 ∷ c .train .0 ∷ []
 -- lists of edits: edits have no order
 
 unfoldable pub edits-on : ℕ → Format (List Edit)
-edits-on k = entries (λ bar. edit-entry) (λ e. []) k []
+edits-on k = entries (λ floor. edit-entry) (λ e. []) k []
 
 -- the edits, with the place of the first
 unfoldable pub edits-format : Format (Placed (List Edit))

@@ -89,7 +89,7 @@ infix 80 _to_
 abbrev pub _to_ : ℕ → ℕ → Range
 lo to hi = record { lo = lo; hi = hi }
 
--- `bar` is what is left of the entry before's numbers to compare with, [] where an earlier number is above its
+-- `floor` is what is left of the entry before's numbers to compare with, [] where an earlier number is above its
 -- namesake. "In an entry out of order the faulty number is the first that falls below the entry before; in an equal
 -- one, the last number compared."
 unfoldable pub least : ℕ → List ℕ → ℕ
@@ -97,25 +97,25 @@ least lo [] = lo
 least lo (b ∷ []) = max lo (b + 1)
 least lo (b ∷ c ∷ bs) = max lo b
 
-unfoldable pub bar-after : ℕ → List ℕ → List ℕ
-bar-after n [] = []
-bar-after n (b ∷ []) = []
-bar-after n (b ∷ c ∷ bs) = if eqb n b then c ∷ bs else []
+unfoldable pub floor-after : ℕ → List ℕ → List ℕ
+floor-after n [] = []
+floor-after n (b ∷ []) = []
+floor-after n (b ∷ c ∷ bs) = if eqb n b then c ∷ bs else []
 
--- a number compared with the bar, and then what it and what is left of the bar call for
+-- a number compared with the floor, and then what it and what is left of the floor call for
 unfoldable pub compared : {A : Type 0} → ℕ → ℕ → List ℕ → (ℕ → List ℕ → Format A) → Format A
-compared lo hi bar f = field (least lo bar) hi (λ n. f n (bar-after n bar))
+compared lo hi floor f = field (least lo floor) hi (λ n. f n (floor-after n floor))
 
 -- one number for each range
 unfoldable pub row : List Range → List ℕ → Format (List ℕ)
-row [] bar = done []
-row (r ∷ rs) bar = compared (r .lo) (r .hi) bar (λ n left. row rs left and-then (λ ns. done (n ∷ ns)))
+row [] floor = done []
+row (r ∷ rs) floor = compared (r .lo) (r .hi) floor (λ n left. row rs left and-then (λ ns. done (n ∷ ns)))
 
--- k entries, each read behind the bar that the one before it sets
-module _ {A : Type 0} (entry : List ℕ → Format A) (bar-of : A → List ℕ) where
+-- k entries, each read behind the floor that the one before it sets
+module _ {A : Type 0} (entry : List ℕ → Format A) (floor-of : A → List ℕ) where
   unfoldable pub entries : ℕ → List ℕ → Format (List A)
-  entries zero bar = done []
-  entries (suc k) bar = entry bar and-then (λ a. entries k (bar-of a) and-then (λ rest. done (a ∷ rest)))
+  entries zero floor = done []
+  entries (suc k) floor = entry floor and-then (λ a. entries k (floor-of a) and-then (λ rest. done (a ∷ rest)))
 
 -- an entry with the place of its first byte
 pub record Placed (A : Type 0) : Type 0 where
@@ -127,5 +127,5 @@ placed f = here (λ p. f and-then (λ a. done (record { place = p; entry = a }))
 
 -- The key ring of this module: `unfolding opened` opens every definition above.
 unfoldable pub opened : Unit {0}
-unfolding number place-of value-or _and-then_ placed-field field-at behind read ended read-file bytes-of least bar-after compared row entries placed
+unfolding number place-of value-or _and-then_ placed-field field-at behind read ended read-file bytes-of least floor-after compared row entries placed
 opened = tt

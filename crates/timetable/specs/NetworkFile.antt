@@ -25,7 +25,7 @@ unfoldable pub station-numbers : StationRow → List ℕ
 station-numbers r = r .station .0 ∷ r .area .0 ∷ r .tracks ∷ []
 
 unfoldable pub station-entry : List ℕ → Format StationRow
-station-entry bar = row station-ranges bar and-then (λ ns. done (station-of ns))
+station-entry floor = row station-ranges floor and-then (λ ns. done (station-of ns))
 
 -- "lines (number, first station, second station, kind, least running time, capacity 1..9)"
 unfoldable pub line-ranges : List Range
@@ -45,10 +45,10 @@ unfoldable pub line-numbers : LineRow → List ℕ
 line-numbers r = r .line .0 ∷ r .first .0 ∷ r .second .0 ∷ r .kind ∷ r .least ∷ r .capacity ∷ []
 
 unfoldable pub line-fields : List ℕ → Format LineRow
-line-fields bar = row line-ranges bar and-then (λ ns. done (line-of ns))
+line-fields floor = row line-ranges floor and-then (λ ns. done (line-of ns))
 
 unfoldable pub line-entry : List ℕ → Format (Placed LineRow)
-line-entry bar = placed (line-fields bar)
+line-entry floor = placed (line-fields floor)
 
 -- the network
 
@@ -58,18 +58,18 @@ pub record Listed : Type 0 where
   pub headway : ℕ
   pub lines : List (Placed LineRow)
 
-unfoldable pub station-bar : StationRow → List ℕ
-station-bar r = r .station .0 ∷ []
+unfoldable pub station-floor : StationRow → List ℕ
+station-floor r = r .station .0 ∷ []
 
-unfoldable pub line-bar : Placed LineRow → List ℕ
-line-bar l = l .entry .line .0 ∷ []
+unfoldable pub line-floor : Placed LineRow → List ℕ
+line-floor l = l .entry .line .0 ∷ []
 
 -- the first entry is compared with 0
 unfoldable pub stations-format : ℕ → Format (List StationRow)
-stations-format k = entries station-entry station-bar k (0 ∷ [])
+stations-format k = entries station-entry station-floor k (0 ∷ [])
 
 unfoldable pub lines-format : ℕ → Format (List (Placed LineRow))
-lines-format k = entries line-entry line-bar k (0 ∷ [])
+lines-format k = entries line-entry line-floor k (0 ∷ [])
 
 -- what is listed, with one part more
 unfoldable pub only-stations : List StationRow → Listed
@@ -144,7 +144,7 @@ network-numbers n =
 
 -- The key ring of this module: `unfolding opened` opens every definition above.
 unfoldable pub opened : Unit {0}
-unfolding station-ranges station-of station-numbers station-entry line-ranges line-of line-numbers line-fields line-entry station-bar line-bar stations-format lines-format
+unfolding station-ranges station-of station-numbers station-entry line-ranges line-of line-numbers line-fields line-entry station-floor line-floor stations-format lines-format
     only-stations with-headway with-lines lines-part count-part headway-part stations-part network-format network-with network-of
     blank-network unjoined unjoined-fault network-fault unless-fault read-network network-numbers
 opened = tt

@@ -69,8 +69,8 @@ station-visit-of ns i o = record {
 }
 
 unfoldable pub visit-entry : List ℕ → Format StationVisit
-visit-entry bar =
-    row visit-ranges bar and-then (λ ns. in-link-entry and-then (λ i. out-link-entry and-then (λ o. done (station-visit-of ns i o))))
+visit-entry floor =
+    row visit-ranges floor and-then (λ ns. in-link-entry and-then (λ i. out-link-entry and-then (λ o. done (station-visit-of ns i o))))
 
 unfoldable pub visit-numbers : StationVisit → List ℕ
 visit-numbers e =
@@ -82,12 +82,12 @@ visit-numbers e =
 -- the file
 
 -- "rising by s and t alone"
-unfoldable pub visit-bar : Placed StationVisit → List ℕ
-visit-bar p = p .entry .station .0 ∷ p .entry .train .0 ∷ []
+unfoldable pub visit-floor : Placed StationVisit → List ℕ
+visit-floor p = p .entry .station .0 ∷ p .entry .train .0 ∷ []
 
 -- "order: kind, interval, count of trains, trains", behind the station
-unfoldable pub relation-bar : Placed StationRelation → List ℕ
-relation-bar p = station-relation-numbers (p .entry)
+unfoldable pub relation-floor : Placed StationRelation → List ℕ
+relation-floor p = station-relation-numbers (p .entry)
 
 -- what a timetable file lists
 pub record Entries : Type 0 where
@@ -95,10 +95,10 @@ pub record Entries : Type 0 where
   pub relations : List (Placed StationRelation)
 
 unfoldable pub visits-format : ℕ → Format (List (Placed StationVisit))
-visits-format k = entries (λ bar. placed (visit-entry bar)) visit-bar k []
+visits-format k = entries (λ floor. placed (visit-entry floor)) visit-floor k []
 
 unfoldable pub relations-format : ℕ → Format (List (Placed StationRelation))
-relations-format k = entries (λ bar. placed (station-relation-entry bar)) relation-bar k []
+relations-format k = entries (λ floor. placed (station-relation-entry floor)) relation-floor k []
 
 unfoldable pub timetable-format : Format Entries
 timetable-format =
@@ -167,7 +167,7 @@ timetable-numbers n m =
 
 -- The key ring of this module: `unfolding opened` opens every definition above.
 unfoldable pub opened : Unit {0}
-unfolding visit-ranges status-number in-link-entry out-link-entry in-link-numbers out-link-numbers station-visit-of visit-entry visit-numbers visit-bar relation-bar
+unfolding visit-ranges status-number in-link-entry out-link-entry in-link-numbers out-link-numbers station-visit-of visit-entry visit-numbers visit-floor relation-floor
     visits-format relations-format timetable-format visit-refusal relation-refusal enter-visit enter-relation entered timetable-of read-timetable
     visits-at relations-at timetable-numbers
 opened = tt

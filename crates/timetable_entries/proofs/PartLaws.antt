@@ -12,7 +12,7 @@ use Rattle.railway.specs.Ranges.{station-ok}
 use Rattle.timetable.specs.Formats.{Format, done, Outcome, accepted, refused, _and-then_, field-at, read, Placed}
 use Rattle.timetable.specs.EditsFile.{station-relation-entry}
 use Rattle.timetable.specs.Machine.{Timetable}
-use Rattle.timetable.specs.TimetableFile.{StationVisit, Entries, visit-entry, visit-bar, relation-bar, visits-format, relations-format, timetable-format, visit-refusal, relation-refusal, enter-visit, enter-relation, entered, timetable-of}
+use Rattle.timetable.specs.TimetableFile.{StationVisit, Entries, visit-entry, visit-floor, relation-floor, visits-format, relations-format, timetable-format, visit-refusal, relation-refusal, enter-visit, enter-relation, entered, timetable-of}
 use Rattle.timetable.proofs.OutcomeLaws.{behind-taken}
 use Rattle.fields.proofs.EntryLaws.{then-taken}
 use Rattle.timetable_entries.specs.Types.{StationRelation, Network}
@@ -125,8 +125,8 @@ stations-fit file at x next e =
     let (k, r, a, b) = behind-taken (field-at 0 384 file at) (λ k p. read (visits-format k) file p) vs p u in
     let (j, s, c, d) = behind-taken (field-at 0 96 file p) (λ k p. read (relations-format k) file p) rs q w in
     let z : record { visits = vs; relations = rs } ≡ x = cc in (
-      rw (← z) (entries-all visit-entry visit-bar file (λ e. station-ok (e .station)) (λ bar at a next. visit-station bar file at a next) k [] r vs p b),
-      rw (← z) (entries-all station-relation-entry relation-bar file (λ e. station-ok (e .station)) (λ bar at a next. relation-station bar file at a next) j [] s rs q d),
+      rw (← z) (entries-all visit-entry visit-floor file (λ e. station-ok (e .station)) (λ floor at a next. visit-station floor file at a next) k [] r vs p b),
+      rw (← z) (entries-all station-relation-entry relation-floor file (λ e. station-ok (e .station)) (λ floor at a next. relation-station floor file at a next) j [] s rs q d),
     )
 
 -- an accepted timetable ends where its file does

@@ -9,9 +9,9 @@ ghost use Rattle.timetable.specs.TimetableFile.{visits-format, relations-format
 ghost use Rattle.timetable_entries.specs.between.Entering.{no-fault, unanswered, visit-step, relation-step, entries-read, entries-sheet};
 ghost use Rattle.timetable_entries.specs.between.Entering.{visit-part, relation-part, timetable-entries, timetable-sheet};
 use crate::enter;
-use fields::bar::no_bar;
 use fields::field::FieldRead;
 use fields::field::field;
+use fields::floor::no_floor;
 use network::Network;
 use railway::sorts::Station;
 use railway::sorts::Train;
@@ -99,18 +99,18 @@ fn relations(
         × (r .accepted ≡ true → now (sheet .exit) ≡ entries-sheet (relation-step n) (record { sheet = now (sheet .entry); fault = fault }) (read (relations-format count) (now (file .entry)) at)) ⌝ }
 {
     let mut place = at;
-    let mut bar = no_bar();
+    let mut floor = no_floor();
     let mut first = fault;
     let mut i: usize = 0;
     while i < count {
-        let found = reading::relation_entry(file, place, bar);
+        let found = reading::relation_entry(file, place, floor);
         match found {
             RelationRead::Refused(k, p) => {
                 return refused_entries(k, p);
             }
             RelationRead::Entry(x, next) => {
                 first = enter::enter_relation(sheet, n, x, place, first);
-                bar = row::relation_numbers(x);
+                floor = row::relation_numbers(x);
                 place = next;
             }
         }

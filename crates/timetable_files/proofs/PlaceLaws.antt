@@ -19,11 +19,11 @@ use Rattle.numbers.specs.declared.Reading.the-variants.{Value, Refused}
 use Rattle.network.specs.declared.LineRow.{LineRow}
 use Rattle.network.specs.Networks.{ends-listed}
 use Rattle.timetable.specs.Formats.{Format, done, field, here, Outcome, accepted, refused, _and-then_, placed-field, field-at, behind, read, ended, read-file, entries, Placed, placed}
-use Rattle.timetable.specs.NetworkFile.{Listed, line-fields, line-entry, line-bar, stations-format, lines-format, lines-part, count-part, headway-part, stations-part, network-format}
+use Rattle.timetable.specs.NetworkFile.{Listed, line-fields, line-entry, line-floor, stations-format, lines-format, lines-part, count-part, headway-part, stations-part, network-format}
 use Rattle.timetable.specs.NetworkFile.{network-of, unjoined, unjoined-fault, network-fault, unless-fault, only-stations, with-headway, with-lines}
 use Rattle.timetable.specs.EditsFile.{station-relation-entry}
 use Rattle.timetable.specs.Machine.{Timetable, nothing-placed}
-use Rattle.timetable.specs.TimetableFile.{StationVisit, Entries, visit-entry, visit-bar, relation-bar, visits-format, relations-format, timetable-format}
+use Rattle.timetable.specs.TimetableFile.{StationVisit, Entries, visit-entry, visit-floor, relation-floor, visits-format, relations-format, timetable-format}
 use Rattle.timetable.specs.TimetableFile.{visit-refusal, relation-refusal, enter-visit, enter-relation, entered, timetable-of}
 use Rattle.timetable.specs.InspectFile.{Inspection, Both, inspect-format, inspection, read-inspect}
 use Rattle.timetable.proofs.OutcomeLaws.{fault-taken, clash, behind-taken}
@@ -127,18 +127,18 @@ number-within lo hi file at h n next e = subst (Within (length file)) e (field-w
 unfoldable Placed-within : {A : Type 0} → ℕ → List (Placed A) → Type 0
 Placed-within end ps = T (every (λ p. leb (p .place) end) ps)
 
-entries-within : {A : Type 0} (entry : List ℕ → Format A) (bar-of : Placed A → List ℕ) (file : List ℕ) (k : ℕ) (bar : List ℕ) (at : ℕ) → at ≤ length file
-    → (ps : List (Placed A)) (next : ℕ) → read (entries (λ bar. placed (entry bar)) bar-of k bar) file at ≡ accepted ps next → Placed-within (length file) ps
+entries-within : {A : Type 0} (entry : List ℕ → Format A) (floor-of : Placed A → List ℕ) (file : List ℕ) (k : ℕ) (floor : List ℕ) (at : ℕ) → at ≤ length file
+    → (ps : List (Placed A)) (next : ℕ) → read (entries (λ floor. placed (entry floor)) floor-of k floor) file at ≡ accepted ps next → Placed-within (length file) ps
 unfolding entries read every Placed-within
-entries-within entry bar-of file zero bar at h ps next e = let z : ps ≡ [] = cc in rw z tt
-entries-within entry bar-of file (suc k) bar at h ps next e =
-    let (a, p, u, v) = then-taken (placed (entry bar)) (λ a. entries (λ bar. placed (entry bar)) bar-of k (bar-of a) and-then (λ rest. done (a ∷ rest))) file at ps next e in
-    let (rest, q, w, x) = then-taken (entries (λ bar. placed (entry bar)) bar-of k (bar-of a)) (λ rest. done (a ∷ rest)) file p ps next v in
-    let (b, r, y, t) = behind-taken (read (entry bar) file at) (λ a next. accepted (record { place = at; entry = a }) next) a p (sym (placed-read (entry bar) file at) ∙ u) in
+entries-within entry floor-of file zero floor at h ps next e = let z : ps ≡ [] = cc in rw z tt
+entries-within entry floor-of file (suc k) floor at h ps next e =
+    let (a, p, u, v) = then-taken (placed (entry floor)) (λ a. entries (λ floor. placed (entry floor)) floor-of k (floor-of a) and-then (λ rest. done (a ∷ rest))) file at ps next e in
+    let (rest, q, w, x) = then-taken (entries (λ floor. placed (entry floor)) floor-of k (floor-of a)) (λ rest. done (a ∷ rest)) file p ps next v in
+    let (b, r, y, t) = behind-taken (read (entry floor) file at) (λ a next. accepted (record { place = at; entry = a }) next) a p (sym (placed-read (entry floor) file at) ∙ u) in
     let z : ps ≡ a ∷ rest = cc in
     let s : record { place = at; entry = b } ≡ a = cc in
     rw z (every-cons (λ p. leb (p .place) (length file)) a rest (rw (← s) (true-T (leb at (length file)) (le-leb at (length file) h)))
-    (entries-within entry bar-of file k (bar-of a) p (next-within (placed (entry bar)) file at h a p u) rest q w))
+    (entries-within entry floor-of file k (floor-of a) p (next-within (placed (entry floor)) file at h a p u) rest q w))
 
 first-passes : {A : Type 0} (f g : A → Bool) (xs : List A) (x : A) → T (every g xs) → first f xs ≡ some x → T (g x)
 unfolding first every
@@ -163,7 +163,7 @@ lines-within file x next e =
     let l₃ = number-within 1 30 file p₂ l₂ h p₃ u₃ in
     let l₄ = number-within 0 32 file p₃ l₃ m p₄ u₄ in
     let z : record { stations = ss; headway = h; lines = ls } ≡ x = cc in
-    rw (← z) (entries-within line-fields line-bar file m (0 ∷ []) p₄ l₄ ls p₅ u₅)
+    rw (← z) (entries-within line-fields line-floor file m (0 ∷ []) p₄ l₄ ls p₅ u₅)
 
 -- the entries of a timetable
 
@@ -182,8 +182,8 @@ timetable-within file at h x next e =
     let l₂ = next-within (visits-format k) file p₁ l₁ vs p₂ u₂ in
     let l₃ = number-within 0 96 file p₂ l₂ m p₃ u₃ in
     let z : record { visits = vs; relations = rs } ≡ x = cc in (
-      rw (← z) (entries-within visit-entry visit-bar file k [] p₁ l₁ vs p₂ u₂),
-      rw (← z) (entries-within station-relation-entry relation-bar file m [] p₃ l₃ rs p₄ u₄),
+      rw (← z) (entries-within visit-entry visit-floor file k [] p₁ l₁ vs p₂ u₂),
+      rw (← z) (entries-within station-relation-entry relation-floor file m [] p₃ l₃ rs p₄ u₄),
     )
 
 -- entry by entry

@@ -11,7 +11,7 @@ use borrow.Author.Tests.{eq-eqb, ne-eqb}
 use Rattle.base.specs.Choice.{if_then_else_}
 use Rattle.base.proofs.Tests.{both}
 use Rattle.railway.specs.Ranges.{last-minute, station-ok}
-use Rattle.timetable.specs.Formats.{Format, done, field, here, Outcome, accepted, refused, _and-then_, field-at, behind, read, Range, _to_, least, bar-after, compared, row}
+use Rattle.timetable.specs.Formats.{Format, done, field, here, Outcome, accepted, refused, _and-then_, field-at, behind, read, Range, _to_, least, floor-after, compared, row}
 use Rattle.timetable.specs.TimetableFile.{StationVisit, visit-ranges, in-link-entry, out-link-entry, station-visit-of, visit-entry}
 use Rattle.fields.specs.between.Answers.{padded}
 use Rattle.fields.proofs.EntryLaws.{field-bounded, padded-at, field-on, field-stop, then-on, then-stop, then-taken, row-taken}
@@ -131,11 +131,11 @@ visit-made s t ns i o = refl
 -- the station and the train
 
 -- two numbers are the whole key
-pub bar-two : (s t a b : ℕ) → bar-after t (bar-after s (a ∷ b ∷ [])) ≡ []
-unfolding bar-after
-bar-two s t a b = go (eqb s a)
+pub floor-two : (s t a b : ℕ) → floor-after t (floor-after s (a ∷ b ∷ [])) ≡ []
+unfolding floor-after
+floor-two s t a b = go (eqb s a)
   where
-    go : (x : Bool) → bar-after t (if x then b ∷ [] else []) ≡ []
+    go : (x : Bool) → floor-after t (if x then b ∷ [] else []) ≡ []
     go true = refl
     go false = refl
 
@@ -146,63 +146,63 @@ abbrev behind-train : ℕ → ℕ → List ℕ → Format StationVisit
 behind-train s t left =
     row (1 to 8 ∷ 0 to last-minute ∷ 0 to 1 ∷ 0 to last-minute ∷ 0 to 1 ∷ []) left and-then (λ ns. done (t ∷ ns)) and-then (λ ns. done (s ∷ ns)) and-then behind-row
 
-module _ (bar file : List ℕ) (at : ℕ) where
-  pub station-stop : (k p : ℕ) → field-at (least 1 bar) 16 file at ≡ refused k p → read (visit-entry bar) file at ≡ refused k p
+module _ (floor file : List ℕ) (at : ℕ) where
+  pub station-stop : (k p : ℕ) → field-at (least 1 floor) 16 file at ≡ refused k p → read (visit-entry floor) file at ≡ refused k p
   unfolding visit-entry visit-ranges row compared _and-then_
-  station-stop k p e = field-stop (least 1 bar) 16 _ file at k p e
+  station-stop k p e = field-stop (least 1 floor) 16 _ file at k p e
 
-  module _ (s next : ℕ) (e : field-at (least 1 bar) 16 file at ≡ accepted s next) where
-    station-then : read (visit-entry bar) file at ≡ read (field (least 1 (bar-after s bar)) 9999 (λ t. behind-train s t (bar-after t (bar-after s bar)))) file next
+  module _ (s next : ℕ) (e : field-at (least 1 floor) 16 file at ≡ accepted s next) where
+    station-then : read (visit-entry floor) file at ≡ read (field (least 1 (floor-after s floor)) 9999 (λ t. behind-train s t (floor-after t (floor-after s floor)))) file next
     unfolding visit-entry visit-ranges row compared _and-then_
-    station-then = field-on (least 1 bar) 16 _ file at s next e
+    station-then = field-on (least 1 floor) 16 _ file at s next e
 
-    pub train-stop : (k p : ℕ) → field-at (least 1 (bar-after s bar)) 9999 file next ≡ refused k p → read (visit-entry bar) file at ≡ refused k p
-    train-stop k p q = station-then ∙ field-stop (least 1 (bar-after s bar)) 9999 (λ t. behind-train s t (bar-after t (bar-after s bar))) file next k p q
+    pub train-stop : (k p : ℕ) → field-at (least 1 (floor-after s floor)) 9999 file next ≡ refused k p → read (visit-entry floor) file at ≡ refused k p
+    train-stop k p q = station-then ∙ field-stop (least 1 (floor-after s floor)) 9999 (λ t. behind-train s t (floor-after t (floor-after s floor))) file next k p q
 
 module _ (a b : ℕ) (file : List ℕ) (at s next : ℕ) (e : field-at (least 1 (a ∷ b ∷ [])) 16 file at ≡ accepted s next) where
   abbrev left : List ℕ
-  left = bar-after s (a ∷ b ∷ [])
+  left = floor-after s (a ∷ b ∷ [])
 
   pub train-then : (t later : ℕ) → field-at (least 1 left) 9999 file next ≡ accepted t later
       → read (visit-entry (a ∷ b ∷ [])) file at ≡ read (visit-values s t) file later
   unfolding visit-values value-ranges row compared _and-then_
   train-then t later q =
-      station-then (a ∷ b ∷ []) file at s next e ∙ field-on (least 1 left) 9999 (λ t. behind-train s t (bar-after t left)) file next t later q
-      ∙ ap (λ (l : List ℕ). read (behind-train s t l) file later) (bar-two s t a b)
+      station-then (a ∷ b ∷ []) file at s next e ∙ field-on (least 1 left) 9999 (λ t. behind-train s t (floor-after t left)) file next t later q
+      ∙ ap (λ (l : List ℕ). read (behind-train s t l) file later) (floor-two s t a b)
 
 -- zeros are below every entry, as no entry is
 pub none-before : (file : List ℕ) (at : ℕ) → read (visit-entry []) file at ≡ read (visit-entry (0 ∷ 0 ∷ [])) file at
-unfolding least bar-after
+unfolding least floor-after
 none-before file at = go (field-at 1 16 file at) refl
   where
     go : (o : Outcome ℕ) → field-at 1 16 file at ≡ o → read (visit-entry []) file at ≡ read (visit-entry (0 ∷ 0 ∷ [])) file at
     go (refused k p) e = station-stop [] file at k p e ∙ sym (station-stop (0 ∷ 0 ∷ []) file at k p e)
     go (accepted s next) e =
-        let z : bar-after s (0 ∷ 0 ∷ []) ≡ [] = rw (ne-eqb s 0 (λ z. omega (arith, z, field-bounded 1 16 file at s next e .0))) in
+        let z : floor-after s (0 ∷ 0 ∷ []) ≡ [] = rw (ne-eqb s 0 (λ z. omega (arith, z, field-bounded 1 16 file at s next e .0))) in
         station-then [] file at s next e
-        ∙ sym (ap (λ (l : List ℕ). read (field (least 1 l) 9999 (λ t. behind-train s t (bar-after t l))) file next) z)
+        ∙ sym (ap (λ (l : List ℕ). read (field (least 1 l) 9999 (λ t. behind-train s t (floor-after t l))) file next) z)
         ∙ sym (station-then (0 ∷ 0 ∷ []) file at s next e)
 
 -- the station of an accepted entry is one of 1..16
 
-least-low : (bar : List ℕ) → 1 ≤ least 1 bar
+least-low : (floor : List ℕ) → 1 ≤ least 1 floor
 unfolding least
 least-low [] = omega arith
 least-low (b ∷ []) = omega arith
 least-low (b ∷ c ∷ bs) = omega arith
 
-pub placed-station : (bar file : List ℕ) (at s next : ℕ) → field-at (least 1 bar) 16 file at ≡ accepted s next → T (station-ok (record { 0 = s }))
-placed-station bar file at s next e =
-    let b = field-bounded (least 1 bar) 16 file at s next e in
-    let l = least-low bar in
+pub placed-station : (floor file : List ℕ) (at s next : ℕ) → field-at (least 1 floor) 16 file at ≡ accepted s next → T (station-ok (record { 0 = s }))
+placed-station floor file at s next e =
+    let b = field-bounded (least 1 floor) 16 file at s next e in
+    let l = least-low floor in
     both (leb 1 s) (leb s 16) (le→leb 1 s (omega (arith, b .0))) (le→leb s 16 (b .1))
 
-pub visit-station : (bar file : List ℕ) (at : ℕ) (e : StationVisit) (next : ℕ) → read (visit-entry bar) file at ≡ accepted e next → T (station-ok (e .station))
+pub visit-station : (floor file : List ℕ) (at : ℕ) (e : StationVisit) (next : ℕ) → read (visit-entry floor) file at ≡ accepted e next → T (station-ok (e .station))
 unfolding visit-entry visit-ranges read station-visit-of
-visit-station bar file at e next q =
-    let (ns, p, u, v) = then-taken (row visit-ranges bar) (λ ns. in-link-entry and-then (λ i. out-link-entry and-then (λ o. done (station-visit-of ns i o)))) file at e next q in
+visit-station floor file at e next q =
+    let (ns, p, u, v) = then-taken (row visit-ranges floor) (λ ns. in-link-entry and-then (λ i. out-link-entry and-then (λ o. done (station-visit-of ns i o)))) file at e next q in
     let (i, p2, u2, v2) = then-taken in-link-entry (λ i. out-link-entry and-then (λ o. done (station-visit-of ns i o))) file p e next v in
     let (o, p3, u3, v3) = then-taken out-link-entry (λ o. done (station-visit-of ns i o)) file p2 e next v2 in
-    let (n, p4, ms, a, b, d) = row-taken _ _ bar file at ns p u in
+    let (n, p4, ms, a, b, d) = row-taken _ _ floor file at ns p u in
     let z : station-visit-of ns i o ≡ e = cc in
-    rw (← z, d) (placed-station bar file at n p4 a)
+    rw (← z, d) (placed-station floor file at n p4 a)

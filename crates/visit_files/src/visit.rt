@@ -8,7 +8,6 @@ ghost use Rattle.timetable.specs.Formats.{read};
 ghost use Rattle.timetable.specs.TimetableFile.{in-link-entry, out-link-entry, visit-entry};
 ghost use Rattle.fields.specs.between.Answers.{ranges-of, in-use};
 ghost use Rattle.visit_files.specs.between.Answers.{in-outcome, out-fields, out-outcome, value-ranges, visit-in, visit-values, visit-outcome};
-use fields::bar;
 use fields::field::FieldRead;
 use fields::field::Numbers;
 use fields::field::Span;
@@ -16,6 +15,7 @@ use fields::field::Spans;
 use fields::field::field;
 use fields::field::narrow;
 use fields::field::row;
+use fields::floor;
 use railway::minute::Minute;
 use railway::sorts::Line;
 use railway::sorts::Station;
@@ -164,7 +164,7 @@ fn visit_values(file: &[u8], at: usize, s: u16, t: u16) -> VisitRead
 }
 
 // "rising by s and t alone"
-fn visit_bar(s: Station, t: Train) -> Numbers
+fn visit_floor(s: Station, t: Train) -> Numbers
     ensures { λ r. ⌜ in-use r ≡ s .0 ∷ t .0 ∷ [] ⌝ }
 {
     Numbers {
@@ -178,10 +178,10 @@ fn visit_bar(s: Station, t: Train) -> Numbers
 pub fn visit_entry(file: &[u8], at: usize, station: Station, train: Train) -> VisitRead
     ensures { λ r. ⌜ visit-outcome r ≡ read (visit-entry (station .0 ∷ train .0 ∷ [])) (now (file .entry)) at ⌝ }
 {
-    let bar = visit_bar(station, train);
-    let s = bar::compared(file, at, 1, 16, bar);
+    let floor = visit_floor(station, train);
+    let s = floor::compared(file, at, 1, 16, floor);
     if s.accepted {
-        let t = bar::compared(file, s.place, 1, 9999, bar::bar_after(bar, s.value));
+        let t = floor::compared(file, s.place, 1, 9999, floor::floor_after(floor, s.value));
         if t.accepted {
             return visit_values(file, t.place, s.value, t.value);
         }

@@ -10,7 +10,7 @@ use Rattle.fields.specs.declared.field.Span.{Span}
 use Rattle.fields.specs.declared.field.Spans.{Spans}
 use Rattle.fields.specs.declared.field.RowRead.{RowRead}
 use Rattle.fields.specs.declared.field.Numbers.{Numbers}
-use Rattle.fields.specs.declared.bar.Number.{Number}
+use Rattle.fields.specs.declared.floor.Number.{Number}
 
 -- document 01's number and values for each case
 unfoldable pub field-outcome : FieldRead → Outcome ℕ

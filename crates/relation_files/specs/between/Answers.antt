@@ -10,14 +10,14 @@ use Rattle.relation_files.specs.declared.reading.RelationRead.{RelationR
 
 -- a relation entry behind its station, kind, interval and count
 unfoldable pub relation-trains : ℕ → ℕ → ℕ → ℕ → List ℕ → Format StationRelation
-relation-trains s kind i k bar =
-    trains-format (not (eqb kind 3)) k 0 bar
+relation-trains s kind i k floor =
+    trains-format (not (eqb kind 3)) k 0 floor
     and-then (λ ts. done (relation-of kind i ts))
     and-then (λ r. done (record { station = record { 0 = s }; relation = r }))
 
 -- behind its station and kind
 unfoldable pub relation-fields : ℕ → ℕ → List ℕ → Format StationRelation
-relation-fields s kind bar = compared 0 240 bar (λ i left. compared 2 (most-trains kind) left (λ k left. relation-trains s kind i k left))
+relation-fields s kind floor = compared 0 240 floor (λ i left. compared 2 (most-trains kind) left (λ k left. relation-trains s kind i k left))
 
 -- document 01's number and values for each case
 unfoldable pub relation-outcome : RelationRead → Outcome StationRelation

@@ -13,7 +13,7 @@ use Rattle.network.specs.declared.LineRow.{LineRow}
 use Rattle.network.specs.declared.Network.{Network}
 use Rattle.network.specs.Networks.{blank-line, ends-listed}
 use Rattle.timetable.specs.Formats.{Outcome, accepted, refused, read, entries, Placed}
-use Rattle.timetable.specs.NetworkFile.{unjoined-fault, line-fields, line-entry, line-bar, lines-format}
+use Rattle.timetable.specs.NetworkFile.{unjoined-fault, line-fields, line-entry, line-floor, lines-format}
 use Rattle.network_files.specs.declared.draft.LinesRead.{LinesRead}
 use Rattle.timetable.specs.declared.Fault.{Fault}
 use Rattle.fields.specs.between.Answers.{padded}
@@ -26,7 +26,7 @@ use Rattle.network_files.proofs.draft.lines.Tie as tie
 
 -- what is left to read: k rows behind the number before
 abbrev left-at : List ℕ → ℕ → ℕ → ℕ → Outcome (List (Placed LineRow))
-left-at file k before place = read (entries line-entry line-bar k (before ∷ [])) file place
+left-at file k before place = read (entries line-entry line-floor k (before ∷ [])) file place
 
 abbrev rows-of : List (Placed LineRow) → List LineRow
 rows-of ls = map (λ l. l .entry) ls
@@ -40,19 +40,19 @@ lines-done place rows fault = record { accepted = true; refusal = 0; place = pla
 module _ (file : List ℕ) (n i before place : ℕ) where
   taken : i < n → (r : LineRow) (next : ℕ) → read (line-fields (before ∷ [])) file place ≡ accepted r next
       → left-at file (n - i) before place ≡ prefixed (record { place = place; entry = r } ∷ []) (left-at file (n - (i + 1)) (r .line .0) next)
-  unfolding line-bar line-entry
+  unfolding line-floor line-entry
   taken h r next e =
       let m : n - i ≡ suc (n - (i + 1)) = omega arith in
-      rw m (entries-next line-entry line-bar (before ∷ []) file place (n - (i + 1)) (record { place = place; entry = r }) next (placed-some (line-fields (before ∷ [])) file place r next e))
+      rw m (entries-next line-entry line-floor (before ∷ []) file place (n - (i + 1)) (record { place = place; entry = r }) next (placed-some (line-fields (before ∷ [])) file place r next e))
 
   stopped : i < n → (k p : ℕ) → read (line-fields (before ∷ [])) file place ≡ refused k p → left-at file (n - i) before place ≡ refused k p
   unfolding line-entry
   stopped h k p e =
       let m : n - i ≡ suc (n - (i + 1)) = omega arith in
-      rw m (entries-stop line-entry line-bar (before ∷ []) file place (n - (i + 1)) k p (placed-none (line-fields (before ∷ [])) file place k p e))
+      rw m (entries-stop line-entry line-floor (before ∷ []) file place (n - (i + 1)) k p (placed-none (line-fields (before ∷ [])) file place k p e))
 
   ended : n ≤ i → left-at file (n - i) before place ≡ accepted [] place
-  ended h = let m : n - i ≡ 0 = omega arith in rw m (entries-over line-entry line-bar (before ∷ []) file place)
+  ended h = let m : n - i ≡ 0 = omega arith in rw m (entries-over line-entry line-floor (before ∷ []) file place)
 
 abbrev Inv-loop : tie.InvT-loop
 Inv-loop file at count known n rows₀ fault₀ place₀ before₀ i₀ rows fault place before i =

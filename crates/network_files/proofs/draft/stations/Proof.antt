@@ -11,7 +11,7 @@ use borrow.Author.Needs.{needs}
 use Rattle.network.specs.Networks.{blank-station}
 use Rattle.network.specs.declared.StationRow.{StationRow}
 use Rattle.timetable.specs.Formats.{Outcome, accepted, refused, read, entries}
-use Rattle.timetable.specs.NetworkFile.{station-entry, station-bar, stations-format}
+use Rattle.timetable.specs.NetworkFile.{station-entry, station-floor, stations-format}
 use Rattle.network_files.specs.declared.draft.StationsRead.{StationsRead}
 use Rattle.fields.specs.between.Answers.{padded}
 use Rattle.network_files.specs.Answers.{stations-read, station-outcome}
@@ -21,7 +21,7 @@ use Rattle.network_files.proofs.draft.stations.Tie as tie
 
 -- what is left to read: k rows behind the number before
 abbrev left-at : List ℕ → ℕ → ℕ → ℕ → Outcome (List StationRow)
-left-at file k before place = read (entries station-entry station-bar k (before ∷ [])) file place
+left-at file k before place = read (entries station-entry station-floor k (before ∷ [])) file place
 
 abbrev stations-done : ℕ → List StationRow → StationsRead
 stations-done place rows = record { accepted = true; refusal = 0; place = place; rows = rows }
@@ -29,18 +29,18 @@ stations-done place rows = record { accepted = true; refusal = 0; place = place;
 module _ (file : List ℕ) (n i before place : ℕ) where
   taken : i < n → (r : StationRow) (next : ℕ) → read (station-entry (before ∷ [])) file place ≡ accepted r next
       → left-at file (n - i) before place ≡ prefixed (r ∷ []) (left-at file (n - (i + 1)) (r .station .0) next)
-  unfolding station-bar
+  unfolding station-floor
   taken h r next e =
       let m : n - i ≡ suc (n - (i + 1)) = omega arith in
-      rw m (entries-next station-entry station-bar (before ∷ []) file place (n - (i + 1)) r next e)
+      rw m (entries-next station-entry station-floor (before ∷ []) file place (n - (i + 1)) r next e)
 
   stopped : i < n → (k p : ℕ) → read (station-entry (before ∷ [])) file place ≡ refused k p → left-at file (n - i) before place ≡ refused k p
   stopped h k p e =
       let m : n - i ≡ suc (n - (i + 1)) = omega arith in
-      rw m (entries-stop station-entry station-bar (before ∷ []) file place (n - (i + 1)) k p e)
+      rw m (entries-stop station-entry station-floor (before ∷ []) file place (n - (i + 1)) k p e)
 
   ended : n ≤ i → left-at file (n - i) before place ≡ accepted [] place
-  ended h = let m : n - i ≡ 0 = omega arith in rw m (entries-over station-entry station-bar (before ∷ []) file place)
+  ended h = let m : n - i ≡ 0 = omega arith in rw m (entries-over station-entry station-floor (before ∷ []) file place)
 
 abbrev Inv-loop : tie.InvT-loop
 Inv-loop file at count n rows₀ place₀ before₀ i₀ rows place before i = (i ≤ n) × ((s : SoFar (left-at file n 0 at) i (left-at file (n - i) before place)) × (rows ≡ padded 16 blank-station (s .elements)))
@@ -52,7 +52,7 @@ empty-station-requires : tie.Need-empty-station-requires Inv-loop μ-loop
 empty-station-requires c κs = search needs
 
 loop-holds : tie.Need-loop-holds Inv-loop μ-loop
-unfolding padded start station-bar
+unfolding padded start station-floor
 loop-holds c =
     let b = c .empty-station .ensures in
     let m : c .before .before .args .count - 0 ≡ c .before .before .args .count = omega arith in

@@ -5,7 +5,7 @@ use mathlib.Core.Path.{_≡_, refl, sym, _∙_, ap}
 use mathlib.Core.List.{List}
 use native.Mathlib.Omega.{arith}
 use denote.Ref.{now}
-use Rattle.timetable.specs.Formats.{read, field-at, least, bar-after, accepted}
+use Rattle.timetable.specs.Formats.{read, field-at, least, floor-after, accepted}
 use Rattle.timetable.specs.EditsFile.{most-trains, relation-of}
 use Rattle.fields.specs.between.Answers.{padded}
 use Rattle.fields.proofs.EntryLaws.{row-value, row-refusal, field-bounded}
@@ -13,7 +13,7 @@ use Rattle.railway.specs.declared.relation.Relation.{Relation}
 use Rattle.railway.specs.declared.edit.StationRelation.{StationRelation}
 use Rattle.fields.specs.between.Answers.{in-use, number-read}
 use Rattle.relation_files.specs.between.Answers.{relation-trains, relation-fields, relation-outcome}
-use Rattle.fields.proofs.BarLaws.{number-value, number-refusal}
+use Rattle.fields.proofs.FloorLaws.{number-value, number-refusal}
 use Rattle.relation_files.proofs.ReadingLaws.{relation-padded, trains-stop, trains-some, interval-stop, count-stop, count-then, place-stop, kind-stop, kind-then}
 use borrow.Author.Needs.{needs}
 use Rattle.relation_files.proofs.reading.relation_trains.Statement.{statement}
@@ -38,7 +38,7 @@ returns c h j =
     let q = c .relation-from .ensures (omega arith) ∙ ap (relation-of (s .kind) (s .interval)) v ∙ relation-padded (s .kind) (s .interval) ns in
     ap (λ (x : ℕ). accepted (record { station = record { 0 = x }; relation = c .relation-from .result }) (r .result .place)) (c .before .narrow .ensures ∙ a)
     ∙ ap (λ (x : Relation). accepted (record { station = record { 0 = s .s }; relation = x }) (r .result .place)) q
-    ∙ sym (trains-some (s .s) (s .kind) (s .interval) (s .count) (in-use (s .bar)) (now (s .file)) (s .at) ns (r .result .place) o)
+    ∙ sym (trains-some (s .s) (s .kind) (s .interval) (s .count) (in-use (s .floor)) (now (s .file)) (s .at) ns (r .result .place) o)
 
 returns-2 : tie.Need-returns-2
 unfolding relation-outcome
@@ -46,7 +46,7 @@ returns-2 c h j =
     let s = c .before .before .before .args in
     let r = c .before .trains in
     let o = row-refusal _ (r .result) (r .ensures) (c .if1 .left) in
-    sym (trains-stop (s .s) (s .kind) (s .interval) (s .count) (in-use (s .bar)) (now (s .file)) (s .at) (r .result .refusal) (r .result .place) o)
+    sym (trains-stop (s .s) (s .kind) (s .interval) (s .count) (in-use (s .floor)) (now (s .file)) (s .at) (r .result .refusal) (r .result .place) o)
 
 pub relation-trains-spec : {M : Type 1} → statement M
 relation-trains-spec =

@@ -8,34 +8,34 @@ use native.Mathlib.Omega.{arith}
 use lib.ListN.{set}
 use denote.Ref.{now}
 use borrow.Author.Needs.{needs}
-use Rattle.timetable.specs.Formats.{Outcome, accepted, refused, field-at, least, bar-after, read}
+use Rattle.timetable.specs.Formats.{Outcome, accepted, refused, field-at, least, floor-after, read}
 use Rattle.timetable.specs.EditsFile.{trains-format}
 use Rattle.fields.specs.declared.field.RowRead.{RowRead}
 use Rattle.fields.specs.between.Answers.{padded, row-read}
 use Rattle.fields.proofs.ReadLaws.{prefixed, SoFar, start, turn, stop, over, padded-next}
 use Rattle.fields.specs.between.Answers.{in-use, number-read}
-use Rattle.fields.proofs.BarLaws.{number-value, number-refusal}
+use Rattle.fields.proofs.FloorLaws.{number-value, number-refusal}
 use Rattle.relation_files.proofs.ReadingLaws.{least-train, train-taken, train-refused, trains-over}
 use Rattle.relation_files.proofs.reading.trains.Statement.{statement}
 use Rattle.relation_files.proofs.reading.trains.Tie as tie
 
 -- what is left to read: k trains behind the one before
 abbrev left-at : List ℕ → Bool → ℕ → ℕ → List ℕ → ℕ → Outcome (List ℕ)
-left-at file rise k before bar place = read (trains-format rise k before bar) file place
+left-at file rise k before floor place = read (trains-format rise k before floor) file place
 
 abbrev trains-done : ℕ → List ℕ → RowRead
 trains-done place values = record { accepted = true; refusal = 0; place = place; values = values }
 
-module _ (file : List ℕ) (rise : Bool) (n i before place : ℕ) (bar : List ℕ) where
-  taken : i < n → (t next : ℕ) → field-at (least (least-train rise before) bar) 9999 file place ≡ accepted t next
-      → left-at file rise (n - i) before bar place ≡ prefixed (t ∷ []) (left-at file rise (n - (i + 1)) t (bar-after t bar) next)
-  taken h t next e = let m : n - i ≡ suc (n - (i + 1)) = omega arith in rw m (train-taken rise before bar file place (n - (i + 1)) t next e)
+module _ (file : List ℕ) (rise : Bool) (n i before place : ℕ) (floor : List ℕ) where
+  taken : i < n → (t next : ℕ) → field-at (least (least-train rise before) floor) 9999 file place ≡ accepted t next
+      → left-at file rise (n - i) before floor place ≡ prefixed (t ∷ []) (left-at file rise (n - (i + 1)) t (floor-after t floor) next)
+  taken h t next e = let m : n - i ≡ suc (n - (i + 1)) = omega arith in rw m (train-taken rise before floor file place (n - (i + 1)) t next e)
 
-  stopped : i < n → (k p : ℕ) → field-at (least (least-train rise before) bar) 9999 file place ≡ refused k p → left-at file rise (n - i) before bar place ≡ refused k p
-  stopped h k p e = let m : n - i ≡ suc (n - (i + 1)) = omega arith in rw m (train-refused rise before bar file place (n - (i + 1)) k p e)
+  stopped : i < n → (k p : ℕ) → field-at (least (least-train rise before) floor) 9999 file place ≡ refused k p → left-at file rise (n - i) before floor place ≡ refused k p
+  stopped h k p e = let m : n - i ≡ suc (n - (i + 1)) = omega arith in rw m (train-refused rise before floor file place (n - (i + 1)) k p e)
 
-  ended : n ≤ i → left-at file rise (n - i) before bar place ≡ accepted [] place
-  ended h = let m : n - i ≡ 0 = omega arith in rw m (trains-over rise before bar file place)
+  ended : n ≤ i → left-at file rise (n - i) before floor place ≡ accepted [] place
+  ended h = let m : n - i ≡ 0 = omega arith in rw m (trains-over rise before floor file place)
 
 abbrev Inv-loop : tie.InvT-loop
 Inv-loop file at rise count values₀ place₀ before₀ left₀ i₀ values place before left i =
@@ -63,8 +63,8 @@ mul-values c = omega (arith, c .before .before .before .before .before .before .
 array-write-values : tie.Need-array-write-values Inv-loop μ-loop
 array-write-values c = omega (arith, c .before .before .before .before .before .before .pre)
 
-bar-after-requires : tie.Need-bar-after-requires Inv-loop μ-loop
-bar-after-requires c κs = search needs
+floor-after-requires : tie.Need-floor-after-requires Inv-loop μ-loop
+floor-after-requires c κs = search needs
 
 refused-row-requires : tie.Need-refused-row-requires Inv-loop μ-loop
 refused-row-requires c κs = search needs
@@ -94,7 +94,7 @@ loop-again c =
     let e = m .ensures ∙ ap (λ (lo : ℕ). number-read (field-at (least lo (in-use (l .left))) 9999 (now (s .file)) (l .place))) (c .before .before .before .least-train .ensures) in
     let o = number-value _ (m .result) e (c .before .if1 .taken) in
     let q = taken (now (s .file)) (s .rise) (s .count) (l .i) (l .before) (l .place) (in-use (l .left)) (omega arith) (m .result .value) (m .result .place) o
-    ∙ ap (λ (x : List ℕ). prefixed (m .result .value ∷ []) (left-at (now (s .file)) (s .rise) (s .count - (l .i + 1)) (m .result .value) x (m .result .place))) (sym (c .bar-after .ensures)) in
+    ∙ ap (λ (x : List ℕ). prefixed (m .result .value ∷ []) (left-at (now (s .file)) (s .rise) (s .count - (l .i + 1)) (m .result .value) x (m .result .place))) (sym (c .floor-after .ensures)) in
     let f = l .inv .1 .0 in (
       omega arith,
       (
@@ -116,4 +116,4 @@ pub trains-spec : {M : Type 1} → statement M
 trains-spec =
     tie.close
     (tie.spec Inv-loop μ-loop loop-holds least-train-requires compared-requires mul-values array-write-values
-    bar-after-requires refused-row-requires returns add-i loop-less loop-again returns-2)
+    floor-after-requires refused-row-requires returns add-i loop-less loop-again returns-2)

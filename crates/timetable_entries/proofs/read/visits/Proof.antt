@@ -8,7 +8,7 @@ use native.Mathlib.Omega.{arith}
 use lib.ListN.{length}
 use denote.Ref.{now}
 use borrow.Author.Needs.{needs}
-use Rattle.timetable.specs.TimetableFile.{visit-entry, visit-bar, visits-format}
+use Rattle.timetable.specs.TimetableFile.{visit-entry, visit-floor, visits-format}
 use Rattle.visit_files.specs.between.Answers.{visit-outcome}
 use Rattle.visit_files.proofs.VisitLaws.{station-visit, none-before, visit-station}
 use Rattle.timetable_entries.specs.declared.read.EntriesRead.{EntriesRead}
@@ -20,7 +20,7 @@ use Rattle.timetable_entries.proofs.read.visits.Tie as tie
 
 abbrev Inv-loop : tie.InvT-loop
 Inv-loop file at count n sheet₀ place₀ station₀ train₀ first₀ i₀ sheet place station train first i =
-    (i ≤ count) × ((length sheet ≡ 8192) × Reached visit-entry visit-bar file (visit-step n) count at (progress sheet₀ first₀) i (station .0 ∷ train .0 ∷ []) place (progress sheet first))
+    (i ≤ count) × ((length sheet ≡ 8192) × Reached visit-entry visit-floor file (visit-step n) count at (progress sheet₀ first₀) i (station .0 ∷ train .0 ∷ []) place (progress sheet first))
 
 abbrev μ-loop : tie.MeasureT-loop
 μ-loop file at count n sheet₀ place₀ station₀ train₀ first₀ i₀ sheet place station train first i = count - i
@@ -28,8 +28,8 @@ abbrev μ-loop : tie.MeasureT-loop
 loop-holds : tie.Need-loop-holds Inv-loop μ-loop
 loop-holds c =
     let s = c .before .before .args in
-    let e = same-left visit-entry visit-bar (now (s .file)) (0 ∷ 0 ∷ []) (none-before (now (s .file))) (s .count) (s .at) in
-    (omega arith, (c .before .before .pre .0, reached-first visit-entry visit-bar (now (s .file)) (visit-step (s .n)) (s .count) (s .at) (progress (now (s .sheet)) (s .fault)) (0 ∷ 0 ∷ []) e))
+    let e = same-left visit-entry visit-floor (now (s .file)) (0 ∷ 0 ∷ []) (none-before (now (s .file))) (s .count) (s .at) in
+    (omega arith, (c .before .before .pre .0, reached-first visit-entry visit-floor (now (s .file)) (visit-step (s .n)) (s .count) (s .at) (progress (now (s .sheet)) (s .fault)) (0 ∷ 0 ∷ []) e))
 
 visit-entry-requires : tie.Need-visit-entry-requires Inv-loop μ-loop
 visit-entry-requires c κs = search needs
@@ -50,7 +50,7 @@ returns c =
     let l = c .before .before .before .before .before .before .loop in
     let g = c .before .before .found .given in
     let o = sym (c .before .before .before .before .visit-entry .ensures) ∙ ap visit-outcome (g .1) in
-    let q = reached-stop visit-entry visit-bar (now (s .file)) (visit-step (s .n)) (s .count) (s .at) (progress (now (s .sheet)) (s .fault)) (l .i) (l .station .0 ∷ l .train .0 ∷ []) (l .place) (progress (l .sheet) (l .first)) (l .inv .1 .1)
+    let q = reached-stop visit-entry visit-floor (now (s .file)) (visit-step (s .n)) (s .count) (s .at) (progress (now (s .sheet)) (s .fault)) (l .i) (l .station .0 ∷ l .train .0 ∷ []) (l .place) (progress (l .sheet) (l .first)) (l .inv .1 .1)
     (omega arith) (g .0 .0) (g .0 .1 .0) o in (
       c .refused-entries .ensures ∙ q,
       λ t. absurd (false≢true (sym (ap (λ (x : EntriesRead). x .accepted) (c .refused-entries .ensures)) ∙ t)),
@@ -75,14 +75,14 @@ loop-less : tie.Need-loop-less Inv-loop μ-loop
 loop-less c = omega arith
 
 loop-again : tie.Need-loop-again Inv-loop μ-loop
-unfolding visit-bar visit-outcome
+unfolding visit-floor visit-outcome
 loop-again c =
     let s = c .before .before .before .before .before .before .before .before .before .before .before .before .args in
     let l = c .before .before .before .before .before .before .before .before .before .loop in
     let g = c .before .before .before .before .before .found2 .given in
     let o = sym (c .before .before .before .before .before .before .before .visit-entry .ensures) ∙ ap visit-outcome (g .1) in
     let h = c .before .before .enter-visit in
-    let q = reached-next visit-entry visit-bar (now (s .file)) (visit-step (s .n)) (s .count) (s .at) (progress (now (s .sheet)) (s .fault)) (l .i) (l .station .0 ∷ l .train .0 ∷ []) (l .place) (progress (l .sheet) (l .first)) (l .inv .1 .1)
+    let q = reached-next visit-entry visit-floor (now (s .file)) (visit-step (s .n)) (s .count) (s .at) (progress (now (s .sheet)) (s .fault)) (l .i) (l .station .0 ∷ l .train .0 ∷ []) (l .place) (progress (l .sheet) (l .first)) (l .inv .1 .1)
     (omega arith) (station-visit (g .0 .0) (g .0 .1 .0) (g .0 .1 .1 .0)) (g .0 .1 .1 .1 .0) (g .0 .0 .0 ∷ g .0 .1 .0 .0 ∷ []) _ o refl (h .ensures) in
     (omega arith, (h .kept .0 ∙ l .inv .1 .0, q))
 
@@ -94,7 +94,7 @@ unfolding visits-format answered
 returns-2 c =
     let s = c .before .before .before .before .args in
     let l = c .before .loop in
-    let (a, b) = reached-end visit-entry visit-bar (now (s .file)) (visit-step (s .n)) (s .count) (s .at) (progress (now (s .sheet)) (s .fault)) (l .i) (l .station .0 ∷ l .train .0 ∷ []) (l .place) (progress (l .sheet) (l .first)) (l .inv .1 .1) (omega arith) in
+    let (a, b) = reached-end visit-entry visit-floor (now (s .file)) (visit-step (s .n)) (s .count) (s .at) (progress (now (s .sheet)) (s .fault)) (l .i) (l .station .0 ∷ l .train .0 ∷ []) (l .place) (progress (l .sheet) (l .first)) (l .inv .1 .1) (omega arith) in
     (a, λ t. b)
 
 pub visits-spec : {M : Type 1} → statement M

@@ -1,4 +1,4 @@
--- `builder::tell_against` meets its contract. The loop's invariant: what is left to put is t with the trains
+-- `builder::list_against` meets its contract. The loop's invariant: what is left to put is t with the trains
 -- from index i on. Assumes nothing.
 use native.Mathlib.Omega.{arith}
 use borrow.Author.Needs.{needs}
@@ -13,8 +13,8 @@ use Rattle.builder.specs.between.Builder.{against}
 use Rattle.builder.specs.between.Builder.{visit-most}
 use Rattle.builder.proofs.FindingsPut.{Left, left-start, left-on, left-end}
 use Rattle.builder.proofs.BuildLaws.{against-next, against-none}
-use Rattle.builder.proofs.tell_against.Statement.{statement}
-use Rattle.builder.proofs.tell_against.Tie as tie
+use Rattle.builder.proofs.list_against.Statement.{statement}
+use Rattle.builder.proofs.list_against.Tie as tie
 
 abbrev Inv-loop : tie.InvT-loop
 Inv-loop out₀ at there from here n s rule t v k to₀ i₀ out to i = (to ≤ at + visit-most) × (to ≤ at + 4 * i) × (length out ≡ length out₀) × Left at (against n (table-in here) s rule (entry t v) (drop from (table-in there .visits))) out₀ to (against n (table-in here) s rule (entry t v) (drop i (table-in there .visits))) out
@@ -40,8 +40,8 @@ visit-in-requires c κs = search needs
 does-clash-requires : tie.Need-does-clash-requires Inv-loop μ-loop
 does-clash-requires c κs = search needs
 
-tell-requires : tie.Need-tell-requires Inv-loop μ-loop
-tell-requires c κs = omega arith
+finding-requires : tie.Need-finding-requires Inv-loop μ-loop
+finding-requires c κs = omega arith
 
 add-i : tie.Need-add-i Inv-loop μ-loop
 add-i c = omega arith
@@ -56,7 +56,7 @@ loop-again c =
     let k = c .before .before .before .before .before .before .before .before .before .before .visit-count in
     let same = entry-parts _ _ _ (c .before .before .before .before .before .before .train-in .ensures) (c .before .before .before .before .before .visit-in .ensures) ∙ entry-of _ _ _ (c .before .before .before .before .before .before .before .entry-record .ensures) in
     let next = against-next (s .n) (table-in (now (s .here))) (s .s) (s .rule) (entry (s .t) (s .v)) (now (s .there)) (l .i) (k .result) (k .ensures .0) (c .before .before .before .before .before .before .before .before .loop-test .taken) (c .before .before .before .before .before .before .train-in .result) (c .before .before .before .before .before .visit-in .result) (c .before .before .before .before .does-clash .result) same (c .before .before .before .before .does-clash .ensures) in
-    (omega (arith, c .before .before .tell .ensures .2, k .ensures .1), omega (arith, c .before .before .tell .ensures .2), omega (arith, c .before .before .tell .kept .0), left-on (s .at) _ (now (s .out)) (l .to) (c .before .before .tell .result) 4 _ _ _ (l .out) _ next (l .inv .3) (c .before .before .tell .ensures))
+    (omega (arith, c .before .before .finding .ensures .2, k .ensures .1), omega (arith, c .before .before .finding .ensures .2), omega (arith, c .before .before .finding .kept .0), left-on (s .at) _ (now (s .out)) (l .to) (c .before .before .finding .result) 4 _ _ _ (l .out) _ next (l .inv .3) (c .before .before .finding .ensures))
 
 same-length : tie.Need-same-length Inv-loop μ-loop
 same-length c = omega arith
@@ -68,8 +68,8 @@ returns c =
     let k = c .before .before .visit-count in
     left-end (s .at) _ (now (s .out)) (l .to) visit-most _ (l .out) (against-none (s .n) (table-in (now (s .here))) (s .s) (s .rule) (entry (s .t) (s .v)) _ (entries-over (now (s .there)) (l .i) (k .result) (k .ensures .0) (c .loop-test .left))) (l .inv .3) (l .inv .0)
 
-pub tell-against-spec : {M : Type 1} → statement M
-tell-against-spec =
+pub list-against-spec : {M : Type 1} → statement M
+list-against-spec =
     tie.close
     (tie.spec Inv-loop μ-loop visit-count-requires loop-holds entry-record-requires train-in-requires
-    visit-in-requires does-clash-requires tell-requires add-i loop-less loop-again same-length returns)
+    visit-in-requires does-clash-requires finding-requires add-i loop-less loop-again same-length returns)

@@ -1,9 +1,9 @@
--- `builder::put::tell` meets its contract: four numbers one behind the other, or none. Assumes nothing.
+-- `builder::put::finding` meets its contract: four numbers one behind the other, or none. Assumes nothing.
 use denote.Ref.{now}
 use Rattle.builder.proofs.FindingsPut.{told-so, told-not}
 use borrow.Author.Needs.{needs}
-use Rattle.builder.proofs.put.tell.Statement.{statement}
-use Rattle.builder.proofs.put.tell.Tie as tie
+use Rattle.builder.proofs.put.finding.Statement.{statement}
+use Rattle.builder.proofs.put.finding.Tie as tie
 
 cast-put-one : tie.Need-cast-put-one
 cast-put-one c = search needs
@@ -41,8 +41,8 @@ returns c = let s = c .before .before .before .before .before .before .before .b
 returns-2 : tie.Need-returns-2
 returns-2 c = let s = c .before .before .args in told-not (s .at) (s .found) (s .s) (s .rule) (s .first) (s .second) (now (s .out)) (c .if1 .left)
 
-pub tell-spec : {M : Type 1} → statement M
-tell-spec =
+pub finding-spec : {M : Type 1} → statement M
+finding-spec =
     tie.close
     (tie.spec cast-put-one put-one-requires add-put-one put-one-requires-2 add-put-one-2 put-one-requires-3
     add-put-one-3 put-one-requires-4 add-result same-length returns returns-2)

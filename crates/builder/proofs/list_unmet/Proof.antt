@@ -1,4 +1,4 @@
--- `builder::tell_unmet` meets its contract. The loop's invariant: what is left to put is the relations from
+-- `builder::list_unmet` meets its contract. The loop's invariant: what is left to put is the relations from
 -- index i on. Assumes nothing.
 use native.Mathlib.Omega.{arith}
 use borrow.Author.Needs.{needs}
@@ -12,8 +12,8 @@ use Rattle.builder.specs.between.Builder.{unmet-numbers}
 use Rattle.builder.specs.between.Builder.{relations-most}
 use Rattle.builder.proofs.FindingsPut.{Left, left-start, left-on, left-end}
 use Rattle.builder.proofs.BuildLaws.{unmet-next, unmet-none}
-use Rattle.builder.proofs.tell_unmet.Statement.{statement}
-use Rattle.builder.proofs.tell_unmet.Tie as tie
+use Rattle.builder.proofs.list_unmet.Statement.{statement}
+use Rattle.builder.proofs.list_unmet.Tie as tie
 
 abbrev Inv-loop : tie.InvT-loop
 Inv-loop out₀ at here s k to₀ i₀ rank₀ out to i rank = (i ≤ k) × (rank ≤ i + 1) × (to ≤ at + 4 * i) × (length out ≡ length out₀) × Left at (unmet-numbers (table-in here) s 1 (table-in here .relations)) out₀ to (unmet-numbers (table-in here) s rank (drop i (table-in here .relations))) out
@@ -36,8 +36,8 @@ relation-in-requires c κs = search needs
 is-met-requires : tie.Need-is-met-requires Inv-loop μ-loop
 is-met-requires c κs = search needs
 
-tell-requires : tie.Need-tell-requires Inv-loop μ-loop
-tell-requires c κs = omega (arith, c .before .before .before .before .before .before .relation-count .ensures .1)
+finding-requires : tie.Need-finding-requires Inv-loop μ-loop
+finding-requires c κs = omega (arith, c .before .before .before .before .before .before .relation-count .ensures .1)
 
 add-i : tie.Need-add-i Inv-loop μ-loop
 add-i c = omega arith
@@ -55,7 +55,7 @@ loop-again c =
     let k = c .before .before .before .before .before .before .before .before .before .relation-count in
     let read = c .before .before .before .before .before .relation-in .ensures ∙ relation-of _ _ _ (c .before .before .before .before .before .before .relation-record .ensures) in
     let next = unmet-next (table-in (now (s .here))) (s .s) (now (s .here)) (l .i) (k .result) (k .ensures .0) (c .before .before .before .before .before .before .before .loop-test .taken) (l .rank) (c .before .before .before .before .before .relation-in .result) (c .before .before .before .before .is-met .result) read (c .before .before .before .before .is-met .ensures) in
-    (omega arith, omega arith, omega (arith, c .before .before .tell .ensures .2), omega (arith, c .before .before .tell .kept .0), left-on (s .at) _ (now (s .out)) (l .to) (c .before .before .tell .result) 4 _ _ _ (l .out) _ next (l .inv .4) (c .before .before .tell .ensures))
+    (omega arith, omega arith, omega (arith, c .before .before .finding .ensures .2), omega (arith, c .before .before .finding .kept .0), left-on (s .at) _ (now (s .out)) (l .to) (c .before .before .finding .result) 4 _ _ _ (l .out) _ next (l .inv .4) (c .before .before .finding .ensures))
 
 same-length : tie.Need-same-length Inv-loop μ-loop
 same-length c = omega arith
@@ -67,8 +67,8 @@ returns c =
     let k = c .before .before .relation-count in
     left-end (s .at) _ (now (s .out)) (l .to) relations-most _ (l .out) (unmet-none (table-in (now (s .here))) (s .s) (l .rank) _ (relations-over (now (s .here)) (l .i) (k .result) (k .ensures .0) (c .loop-test .left))) (l .inv .4) (omega (arith, k .ensures .1))
 
-pub tell-unmet-spec : {M : Type 1} → statement M
-tell-unmet-spec =
+pub list-unmet-spec : {M : Type 1} → statement M
+list-unmet-spec =
     tie.close
     (tie.spec Inv-loop μ-loop relation-count-requires loop-holds relation-record-requires relation-in-requires
-    is-met-requires tell-requires add-i add-rank loop-less loop-again same-length returns)
+    is-met-requires finding-requires add-i add-rank loop-less loop-again same-length returns)

@@ -1,5 +1,5 @@
--- `builder::tell_station` meets its contract. The loop's invariant: what is left to put is what the rules from
--- a number on tell. Assumes nothing.
+-- `builder::list_station` meets its contract. The loop's invariant: what is left to put is what the rules from
+-- a number on list. Assumes nothing.
 use native.Mathlib.Omega.{arith}
 use borrow.Author.Needs.{needs}
 use Prim.Native.Nat.{_+_, _-_, _≤_}
@@ -13,8 +13,8 @@ use Rattle.builder.specs.between.Builder.{rule-count, visits-most, stati
 use Rattle.builder.proofs.FindingsPut.{Left, left-start, left-on, left-end, puts-as}
 use Rattle.builder.proofs.BuildLaws.{rules-left, rules-next, rules-over, station-is}
 use Rattle.builder.proofs.MostLaws.{page-bound}
-use Rattle.builder.proofs.tell_station.Statement.{statement}
-use Rattle.builder.proofs.tell_station.Tie as tie
+use Rattle.builder.proofs.list_station.Statement.{statement}
+use Rattle.builder.proofs.list_station.Tie as tie
 
 abbrev Inv-loop : tie.InvT-loop
 Inv-loop out₀ at sheet n scope s here to₀ rule₀ out to rule = (1 ≤ rule) × (rule ≤ rule-count + 1) × (length out ≡ length out₀) × Left at (rules-left n scope (held sheet) (table-in here) s 1) out₀ to (rules-left n scope (held sheet) (table-in here) s rule) out
@@ -31,8 +31,8 @@ loop-holds c =
     let p = c .page-of in
     (omega arith, omega arith, refl, left-start (s .at) (rules-left (s .n) (s .scope) (held (now (s .sheet))) (table-in (now (p .result))) (s .s) 1) (now (s .out)))
 
-tell-rule-requires : tie.Need-tell-rule-requires Inv-loop μ-loop
-tell-rule-requires c κs =
+list-rule-requires : tie.Need-list-rule-requires Inv-loop μ-loop
+list-rule-requires c κs =
     let s = c .before .before .before .before .before .before .args in
     let p = c .before .before .before .page-of in
     let few = page-bound (s .n) (s .scope) (now (s .sheet)) (s .s) (table-in (now (p .result))) (page-read (now (s .sheet)) _ (s .s) (p .ensures)) in
@@ -50,7 +50,7 @@ loop-again c =
     let p = c .before .before .before .before .before .before .page-of in
     let l = c .before .before .before .before .before .loop in
     let next = rules-next (s .n) (s .scope) (held (now (s .sheet))) (table-in (now (p .result))) (s .s) (l .rule) (c .before .before .before .before .loop-test .taken) in
-    (omega arith, omega arith, omega (arith, c .before .before .tell-rule .kept .0), left-on (s .at) _ (now (s .out)) (l .to) (c .before .before .tell-rule .result) visits-most _ _ _ (l .out) _ next (l .inv .3) (c .before .before .tell-rule .ensures))
+    (omega arith, omega arith, omega (arith, c .before .before .list-rule .kept .0), left-on (s .at) _ (now (s .out)) (l .to) (c .before .before .list-rule .result) visits-most _ _ _ (l .out) _ next (l .inv .3) (c .before .before .list-rule .ensures))
 
 same-length : tie.Need-same-length Inv-loop μ-loop
 same-length c = omega arith
@@ -66,8 +66,8 @@ returns c =
     puts-as (s .at) (l .to) station-most _ _ (now (s .out)) (l .out) (station-is (s .n) (s .scope) (held (now (s .sheet))) (table-in (now (p .result))) (s .s) same)
     (left-end (s .at) _ (now (s .out)) (l .to) station-most _ (l .out) over (l .inv .3) (omega (arith, few, l .inv .3 .0)))
 
-pub tell-station-spec : {M : Type 1} → statement M
-tell-station-spec =
+pub list-station-spec : {M : Type 1} → statement M
+list-station-spec =
     tie.close
-    (tie.spec Inv-loop μ-loop page-of-requires loop-holds tell-rule-requires add-rule loop-less loop-again same-length
+    (tie.spec Inv-loop μ-loop page-of-requires loop-holds list-rule-requires add-rule loop-less loop-again same-length
     returns)

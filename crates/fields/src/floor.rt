@@ -3,7 +3,7 @@
 ghost use mathlib.Core.Path.{_≡_};
 ghost use mathlib.Core.List.{[]};
 ghost use Prim.Native.Nat.{_<_, max};
-ghost use Rattle.timetable.specs.Formats.{field-at, least, bar-after};
+ghost use Rattle.timetable.specs.Formats.{field-at, least, floor-after};
 ghost use Rattle.fields.specs.between.Answers.{in-use, number-read};
 use crate::field;
 use crate::field::FieldRead;
@@ -33,7 +33,7 @@ fn wide(x: u16) -> u32
 }
 
 // No number to compare with.
-pub fn no_bar() -> Numbers
+pub fn no_floor() -> Numbers
     ensures { λ r. ⌜ in-use r ≡ [] ⌝ }
 {
     Numbers {
@@ -44,12 +44,12 @@ pub fn no_bar() -> Numbers
 }
 
 // The least value that the next number may have.
-fn least(bar: Numbers, lo: u32) -> u32
-    ensures { λ r. ⌜ r ≡ least lo (in-use bar) ⌝ }
+fn least(floor: Numbers, lo: u32) -> u32
+    ensures { λ r. ⌜ r ≡ least lo (in-use floor) ⌝ }
 {
-    let values = bar.values;
-    let from = bar.from;
-    let to = field::in_use(bar.to, 12);
+    let values = floor.values;
+    let from = floor.from;
+    let to = field::in_use(floor.to, 12);
     if from < to {
         let b = wide(values[from]);
         if from + 1 < to {
@@ -61,12 +61,12 @@ fn least(bar: Numbers, lo: u32) -> u32
 }
 
 // What is left to compare with behind the number n.
-pub fn bar_after(bar: Numbers, n: u16) -> Numbers
-    ensures { λ r. ⌜ in-use r ≡ bar-after n (in-use bar) ⌝ }
+pub fn floor_after(floor: Numbers, n: u16) -> Numbers
+    ensures { λ r. ⌜ in-use r ≡ floor-after n (in-use floor) ⌝ }
 {
-    let values = bar.values;
-    let from = bar.from;
-    let to = field::in_use(bar.to, 12);
+    let values = floor.values;
+    let from = floor.from;
+    let to = field::in_use(floor.to, 12);
     if from < to {
         if from + 1 < to {
             if values[from] == n {
@@ -85,11 +85,11 @@ pub fn bar_after(bar: Numbers, n: u16) -> Numbers
     }
 }
 
-// The number of lo..hi at a place that is not below the bar.
-pub fn compared(file: &[u8], at: usize, lo: u32, hi: u16, bar: Numbers) -> Number
-    ensures { λ r. ⌜ r ≡ number-read (field-at (least lo (in-use bar)) hi (now (file .entry)) at) ⌝ }
+// The number of lo..hi at a place that is not below the floor.
+pub fn compared(file: &[u8], at: usize, lo: u32, hi: u16, floor: Numbers) -> Number
+    ensures { λ r. ⌜ r ≡ number-read (field-at (least lo (in-use floor)) hi (now (file .entry)) at) ⌝ }
 {
-    let found = field::field(file, at, least(bar, lo), hi);
+    let found = field::field(file, at, least(floor, lo), hi);
     match found {
         FieldRead::Value(n, next) => Number {
             accepted: true,

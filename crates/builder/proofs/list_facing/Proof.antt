@@ -1,4 +1,4 @@
--- `builder::tell_facing` meets its contract: by the visit's link, and by whether the list takes its far
+-- `builder::list_facing` meets its contract: by the visit's link, and by whether the list takes its far
 -- station. Assumes nothing.
 use mathlib.Core.Path.{sym}
 use denote.Ref.{now}
@@ -9,8 +9,8 @@ use Rattle.builder.specs.between.Builder.{visit-most}
 use Rattle.builder.proofs.FindingsPut.{puts-as, puts-none}
 use Rattle.builder.proofs.BuildLaws.{facing-none, facing-at, facing-not}
 use borrow.Author.Needs.{needs}
-use Rattle.builder.proofs.tell_facing.Statement.{statement}
-use Rattle.builder.proofs.tell_facing.Tie as tie
+use Rattle.builder.proofs.list_facing.Statement.{statement}
+use Rattle.builder.proofs.list_facing.Tie as tie
 
 enum-told : tie.Need-enum-told
 enum-told c = search needs
@@ -24,8 +24,8 @@ is-taken-requires c κs = search needs
 page-of-requires : tie.Need-page-of-requires
 page-of-requires c κs = search needs
 
-tell-against-requires : tie.Need-tell-against-requires
-tell-against-requires c κs = search needs
+list-against-requires : tie.Need-list-against-requires
+list-against-requires c κs = search needs
 
 same-length : tie.Need-same-length
 same-length c = search needs
@@ -33,9 +33,9 @@ same-length c = search needs
 returns : tie.Need-returns
 returns c =
     let s = c .before .before .before .before .before .before .before .before .before .before .before .before .before .args in
-    puts-as (s .at) (c .before .before .tell-against .result) visit-most _ _ _ _
+    puts-as (s .at) (c .before .before .list-against .result) visit-most _ _ _ _
     (facing-at (s .n) (s .scope) (held (now (s .sheet))) (table-in (now (s .here))) (s .s) (s .t) (s .v) _ (c .before .before .before .before .before .before .is-taken .result) (c .before .before .before .before .before .before .before .before .link .given .1) (c .before .before .before .before .before .before .is-taken .ensures) (c .before .before .before .before .before .if1 .taken) (table-in (now (c .before .before .before .page-of .result))) (page-read (now (s .sheet)) _ _ (c .before .before .before .page-of .ensures)))
-    (c .before .before .tell-against .ensures)
+    (c .before .before .list-against .ensures)
 
 returns-2 : tie.Need-returns-2
 returns-2 c =
@@ -49,8 +49,8 @@ returns-3 c =
     puts-as (s .at) (s .at) visit-most _ _ _ _
     (facing-not (s .n) (s .scope) (held (now (s .sheet))) (table-in (now (s .here))) (s .s) (s .t) (s .v) _ (c .before .is-taken .result) (c .before .before .before .link .given .1) (c .before .is-taken .ensures) (c .if1 .left)) (puts-none (s .at) visit-most (now (s .out)))
 
-pub tell-facing-spec : {M : Type 1} → statement M
-tell-facing-spec =
+pub list-facing-spec : {M : Type 1} → statement M
+list-facing-spec =
     tie.close
-    (tie.spec enum-told enum-known-link is-taken-requires page-of-requires tell-against-requires same-length returns
+    (tie.spec enum-told enum-known-link is-taken-requires page-of-requires list-against-requires same-length returns
     returns-2 returns-3)

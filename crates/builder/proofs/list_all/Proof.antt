@@ -1,5 +1,5 @@
--- `builder::tell_all` meets its contract. The loop's invariant: what is left to put is what the stations from
--- row i on tell. Assumes nothing.
+-- `builder::list_all` meets its contract. The loop's invariant: what is left to put is what the stations from
+-- row i on list. Assumes nothing.
 use native.Mathlib.Omega.{arith}
 use borrow.Author.Needs.{needs}
 use Prim.Native.Nat.{_*_, _-_, _≤_}
@@ -13,8 +13,8 @@ use Rattle.builder.specs.between.Builder.{station-numbers}
 use Rattle.builder.specs.between.Builder.{list-most, station-most}
 use Rattle.builder.proofs.FindingsPut.{Left, left-start, left-on, left-end, puts-as}
 use Rattle.builder.proofs.BuildLaws.{rows-next, rows-over, stations-are}
-use Rattle.builder.proofs.tell_all.Statement.{statement}
-use Rattle.builder.proofs.tell_all.Tie as tie
+use Rattle.builder.proofs.list_all.Statement.{statement}
+use Rattle.builder.proofs.list_all.Tie as tie
 
 abbrev Inv-loop : tie.InvT-loop
 Inv-loop out₀ sheet n scope rows k to₀ i₀ out to i = (i ≤ k) × (to ≤ station-most * i) × (length out ≡ length out₀) × Left 0 (flatMap (λ r. station-numbers n scope (held sheet) (r .station)) (take k rows)) out₀ to (flatMap (λ r. station-numbers n scope (held sheet) (r .station)) (drop i (take k rows))) out
@@ -34,8 +34,8 @@ mul-row c = omega arith
 array-copy-out-row : tie.Need-array-copy-out-row Inv-loop μ-loop
 array-copy-out-row c = omega arith
 
-tell-station-requires : tie.Need-tell-station-requires Inv-loop μ-loop
-tell-station-requires c κs = omega (arith, c .before .before .before .before .in-use .ensures)
+list-station-requires : tie.Need-list-station-requires Inv-loop μ-loop
+list-station-requires c κs = omega (arith, c .before .before .before .before .in-use .ensures)
 
 add-i : tie.Need-add-i Inv-loop μ-loop
 add-i c = omega arith
@@ -50,7 +50,7 @@ loop-again c =
     let k = c .before .before .before .before .before .before .before .in-use in
     let many : length (s .n .stations) ≡ 16 = simp length-map at (c .before .before .before .before .before .before .before .before .before .before .before .good .1 .1 .0 .1 .1 .1 .0 .1 .0 .1) in
     let next = rows-next (λ r. station-numbers (s .n) (s .scope) (held (now (s .sheet))) (r .station)) (s .n .stations) (k .result) (omega (arith, k .ensures)) (l .i) blank-station (c .before .before .before .before .before .loop-test .taken) in
-    (omega arith, omega (arith, c .before .before .tell-station .ensures .2), omega (arith, c .before .before .tell-station .kept .0), left-on 0 _ (now (s .out)) (l .to) (c .before .before .tell-station .result) station-most _ _ _ (l .out) _ next (l .inv .3) (c .before .before .tell-station .ensures))
+    (omega arith, omega (arith, c .before .before .list-station .ensures .2), omega (arith, c .before .before .list-station .kept .0), left-on 0 _ (now (s .out)) (l .to) (c .before .before .list-station .result) station-most _ _ _ (l .out) _ next (l .inv .3) (c .before .before .list-station .ensures))
 
 same-length : tie.Need-same-length Inv-loop μ-loop
 same-length c = omega arith
@@ -64,8 +64,8 @@ returns c =
     puts-as 0 (l .to) list-most _ _ (now (s .out)) (l .out) (stations-are (s .n) (s .scope) (held (now (s .sheet))) (k .result) many (k .ensures))
     (left-end 0 _ (now (s .out)) (l .to) list-most _ (l .out) (rows-over (λ r. station-numbers (s .n) (s .scope) (held (now (s .sheet))) (r .station)) (s .n .stations) (k .result) (omega (arith, k .ensures)) (l .i) (c .loop-test .left)) (l .inv .3) (omega (arith, k .ensures)))
 
-pub tell-all-spec : {M : Type 1} → statement M
-tell-all-spec =
+pub list-all-spec : {M : Type 1} → statement M
+list-all-spec =
     tie.close
-    (tie.spec Inv-loop μ-loop in-use-requires loop-holds mul-row array-copy-out-row tell-station-requires add-i
+    (tie.spec Inv-loop μ-loop in-use-requires loop-holds mul-row array-copy-out-row list-station-requires add-i
     loop-less loop-again same-length returns)

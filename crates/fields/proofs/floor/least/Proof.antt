@@ -1,12 +1,12 @@
--- `fields::bar::least` meets its contract: none, one or more numbers are left to compare with. Assumes nothing.
+-- `fields::floor::least` meets its contract: none, one or more numbers are left to compare with. Assumes nothing.
 use mathlib.Core.Path.{_≡_, refl, _∙_, ap}
 use Prim.Native.Nat.{ℕ, _+_, max}
 use native.Mathlib.Omega.{arith}
 use lib.ListN.{length, length-map}
 use borrow.Author.Needs.{needs}
-use Rattle.fields.proofs.BarLaws.{least-none, least-last, least-more}
-use Rattle.fields.proofs.bar.least.Statement.{statement}
-use Rattle.fields.proofs.bar.least.Tie as tie
+use Rattle.fields.proofs.FloorLaws.{least-none, least-last, least-more}
+use Rattle.fields.proofs.floor.least.Statement.{statement}
+use Rattle.fields.proofs.floor.least.Tie as tie
 
 in-use-requires : tie.Need-in-use-requires
 in-use-requires c κs = search needs
@@ -29,10 +29,10 @@ larger-requires c κs = search needs
 returns : tie.Need-returns
 returns c =
     let s = c .before .before .before .before .before .before .args in
-    let many : length (s .bar .values) ≡ 12 = simp length-map at (c .before .before .before .before .before .before .good .0 .1 .1 .1 .1 .0 .1 .0 .1) in
+    let many : length (s .floor .values) ≡ 12 = simp length-map at (c .before .before .before .before .before .before .good .0 .1 .1 .1 .1 .0 .1 .0 .1) in
     let u = c .before .before .before .before .in-use in
     let w = c .before .before .wide .ensures .0 in
-    c .larger .ensures ∙ ap (λ (b : ℕ). max (s .lo) b) w ∙ least-more (s .bar) (u .result) many (u .ensures) (s .lo) (omega arith) (omega arith)
+    c .larger .ensures ∙ ap (λ (b : ℕ). max (s .lo) b) w ∙ least-more (s .floor) (u .result) many (u .ensures) (s .lo) (omega arith) (omega arith)
 
 add-larger : tie.Need-add-larger
 add-larger c = omega arith
@@ -43,17 +43,17 @@ larger-requires-2 c κs = search needs
 returns-2 : tie.Need-returns-2
 returns-2 c =
     let s = c .before .before .before .before .before .before .args in
-    let many : length (s .bar .values) ≡ 12 = simp length-map at (c .before .before .before .before .before .before .good .0 .1 .1 .1 .1 .0 .1 .0 .1) in
+    let many : length (s .floor .values) ≡ 12 = simp length-map at (c .before .before .before .before .before .before .good .0 .1 .1 .1 .1 .0 .1 .0 .1) in
     let u = c .before .before .before .before .in-use in
     let w = c .before .before .wide .ensures .0 in
-    c .larger2 .ensures ∙ ap (λ (b : ℕ). max (s .lo) (b + 1)) w ∙ least-last (s .bar) (u .result) many (u .ensures) (s .lo) (omega arith) (omega arith)
+    c .larger2 .ensures ∙ ap (λ (b : ℕ). max (s .lo) (b + 1)) w ∙ least-last (s .floor) (u .result) many (u .ensures) (s .lo) (omega arith) (omega arith)
 
 returns-3 : tie.Need-returns-3
 returns-3 c =
     let s = c .before .before .before .args in
-    let many : length (s .bar .values) ≡ 12 = simp length-map at (c .before .before .before .good .0 .1 .1 .1 .1 .0 .1 .0 .1) in
+    let many : length (s .floor .values) ≡ 12 = simp length-map at (c .before .before .before .good .0 .1 .1 .1 .1 .0 .1 .0 .1) in
     let u = c .before .in-use in
-    least-none (s .bar) (u .result) many (u .ensures) (s .lo) (omega arith)
+    least-none (s .floor) (u .result) many (u .ensures) (s .lo) (omega arith)
 
 pub least-spec : {M : Type 1} → statement M
 least-spec =

@@ -1,4 +1,4 @@
--- `builder::tell_visits` meets its contract. The loop's invariant: what is left to put is what the rule tells
+-- `builder::list_visits` meets its contract. The loop's invariant: what is left to put is what the rule tells
 -- of the visits from index i on. Assumes nothing.
 use native.Mathlib.Omega.{arith}
 use borrow.Author.Needs.{needs}
@@ -13,8 +13,8 @@ use Rattle.builder.specs.between.Builder.{walk}
 use Rattle.builder.specs.between.Builder.{visit-most, visits-most}
 use Rattle.builder.proofs.FindingsPut.{Left, left-start, left-on, left-end}
 use Rattle.builder.proofs.BuildLaws.{walk-next, walk-none}
-use Rattle.builder.proofs.tell_visits.Statement.{statement}
-use Rattle.builder.proofs.tell_visits.Tie as tie
+use Rattle.builder.proofs.list_visits.Statement.{statement}
+use Rattle.builder.proofs.list_visits.Tie as tie
 
 abbrev Inv-loop : tie.InvT-loop
 Inv-loop out₀ at sheet here n scope s rule k to₀ i₀ out to i = (i ≤ k) × (to ≤ at + visit-most * i) × (length out ≡ length out₀) × Left at (walk n scope (held sheet) (table-in here) s rule (table-in here .visits)) out₀ to (walk n scope (held sheet) (table-in here) s rule (drop i (table-in here .visits))) out
@@ -28,8 +28,8 @@ visit-count-requires c κs = search needs
 loop-holds : tie.Need-loop-holds Inv-loop μ-loop
 loop-holds c = let s = c .before .before .before .before .args in (omega arith, omega arith, refl, left-start (s .at) (walk (s .n) (s .scope) (held (now (s .sheet))) (table-in (now (s .here))) (s .s) (s .rule) (table-in (now (s .here)) .visits)) (now (s .out)))
 
-tell-one-requires : tie.Need-tell-one-requires Inv-loop μ-loop
-tell-one-requires c κs = (omega (arith, c .before .before .before .visit-count .ensures .1), omega (arith, c .before .before .before .visit-count .ensures .1))
+list-one-requires : tie.Need-list-one-requires Inv-loop μ-loop
+list-one-requires c κs = (omega (arith, c .before .before .before .visit-count .ensures .1), omega (arith, c .before .before .before .visit-count .ensures .1))
 
 add-i : tie.Need-add-i Inv-loop μ-loop
 add-i c = omega arith
@@ -43,7 +43,7 @@ loop-again c =
     let l = c .before .before .before .before .before .loop in
     let k = c .before .before .before .before .before .before .visit-count in
     let next = walk-next (s .n) (s .scope) (held (now (s .sheet))) (table-in (now (s .here))) (s .s) (s .rule) (now (s .here)) (l .i) (k .result) (k .ensures .0) (c .before .before .before .before .loop-test .taken) in
-    (omega arith, omega (arith, c .before .before .tell-one .ensures .2), omega (arith, c .before .before .tell-one .kept .0), left-on (s .at) _ (now (s .out)) (l .to) (c .before .before .tell-one .result) visit-most _ _ _ (l .out) _ next (l .inv .3) (c .before .before .tell-one .ensures))
+    (omega arith, omega (arith, c .before .before .list-one .ensures .2), omega (arith, c .before .before .list-one .kept .0), left-on (s .at) _ (now (s .out)) (l .to) (c .before .before .list-one .result) visit-most _ _ _ (l .out) _ next (l .inv .3) (c .before .before .list-one .ensures))
 
 same-length : tie.Need-same-length Inv-loop μ-loop
 same-length c = omega arith
@@ -55,8 +55,8 @@ returns c =
     let k = c .before .before .visit-count in
     left-end (s .at) _ (now (s .out)) (l .to) visits-most _ (l .out) (walk-none (s .n) (s .scope) (held (now (s .sheet))) (table-in (now (s .here))) (s .s) (s .rule) _ (entries-over (now (s .here)) (l .i) (k .result) (k .ensures .0) (c .loop-test .left))) (l .inv .3) (omega (arith, k .ensures .1))
 
-pub tell-visits-spec : {M : Type 1} → statement M
-tell-visits-spec =
+pub list-visits-spec : {M : Type 1} → statement M
+list-visits-spec =
     tie.close
-    (tie.spec Inv-loop μ-loop visit-count-requires loop-holds tell-one-requires add-i loop-less loop-again same-length
+    (tie.spec Inv-loop μ-loop visit-count-requires loop-holds list-one-requires add-i loop-less loop-again same-length
     returns)
