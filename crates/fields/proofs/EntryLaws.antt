@@ -10,9 +10,7 @@ use lib.ListN.{length, getD, drop, replicate}
 use borrow.Author.Tests.{leb-true, le-leb, lt-leb}
 use Rattle.base.specs.Choice.{if_then_else_}
 use Rattle.base.specs.Lists.{within}
-use Rattle.numbers.specs.Numbers.{read-number}
-use Rattle.numbers.specs.declared.Reading.{Reading}
-use Rattle.numbers.specs.declared.Reading.the-variants.{Value, Refused}
+use Rattle.numbers.specs.Numbers.{NumberRead, Value, Refused, read-number}
 use Rattle.timetable.specs.Formats.{Format, done, field, here, Outcome, accepted, refused, _and-then_, placed-field, field-at, behind, read, ended, Range, _to_, least, floor-after}
 use Rattle.timetable.specs.Formats.{compared, row, entries, Placed, placed}
 use Rattle.timetable.proofs.OutcomeLaws.{clash, behind-taken}
@@ -24,7 +22,7 @@ pub field-bounded : (lo hi : ℕ) (file : List ℕ) (at n next : ℕ) → field-
 unfolding field-at placed-field
 field-bounded lo hi file at n next e = go (read-number (drop at file)) e
   where
-    go : (r : Reading) → placed-field lo hi (length file) at r ≡ accepted n next → (lo ≤ n) × (n ≤ hi)
+    go : (r : NumberRead) → placed-field lo hi (length file) at r ≡ accepted n next → (lo ≤ n) × (n ≤ hi)
     go (Refused k) q = clash n next _ _ q
     go (Value m w) q = both (leb lo m) refl (leb m hi) refl q
       where

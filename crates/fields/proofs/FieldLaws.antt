@@ -10,9 +10,7 @@ use borrow.Author.Tests.{lt-ltb, le-leb, lt-leb, eq-eqb, ne-eqb, leb-true}
 use Rattle.base.specs.Choice.{if_then_else_}
 use Rattle.base.specs.Lists.{within}
 use Rattle.base.proofs.Lengths.{rest-whole}
-use Rattle.numbers.specs.Numbers.{group-before, read-groups, read-number}
-use Rattle.numbers.specs.declared.Reading.{Reading}
-use Rattle.numbers.specs.declared.Reading.the-variants.{Value, Refused}
+use Rattle.numbers.specs.Numbers.{NumberRead, Value, Refused, group-before, read-groups, read-number}
 use Rattle.timetable.specs.Formats.{Outcome, accepted, refused, placed-field, field-at}
 
 -- a number takes bytes that are there
@@ -22,7 +20,7 @@ groups-within zero b n w e = let z : _≡_ {A = ℕ} 0 1 = cc in absurd (omega a
 groups-within (suc k) [] n w e = let z : _≡_ {A = ℕ} 0 1 = cc in absurd (omega arith)
 groups-within (suc k) (x ∷ b) n w e = go (ltb x 128) e (λ m v. groups-within k b m v)
   where
-    more : (r : Reading) → ((m v : ℕ) → r ≡ Value m v → v ≤ length b) → group-before (x - 128) r ≡ Value n w → w ≤ suc (length b)
+    more : (r : NumberRead) → ((m v : ℕ) → r ≡ Value m v → v ≤ length b) → group-before (x - 128) r ≡ Value n w → w ≤ suc (length b)
     more (Refused j) ih q = let z : _≡_ {A = ℕ} 0 1 = cc in absurd (omega arith)
     more (Value m v) ih q = last (eqb m 0) q
       where
@@ -45,8 +43,8 @@ module _ (lo hi : ℕ) (file : List ℕ) (at : ℕ) where
   field-past h = rw (drop-of-length-le file {i = at} (omega arith))
 
   -- the number is read from the part behind the place
-  module _ (r : Reading) (e : r ≡ read-number (take (length file - at) (drop at file))) where
-    pub at-hand : (q : Reading) → r ≡ q → read-number (drop at file) ≡ q
+  module _ (r : NumberRead) (e : r ≡ read-number (take (length file - at) (drop at file))) where
+    pub at-hand : (q : NumberRead) → r ≡ q → read-number (drop at file) ≡ q
     at-hand q p = ap read-number (sym (rest-whole at file)) ∙ sym e ∙ p
 
     pub field-ends : (k : ℕ) → r ≡ Refused k → k ≡ 1 → field-at lo hi file at ≡ refused 1 (length file)

@@ -10,19 +10,17 @@ use lib.Dec.{ltb, leb, eqb}
 use lib.ListN.{length, drop}
 use Rattle.base.specs.Choice.{if_then_else_}
 use Rattle.base.specs.Lists.{within}
-use Rattle.numbers.specs.Numbers.{group-before, read-groups, read-number}
-use Rattle.numbers.specs.declared.Reading.{Reading}
-use Rattle.numbers.specs.declared.Reading.the-variants.{Value, Refused}
+use Rattle.numbers.specs.Numbers.{NumberRead, Value, Refused, group-before, read-groups, read-number}
 use Rattle.timetable.specs.Formats.{Format, done, field, here, Outcome, accepted, refused, placed-field, field-at, behind, read, ended, read-file, Placed}
 use Rattle.timetable.specs.EditsFile.{edits-format, read-edits}
 use Rattle.edit_files.specs.Answers.{edits-answer}
 use Rattle.machine.specs.Types.{Edit}
 
 -- the refusal of a number is not 0
-abbrev Some : Reading → Type 0
+abbrev Some : NumberRead → Type 0
 Some r = (k : ℕ) → r ≡ Refused k → ¬ (k ≡ 0)
 
-before-some : (g : ℕ) (r : Reading) → Some r → Some (group-before g r)
+before-some : (g : ℕ) (r : NumberRead) → Some r → Some (group-before g r)
 unfolding group-before
 before-some g (Refused j) h k q = h k q
 before-some g (Value n w) h k q = go (eqb n 0) q
@@ -49,7 +47,7 @@ field-told : (lo hi : ℕ) (file : List ℕ) (at : ℕ) → Told (field-at lo hi
 unfolding field-at placed-field read-number
 field-told lo hi file at = go (read-number (drop at file)) (groups-some 3 (drop at file))
   where
-    go : (r : Reading) → Some r → Told (placed-field lo hi (length file) at r)
+    go : (r : NumberRead) → Some r → Told (placed-field lo hi (length file) at r)
     go (Refused j) h k p q z = let s : j ≡ k = cc in h j refl (s ∙ z)
     go (Value n w) h k p q z = range (within lo hi n) q
       where

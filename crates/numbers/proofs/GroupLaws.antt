@@ -11,9 +11,7 @@ use lib.Dec.{ltb, eqb}
 use lib.ListN.{length, getD, set, drop}
 use borrow.Author.Tests.{ltb-true, lt-ltb, le-ltb, le-leb, lt-leb, eq-eqb, ne-eqb}
 use Rattle.base.specs.Choice.{if_then_else_}
-use Rattle.numbers.specs.declared.Reading.{Reading}
-use Rattle.numbers.specs.declared.Reading.the-variants.{Value, Refused}
-use Rattle.numbers.specs.Numbers.{group-before, read-groups, write-groups, write-number, width, with-number}
+use Rattle.numbers.specs.Numbers.{NumberRead, Value, Refused, group-before, read-groups, write-groups, write-number, width, with-number}
 
 -- 128 to the k
 unfoldable pub cap : ℕ → ℕ
@@ -37,7 +35,7 @@ read-bounded (suc k) (x ∷ b) n w h e = go (ltb x 128) refl e (λ m v. read-bou
     one zero = omega arith
     one (suc j) = omega (arith, one j)
 
-    more : (r : Reading) → ((m v : ℕ) → r ≡ Value m v → (m < cap k) × (v ≤ k)) → group-before (x - 128) r ≡ Value n w → (n < 128 * cap k) × (w ≤ suc k)
+    more : (r : NumberRead) → ((m v : ℕ) → r ≡ Value m v → (m < cap k) × (v ≤ k)) → group-before (x - 128) r ≡ Value n w → (n < 128 * cap k) × (w ≤ suc k)
     more (Refused j) ih q = let z : _≡_ {A = ℕ} 0 1 = cc in absurd (omega arith)
     more (Value m v) ih q = last (eqb m 0) q
       where

@@ -10,9 +10,7 @@ use lib.Dec.{ltb, eqb}
 use lib.ListN.{length, take}
 use borrow.Author.Tests.{ltb-true, ltb-false, lt-ltb, le-ltb, ne-eqb, eqb-false}
 use Rattle.base.specs.Choice.{if_then_else_}
-use Rattle.numbers.specs.declared.Reading.{Reading}
-use Rattle.numbers.specs.declared.Reading.the-variants.{Value, Refused}
-use Rattle.numbers.specs.Numbers.{group-before, read-groups, read-number, write-groups, write-number, width}
+use Rattle.numbers.specs.Numbers.{NumberRead, Value, Refused, group-before, read-groups, read-number, write-groups, write-number, width}
 use Rattle.numbers.proofs.GroupLaws.{cap, Small, small-tail, before-value}
 
 longer : (w : ℕ) → w + 1 ≡ suc w
@@ -51,7 +49,7 @@ groups-same zero b n w s e = let z : _≡_ {A = ℕ} 0 1 = cc in absurd (omega a
 groups-same (suc k) [] n w s e = let z : _≡_ {A = ℕ} 0 1 = cc in absurd (omega arith)
 groups-same (suc k) (x ∷ b) n w s e = go (ltb x 128) refl e (λ m v. groups-same k b m v (small-tail x b s))
   where
-    more : 128 ≤ x → (r : Reading) → ((m v : ℕ) → r ≡ Value m v → take v b ≡ write-groups k m) → group-before (x - 128) r ≡ Value n w
+    more : 128 ≤ x → (r : NumberRead) → ((m v : ℕ) → r ≡ Value m v → take v b ≡ write-groups k m) → group-before (x - 128) r ≡ Value n w
         → take w (x ∷ b) ≡ (if ltb n 128 then n ∷ [] else (128 + n % 128) ∷ write-groups k (n / 128))
     more big (Refused j) ih q = let z : _≡_ {A = ℕ} 0 1 = cc in absurd (omega arith)
     more big (Value m v) ih q = last (eqb m 0) refl q

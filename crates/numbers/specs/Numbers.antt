@@ -6,22 +6,25 @@ use mathlib.Core.List.{List, [], _∷_, _++_}
 use lib.Dec.{ltb, leb, eqb}
 use lib.ListN.{length, drop}
 use Rattle.base.specs.Choice.{if_then_else_}
-use Rattle.numbers.specs.declared.Reading.{Reading}
-use Rattle.numbers.specs.declared.Reading.the-variants.{Value, Refused}
+
+-- what reading a number gives: the number and how many bytes it takes, or document 01's refusal number
+pub data NumberRead : Type 0 where
+  Value : ℕ → ℕ → NumberRead
+  Refused : ℕ → NumberRead
 
 -- the group g stands before the rest; "2 a number isn't shortest": a rest of 0 makes it longer than need be
-unfoldable pub group-before : ℕ → Reading → Reading
+unfoldable pub group-before : ℕ → NumberRead → NumberRead
 group-before g (Value n w) = if eqb n 0 then Refused 2 else Value (g + 128 * n) (w + 1)
 group-before g (Refused k) = Refused k
 
--- the number at the head of some bytes and how many bytes it takes, or a refusal's number. k groups more are permitted;
--- "1 it ends early", "2 .. its third byte has the top bit set"
-unfoldable pub read-groups : ℕ → List ℕ → Reading
+-- the number at the head of some bytes, where k groups more are permitted; "1 it ends early", "2 .. its third byte has
+-- the top bit set"
+unfoldable pub read-groups : ℕ → List ℕ → NumberRead
 read-groups zero bytes = Refused 2
 read-groups (suc k) [] = Refused 1
 read-groups (suc k) (b ∷ bytes) = if ltb b 128 then Value b 1 else group-before (b - 128) (read-groups k bytes)
 
-unfoldable pub read-number : List ℕ → Reading
+unfoldable pub read-number : List ℕ → NumberRead
 read-number bytes = read-groups 3 bytes
 
 unfoldable pub write-groups : ℕ → ℕ → List ℕ

@@ -2,6 +2,7 @@
 // the last: its first group plus 128 times the number in the rest."
 ghost use mathlib.Core.Path.{_≡_};
 ghost use Prim.Native.Nat.{_≤_, _+_, _%_};
+ghost use Rattle.numbers.specs.Answers.{number-outcome};
 ghost use Rattle.numbers.specs.Numbers.{read-groups, read-number, width, with-number};
 
 // What reading a number at the head of some bytes gives.
@@ -15,7 +16,7 @@ pub enum Reading {
 // The number in the rest, where `left` groups more are permitted.
 fn read_groups(bytes: &[u8], left: u8) -> Reading
     requires { ⌜ left ≤ 3 ⌝ }
-    ensures { λ r. ⌜ r ≡ read-groups left (now (bytes .entry)) ⌝ }
+    ensures { λ r. ⌜ number-outcome r ≡ read-groups left (now (bytes .entry)) ⌝ }
 {
     if left == 0 {
         return Reading::Refused(2);
@@ -41,7 +42,7 @@ fn read_groups(bytes: &[u8], left: u8) -> Reading
 
 // The number at the head of the bytes.
 pub fn read(bytes: &[u8]) -> Reading
-    ensures { λ r. ⌜ r ≡ read-number (now (bytes .entry)) ⌝ }
+    ensures { λ r. ⌜ number-outcome r ≡ read-number (now (bytes .entry)) ⌝ }
 {
     read_groups(bytes, 3)
 }

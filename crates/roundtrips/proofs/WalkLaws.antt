@@ -11,9 +11,7 @@ use lib.ListN.{length, take, drop, length-append, take-append-drop, drop-of-leng
 use lib.Seq.{drop-drop, getD-drop, drop-append-seam}
 use borrow.Author.Tests.{leb-true, le-leb, ltb-true}
 use Rattle.base.specs.Choice.{if_then_else_}
-use Rattle.numbers.specs.Numbers.{read-number, write-groups, write-number, width}
-use Rattle.numbers.specs.declared.Reading.{Reading}
-use Rattle.numbers.specs.declared.Reading.the-variants.{Value, Refused}
+use Rattle.numbers.specs.Numbers.{NumberRead, Value, Refused, read-number, write-groups, write-number, width}
 use Rattle.numbers.proofs.GroupLaws.{cap, Small, small-tail, read-bounded}
 use Rattle.numbers.proofs.RoundTrip.{number-back, number-same}
 use Rattle.timetable.specs.Formats.{Format, done, field, here, Outcome, accepted, refused, _and-then_, placed-field, field-at, behind, read, ended, read-file, bytes-of}
@@ -77,7 +75,7 @@ module _ (lo hi : ℕ) (file : List ℕ) (at n : ℕ) where
   unfolding field-at placed-field
   field-read next s e = go (read-number (drop at file)) refl e
     where
-      go : (r : Reading) → read-number (drop at file) ≡ r → placed-field lo hi (length file) at r ≡ accepted n next
+      go : (r : NumberRead) → read-number (drop at file) ≡ r → placed-field lo hi (length file) at r ≡ accepted n next
           → (next ≡ at + width n) × (drop at file ≡ write-number n ++ drop next file) × InRange lo hi n
       go (Refused k) q u = clash n next _ _ u
       go (Value m w) q u = both (leb lo m) refl (leb m hi) refl u

@@ -12,9 +12,7 @@ use lib.ListN.{length, drop, length-drop}
 use Rattle.base.specs.Choice.{if_then_else_}
 use Rattle.base.specs.Lists.{every, first, within}
 use Rattle.base.proofs.Tests.{every-head, every-tail, every-cons}
-use Rattle.numbers.specs.Numbers.{read-number}
-use Rattle.numbers.specs.declared.Reading.{Reading}
-use Rattle.numbers.specs.declared.Reading.the-variants.{Value, Refused}
+use Rattle.numbers.specs.Numbers.{NumberRead, Value, Refused, read-number}
 use Rattle.network.specs.Networks.{ends-listed}
 use Rattle.timetable.specs.Formats.{Format, done, field, here, Outcome, accepted, refused, _and-then_, placed-field, field-at, behind, read, ended, read-file, entries, Placed, place-of}
 use Rattle.timetable.specs.NetworkFile.{Listed, line-fields, line-entry, line-floor, stations-format, lines-format, lines-part, count-part, headway-part, stations-part, network-format, network-of, unjoined, unjoined-fault, network-fault, unless-fault, only-stations, with-headway, with-lines}
@@ -37,7 +35,7 @@ module _ (file : List ℕ) where
   unfolding field-at placed-field place-of
   field-within lo hi at h = go (read-number (drop at file)) (number-within (drop at file))
     where
-      go : (r : Reading) → ((n w : ℕ) → r ≡ Value n w → w ≤ length (drop at file)) → Within (placed-field lo hi (length file) at r)
+      go : (r : NumberRead) → ((n w : ℕ) → r ≡ Value n w → w ≤ length (drop at file)) → Within (placed-field lo hi (length file) at r)
       go (Value n w) ends = range (within lo hi n)
         where
           range : (b : Bool) → Within (if b then accepted n (at + w) else refused 3 at)

@@ -1,16 +1,17 @@
--- Outcomes of reading taken apart: accepted is not refused, what stands behind an accepted value, and what a fault that
--- only the whole shows makes of an outcome. Assumes nothing.
+-- Outcomes of reading taken apart: accepted is not refused, what stands behind an accepted value or before the end of an
+-- accepted file, and what a fault that only the whole shows makes of an outcome. Assumes nothing.
 use Prim.Native.Nat.{ℕ}
 use mathlib.Core.Path.{_≡_, refl, sym, _∙_, ap}
 use mathlib.Core.Bool.{Bool, true, false}
 use mathlib.Core.List.{List}
 use mathlib.Core.Option.{Option, none, some}
 use native.Mathlib.Omega.{arith}
-use lib.Dec.{eqb}
+use lib.Dec.{leb, eqb}
+use lib.ListN.{length}
 use borrow.Author.Tests.{eq-eqb, ne-eqb, eqb-true}
 use Rattle.base.specs.Choice.{if_then_else_}
 use Rattle.timetable.specs.Types.{LineRow, Fault}
-use Rattle.timetable.specs.Formats.{Outcome, accepted, refused, behind, Placed}
+use Rattle.timetable.specs.Formats.{Outcome, accepted, refused, behind, ended, Placed}
 use Rattle.timetable.specs.NetworkFile.{Listed, unjoined, unjoined-fault, network-fault, unless-fault}
 
 -- accepted is not refused
@@ -23,6 +24,16 @@ pub behind-taken : {A B : Type 0} (o : Outcome A) (f : A → ℕ → Outcome B) 
 unfolding behind
 behind-taken (accepted a p) f b next e = (a, p, refl, e)
 behind-taken (refused k p) f b next e = clash b next k p e
+
+-- what a file that ends there was accepted with
+pub ended-taken : {A : Type 0} (file : List ℕ) (o : Outcome A) (a : A) (next : ℕ) → ended file o ≡ accepted a next → o ≡ accepted a next
+unfolding ended
+ended-taken file (refused k p) a next e = e
+ended-taken file (accepted b p) a next e = go (leb (length file) p) e
+  where
+    go : (c : Bool) → (if c then accepted b p else refused 1 p) ≡ accepted a next → accepted b p ≡ accepted a next
+    go true q = q
+    go false q = clash a next 1 p q
 
 -- a fault
 

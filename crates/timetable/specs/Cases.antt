@@ -11,9 +11,7 @@ use Rattle.base.specs.Lists.{any, keep, same}
 use Rattle.base.specs.Runs as Runs
 use Rattle.base.specs.Runs.{run, answers}
 use Rattle.numbers.specs.Numbers as Numbers
-use Rattle.numbers.specs.Numbers.{read-number, write-number}
-use Rattle.numbers.specs.declared.Reading.{Reading}
-use Rattle.numbers.specs.declared.Reading.the-variants.{Value, Refused}
+use Rattle.numbers.specs.Numbers.{NumberRead, Value, Refused, read-number, write-number}
 use Rattle.railway.specs.Relations as Relations
 use Rattle.railway.specs.Relations.{key}
 use Rattle.railway.specs.Edits as Edits
@@ -239,11 +237,11 @@ pub data Case : Type 0 where
   -- what shift prints
   printed : List Edit → List (List ℕ) → Case
 
-unfoldable pub reads-as : ℕ → ℕ → Reading → Bool
+unfoldable pub reads-as : ℕ → ℕ → NumberRead → Bool
 reads-as n w (Value k used) = eqb n k && eqb w used
 reads-as n w (Refused k) = false
 
-unfoldable pub reads-refused : ℕ → Reading → Bool
+unfoldable pub reads-refused : ℕ → NumberRead → Bool
 reads-refused n (Value k used) = false
 reads-refused n (Refused k) = eqb n k
 

@@ -8,9 +8,7 @@ use lib.Dec.{leb, eqb}
 use lib.ListN.{length, drop}
 use Rattle.base.specs.Choice.{if_then_else_}
 use Rattle.base.specs.Lists.{within}
-use Rattle.numbers.specs.Numbers.{read-number, write-number}
-use Rattle.numbers.specs.declared.Reading.{Reading}
-use Rattle.numbers.specs.declared.Reading.the-variants.{Value, Refused}
+use Rattle.numbers.specs.Numbers.{NumberRead, Value, Refused, read-number, write-number}
 
 -- what is read next: nothing more, and the value is there; a number of lo..hi, and then what it calls for; or what the
 -- place reached calls for
@@ -48,7 +46,7 @@ here f and-then g = here (λ p. f p and-then g)
 -- reading
 
 -- "A file refusal carries the faulty number's first byte, counted from 0 (1: where it ends or goes on ..)"
-unfoldable pub placed-field : ℕ → ℕ → ℕ → ℕ → Reading → Outcome ℕ
+unfoldable pub placed-field : ℕ → ℕ → ℕ → ℕ → NumberRead → Outcome ℕ
 placed-field lo hi end at (Value n w) = if within lo hi n then accepted n (at + w) else refused 3 at
 placed-field lo hi end at (Refused k) = refused k (if eqb k 1 then end else at)
 

@@ -13,9 +13,7 @@ use borrow.Author.Tests.{eqb-false, le-leb}
 use Rattle.base.specs.Choice.{if_then_else_}
 use Rattle.base.specs.Lists.{every, first, within}
 use Rattle.base.proofs.Tests.{true-T, every-head, every-tail, every-cons}
-use Rattle.numbers.specs.Numbers.{group-before, read-groups, read-number}
-use Rattle.numbers.specs.declared.Reading.{Reading}
-use Rattle.numbers.specs.declared.Reading.the-variants.{Value, Refused}
+use Rattle.numbers.specs.Numbers.{NumberRead, Value, Refused, group-before, read-groups, read-number}
 use Rattle.network.specs.declared.LineRow.{LineRow}
 use Rattle.network.specs.Networks.{ends-listed}
 use Rattle.timetable.specs.Formats.{Format, done, field, here, Outcome, accepted, refused, _and-then_, placed-field, field-at, behind, read, ended, read-file, entries, Placed, placed}
@@ -26,18 +24,18 @@ use Rattle.timetable.specs.Machine.{Timetable, nothing-placed}
 use Rattle.timetable.specs.TimetableFile.{StationVisit, Entries, visit-entry, visit-floor, relation-floor, visits-format, relations-format, timetable-format}
 use Rattle.timetable.specs.TimetableFile.{visit-refusal, relation-refusal, enter-visit, enter-relation, entered, timetable-of}
 use Rattle.timetable.specs.InspectFile.{Inspection, Both, inspect-format, inspection, read-inspect}
-use Rattle.timetable.proofs.OutcomeLaws.{fault-taken, clash, behind-taken}
+use Rattle.timetable.proofs.OutcomeLaws.{fault-taken, clash, behind-taken, ended-taken}
 use Rattle.fields.proofs.EntryLaws.{then-taken}
 use Rattle.fields.proofs.EntryLaws.{placed-read}
 
 -- one number
 
 -- it ends within the bytes, or its refusal is not 0
-unfoldable Sound : ℕ → Reading → Type 0
+unfoldable Sound : ℕ → NumberRead → Type 0
 Sound size (Value n w) = w ≤ size
 Sound size (Refused k) = ¬ (k ≡ 0)
 
-before-sound : (g size : ℕ) (r : Reading) → Sound size r → Sound (size + 1) (group-before g r)
+before-sound : (g size : ℕ) (r : NumberRead) → Sound size r → Sound (size + 1) (group-before g r)
 unfolding group-before Sound
 before-sound g size (Refused k) h = h
 before-sound g size (Value n w) h = go (eqb n 0)
@@ -67,7 +65,7 @@ field-within : (lo hi : ℕ) (file : List ℕ) (at : ℕ) → at ≤ length file
 unfolding field-at placed-field read-number Sound Within
 field-within lo hi file at h = go (read-number (drop at file)) (groups-sound 3 (drop at file))
   where
-    go : (r : Reading) → Sound (length (drop at file)) r → Within (length file) (placed-field lo hi (length file) at r)
+    go : (r : NumberRead) → Sound (length (drop at file)) r → Within (length file) (placed-field lo hi (length file) at r)
     go (Refused k) d = (d, place (eqb k 1))
       where
         place : (b : Bool) → (if b then length file else at) ≤ length file
@@ -100,15 +98,6 @@ ended-within file (accepted a next) h = go (leb (length file) next)
     go : (b : Bool) → Within (length file) (if b then accepted a next else refused 1 next)
     go true = h
     go false = (λ z. omega (arith, z), h)
-
-ended-taken : {A : Type 0} (file : List ℕ) (o : Outcome A) (a : A) (next : ℕ) → ended file o ≡ accepted a next → o ≡ accepted a next
-unfolding ended
-ended-taken file (refused k p) a next e = clash a next k p e
-ended-taken file (accepted b p) a next e = go (leb (length file) p) e
-  where
-    go : (c : Bool) → (if c then accepted b p else refused 1 p) ≡ accepted a next → accepted b p ≡ accepted a next
-    go true q = q
-    go false q = clash a next 1 p q
 
 taken-same : {A : Type 0} (a b : A) (p q : ℕ) → accepted a p ≡ accepted b q → a ≡ b
 taken-same a b p q e = cc

@@ -9,8 +9,8 @@ use borrow.Author.Needs.{needs}
 use borrow.Fn.Kinds.{In}
 use borrow.Fn.PlainCycle.{Measures, is, falls, and}
 use Rattle.base.proofs.Lengths.{rest-whole}
-use Rattle.numbers.specs.declared.Reading.the-variants.{Value, Refused}
-use Rattle.numbers.specs.Numbers.{read-groups, group-before}
+use Rattle.numbers.specs.Answers.{number-outcome}
+use Rattle.numbers.specs.Numbers.{Value, Refused, read-groups, group-before}
 use Rattle.numbers.proofs.GroupLaws.{read-none, read-ends, read-last, read-more, read-bounded, before-zero, before-value, before-refused, cap-small, small-drop}
 use Rattle.numbers.proofs.read_groups.Reads as groups
 use Rattle.numbers.proofs.read_groups.Kinds as read-groups-kinds
@@ -33,12 +33,14 @@ read-groups-returns : (t : ℕ) → read-groups-lts.Need-returns (
   read-groups-below t,
   groups.Post,
 ) (read-groups-at t) groups.Post
+unfolding number-outcome
 read-groups-returns t c = sym (read-none (c .before .before .args .left) (now (c .before .before .args .bytes)) (c .if1 .taken))
 
 read-groups-returns-2 : (t : ℕ) → read-groups-lts.Need-returns-2 (
   read-groups-below t,
   groups.Post,
 ) (read-groups-at t) groups.Post
+unfolding number-outcome
 read-groups-returns-2 t c = sym (read-ends (c .before .before .before .args .left) (now (c .before .before .before .args .bytes)) (c .before .if1 .left) (c .if2 .taken))
 
 read-groups-shared-slice-read-group : (t : ℕ) → read-groups-lts.Need-shared-slice-read-group (
@@ -57,6 +59,7 @@ read-groups-returns-3 : (t : ℕ) → read-groups-lts.Need-returns-3 (
   read-groups-below t,
   groups.Post,
 ) (read-groups-at t) groups.Post
+unfolding number-outcome
 read-groups-returns-3 t c = sym (read-last (c .before .before .before .before .before .args .left) (now (c .before .before .before .before .before .args .bytes)) (c .before .before .before .if1 .left) (c .before .before .if2 .left) (c .if3 .taken))
 
 read-groups-sub-read-groups : (t : ℕ) → read-groups-lts.Need-sub-read-groups (
@@ -105,10 +108,11 @@ read-groups-returns-4 : (t : ℕ) → read-groups-lts.Need-returns-4 (
   read-groups-below t,
   groups.Post,
 ) (read-groups-at t) groups.Post
+unfolding number-outcome
 read-groups-returns-4 t c =
     let s = c .before .before .before .before .before .before .before .before .before .before .before .args in
-    let rest : c .before .before .before .before .read-groups .result ≡ read-groups (s .left - 1) (drop 1 (now (s .bytes))) = c .before .before .before .before .read-groups .ensures ∙ ap (read-groups (s .left - 1)) (rest-whole 1 (now (s .bytes))) in
-    let value : read-groups (s .left - 1) (drop 1 (now (s .bytes))) ≡ Value (c .before .before .rest2 .given .0 .0) (c .before .before .rest2 .given .0 .1 .0) = sym rest ∙ c .before .before .rest2 .given .1 in
+    let rest : number-outcome (c .before .before .before .before .read-groups .result) ≡ read-groups (s .left - 1) (drop 1 (now (s .bytes))) = c .before .before .before .before .read-groups .ensures ∙ ap (read-groups (s .left - 1)) (rest-whole 1 (now (s .bytes))) in
+    let value : read-groups (s .left - 1) (drop 1 (now (s .bytes))) ≡ Value (c .before .before .rest2 .given .0 .0) (c .before .before .rest2 .given .0 .1 .0) = sym rest ∙ ap number-outcome (c .before .before .rest2 .given .1) in
     sym (read-more (s .left) (now (s .bytes)) (c .before .before .before .before .before .before .before .before .before .if1 .left) (c .before .before .before .before .before .before .before .before .if2 .left) (c .before .before .before .before .before .before .if3 .left) ∙ ap (group-before _) value ∙ before-zero _ _ _ (c .if4 .taken))
 
 read-groups-cast-t19 : (t : ℕ) → read-groups-lts.Need-cast-t19 (
@@ -121,10 +125,11 @@ read-groups-mul-t20 : (t : ℕ) → read-groups-lts.Need-mul-t20 (
   read-groups-below t,
   groups.Post,
 ) (read-groups-at t) groups.Post
+unfolding number-outcome
 read-groups-mul-t20 t c =
     let s = c .before .before .before .before .before .before .before .before .before .before .before .args in
-    let rest : c .before .before .before .before .read-groups .result ≡ read-groups (s .left - 1) (drop 1 (now (s .bytes))) = c .before .before .before .before .read-groups .ensures ∙ ap (read-groups (s .left - 1)) (rest-whole 1 (now (s .bytes))) in
-    let value : read-groups (s .left - 1) (drop 1 (now (s .bytes))) ≡ Value (c .before .before .rest2 .given .0 .0) (c .before .before .rest2 .given .0 .1 .0) = sym rest ∙ c .before .before .rest2 .given .1 in
+    let rest : number-outcome (c .before .before .before .before .read-groups .result) ≡ read-groups (s .left - 1) (drop 1 (now (s .bytes))) = c .before .before .before .before .read-groups .ensures ∙ ap (read-groups (s .left - 1)) (rest-whole 1 (now (s .bytes))) in
+    let value : read-groups (s .left - 1) (drop 1 (now (s .bytes))) ≡ Value (c .before .before .rest2 .given .0 .0) (c .before .before .rest2 .given .0 .1 .0) = sym rest ∙ ap number-outcome (c .before .before .rest2 .given .1) in
     let small = read-bounded (s .left - 1) (drop 1 (now (s .bytes))) _ _ (small-drop (now (s .bytes)) (λ i. c .before .before .before .before .before .before .before .shared-slice-known2 .given i .fits)) value in
     omega (arith, small .0, cap-small (s .left - 1) (omega (arith, c .before .before .before .before .before .before .before .before .before .before .before .pre)))
 
@@ -132,10 +137,11 @@ read-groups-add-t21 : (t : ℕ) → read-groups-lts.Need-add-t21 (
   read-groups-below t,
   groups.Post,
 ) (read-groups-at t) groups.Post
+unfolding number-outcome
 read-groups-add-t21 t c =
     let s = c .before .before .before .before .before .before .before .before .before .before .before .args in
-    let rest : c .before .before .before .before .read-groups .result ≡ read-groups (s .left - 1) (drop 1 (now (s .bytes))) = c .before .before .before .before .read-groups .ensures ∙ ap (read-groups (s .left - 1)) (rest-whole 1 (now (s .bytes))) in
-    let value : read-groups (s .left - 1) (drop 1 (now (s .bytes))) ≡ Value (c .before .before .rest2 .given .0 .0) (c .before .before .rest2 .given .0 .1 .0) = sym rest ∙ c .before .before .rest2 .given .1 in
+    let rest : number-outcome (c .before .before .before .before .read-groups .result) ≡ read-groups (s .left - 1) (drop 1 (now (s .bytes))) = c .before .before .before .before .read-groups .ensures ∙ ap (read-groups (s .left - 1)) (rest-whole 1 (now (s .bytes))) in
+    let value : read-groups (s .left - 1) (drop 1 (now (s .bytes))) ≡ Value (c .before .before .rest2 .given .0 .0) (c .before .before .rest2 .given .0 .1 .0) = sym rest ∙ ap number-outcome (c .before .before .rest2 .given .1) in
     let small = read-bounded (s .left - 1) (drop 1 (now (s .bytes))) _ _ (small-drop (now (s .bytes)) (λ i. c .before .before .before .before .before .before .before .shared-slice-known2 .given i .fits)) value in
     omega (arith, small .0, cap-small (s .left - 1) (omega (arith, c .before .before .before .before .before .before .before .before .before .before .before .pre)), c .before .before .before .before .before .before .before .shared-slice-known2 .given 0)
 
@@ -143,10 +149,11 @@ read-groups-add-t22 : (t : ℕ) → read-groups-lts.Need-add-t22 (
   read-groups-below t,
   groups.Post,
 ) (read-groups-at t) groups.Post
+unfolding number-outcome
 read-groups-add-t22 t c =
     let s = c .before .before .before .before .before .before .before .before .before .before .before .args in
-    let rest : c .before .before .before .before .read-groups .result ≡ read-groups (s .left - 1) (drop 1 (now (s .bytes))) = c .before .before .before .before .read-groups .ensures ∙ ap (read-groups (s .left - 1)) (rest-whole 1 (now (s .bytes))) in
-    let value : read-groups (s .left - 1) (drop 1 (now (s .bytes))) ≡ Value (c .before .before .rest2 .given .0 .0) (c .before .before .rest2 .given .0 .1 .0) = sym rest ∙ c .before .before .rest2 .given .1 in
+    let rest : number-outcome (c .before .before .before .before .read-groups .result) ≡ read-groups (s .left - 1) (drop 1 (now (s .bytes))) = c .before .before .before .before .read-groups .ensures ∙ ap (read-groups (s .left - 1)) (rest-whole 1 (now (s .bytes))) in
+    let value : read-groups (s .left - 1) (drop 1 (now (s .bytes))) ≡ Value (c .before .before .rest2 .given .0 .0) (c .before .before .rest2 .given .0 .1 .0) = sym rest ∙ ap number-outcome (c .before .before .rest2 .given .1) in
     let small = read-bounded (s .left - 1) (drop 1 (now (s .bytes))) _ _ (small-drop (now (s .bytes)) (λ i. c .before .before .before .before .before .before .before .shared-slice-known2 .given i .fits)) value in
     omega (arith, small .1, c .before .before .before .before .before .before .before .before .before .before .before .pre)
 
@@ -154,20 +161,22 @@ read-groups-returns-5 : (t : ℕ) → read-groups-lts.Need-returns-5 (
   read-groups-below t,
   groups.Post,
 ) (read-groups-at t) groups.Post
+unfolding number-outcome
 read-groups-returns-5 t c =
     let s = c .before .before .before .before .before .before .before .before .before .before .args in
-    let rest : c .before .before .before .read-groups .result ≡ read-groups (s .left - 1) (drop 1 (now (s .bytes))) = c .before .before .before .read-groups .ensures ∙ ap (read-groups (s .left - 1)) (rest-whole 1 (now (s .bytes))) in
-    let value : read-groups (s .left - 1) (drop 1 (now (s .bytes))) ≡ Refused (c .before .rest .given .0 .0) = sym rest ∙ c .before .rest .given .1 in
+    let rest : number-outcome (c .before .before .before .read-groups .result) ≡ read-groups (s .left - 1) (drop 1 (now (s .bytes))) = c .before .before .before .read-groups .ensures ∙ ap (read-groups (s .left - 1)) (rest-whole 1 (now (s .bytes))) in
+    let value : read-groups (s .left - 1) (drop 1 (now (s .bytes))) ≡ Refused (c .before .rest .given .0 .0) = sym rest ∙ ap number-outcome (c .before .rest .given .1) in
     sym (read-more (s .left) (now (s .bytes)) (c .before .before .before .before .before .before .before .before .if1 .left) (c .before .before .before .before .before .before .before .if2 .left) (c .before .before .before .before .before .if3 .left) ∙ ap (group-before _) value ∙ before-refused _ _)
 
 read-groups-returns-6 : (t : ℕ) → read-groups-lts.Need-returns-6 (
   read-groups-below t,
   groups.Post,
 ) (read-groups-at t) groups.Post
+unfolding number-outcome
 read-groups-returns-6 t c =
     let s = c .before .before .before .before .before .before .before .before .before .before .before .args in
-    let rest : c .before .before .before .before .read-groups .result ≡ read-groups (s .left - 1) (drop 1 (now (s .bytes))) = c .before .before .before .before .read-groups .ensures ∙ ap (read-groups (s .left - 1)) (rest-whole 1 (now (s .bytes))) in
-    let value : read-groups (s .left - 1) (drop 1 (now (s .bytes))) ≡ Value (c .before .before .rest2 .given .0 .0) (c .before .before .rest2 .given .0 .1 .0) = sym rest ∙ c .before .before .rest2 .given .1 in
+    let rest : number-outcome (c .before .before .before .before .read-groups .result) ≡ read-groups (s .left - 1) (drop 1 (now (s .bytes))) = c .before .before .before .before .read-groups .ensures ∙ ap (read-groups (s .left - 1)) (rest-whole 1 (now (s .bytes))) in
+    let value : read-groups (s .left - 1) (drop 1 (now (s .bytes))) ≡ Value (c .before .before .rest2 .given .0 .0) (c .before .before .rest2 .given .0 .1 .0) = sym rest ∙ ap number-outcome (c .before .before .rest2 .given .1) in
     sym (read-more (s .left) (now (s .bytes)) (c .before .before .before .before .before .before .before .before .before .if1 .left) (c .before .before .before .before .before .before .before .before .if2 .left) (c .before .before .before .before .before .before .if3 .left) ∙ ap (group-before _) value ∙ before-value _ _ _ (c .if4 .left))
 
 pub +read-groups-spec : {M : Type 1} → statement M
