@@ -3,7 +3,7 @@ ghost use mathlib.Core.Path.{_≡_};
 ghost use Prim.Native.Nat.{_≤_};
 ghost use Rattle.timetable.specs.Outputs.{reply};
 ghost use Rattle.timetable.specs.EditsFile.{plan-numbers, extension-numbers, deletion-numbers, report-numbers, edit-numbers};
-ghost use Rattle.fields.specs.between.Answers.{in-use};
+ghost use Rattle.fields.specs.between.Answers.{row-of};
 ghost use Rattle.edit_writing.specs.Writing.{write-edit, edit-written, write-edits, edits-written, PutsList};
 ghost use mathlib.Core.List.{[], _∷_, flatMap};
 use edit_files::edit::EditRead;
@@ -16,12 +16,13 @@ use railway::edit::Edit;
 use railway::edit::Extension;
 use railway::edit::Plan;
 use railway::edit::Report;
+use railway::sorts::Station;
 use railway::sorts::Train;
 use relation_files::row::led_numbers;
 use timetable::Output;
 
 fn plan_row(kind: u16, p: Plan) -> Numbers
-    ensures { λ r. ⌜ in-use r ≡ kind ∷ plan-numbers p ⌝ }
+    ensures { λ r. ⌜ r ≡ row-of (kind ∷ plan-numbers p) ⌝ }
 {
     Numbers {
         from: 0,
@@ -44,77 +45,45 @@ fn plan_row(kind: u16, p: Plan) -> Numbers
 }
 
 fn extension_row(kind: u16, x: Extension) -> Numbers
-    ensures { λ r. ⌜ in-use r ≡ kind ∷ extension-numbers x ⌝ }
+    ensures { λ r. ⌜ r ≡ row-of (kind ∷ extension-numbers x) ⌝ }
 {
-    let p = x.plan;
+    let plan = plan_row(kind, x.plan);
+    let mut values = plan.values;
+    values[6] = x.other.0 as u16;
+    values[7] = x.line.0 as u16;
+    values[8] = x.run as u16;
     Numbers {
         from: 0,
         to: 9,
-        values: [
-            kind,
-            p.station.0 as u16,
-            p.train.0,
-            p.track.0 as u16,
-            p.arrival.0,
-            p.departure.0,
-            x.other.0 as u16,
-            x.line.0 as u16,
-            x.run as u16,
-            0,
-            0,
-            0,
-        ],
+        values: values,
+    }
+}
+
+// A visit's station and train, and one number more.
+fn visit_row(kind: u16, s: Station, t: Train, n: u16) -> Numbers
+    ensures { λ r. ⌜ r ≡ row-of (kind ∷ s .0 ∷ t .0 ∷ n ∷ []) ⌝ }
+{
+    Numbers {
+        from: 0,
+        to: 4,
+        values: [kind, s.0 as u16, t.0, n, 0, 0, 0, 0, 0, 0, 0, 0],
     }
 }
 
 fn deletion_row(kind: u16, d: Deletion) -> Numbers
-    ensures { λ r. ⌜ in-use r ≡ kind ∷ deletion-numbers d ⌝ }
+    ensures { λ r. ⌜ r ≡ row-of (kind ∷ deletion-numbers d) ⌝ }
 {
-    Numbers {
-        from: 0,
-        to: 4,
-        values: [
-            kind,
-            d.station.0 as u16,
-            d.train.0,
-            d.other.0 as u16,
-            0,
-            0,
-            0,
-            0,
-            0,
-            0,
-            0,
-            0,
-        ],
-    }
+    visit_row(kind, d.station, d.train, d.other.0 as u16)
 }
 
 fn report_row(kind: u16, r: Report) -> Numbers
-    ensures { λ q. ⌜ in-use q ≡ kind ∷ report-numbers r ⌝ }
+    ensures { λ q. ⌜ q ≡ row-of (kind ∷ report-numbers r) ⌝ }
 {
-    Numbers {
-        from: 0,
-        to: 4,
-        values: [
-            kind,
-            r.station.0 as u16,
-            r.train.0,
-            r.time.0,
-            0,
-            0,
-            0,
-            0,
-            0,
-            0,
-            0,
-            0,
-        ],
-    }
+    visit_row(kind, r.station, r.train, r.time.0)
 }
 
 fn cancellation_row(t: Train) -> Numbers
-    ensures { λ r. ⌜ in-use r ≡ 11 ∷ t .0 ∷ [] ⌝ }
+    ensures { λ r. ⌜ r ≡ row-of (11 ∷ t .0 ∷ []) ⌝ }
 {
     Numbers {
         from: 0,
@@ -125,7 +94,7 @@ fn cancellation_row(t: Train) -> Numbers
 
 // The numbers of an edit.
 fn edit_row(e: Edit) -> Numbers
-    ensures { λ r. ⌜ in-use r ≡ edit-numbers e ⌝ }
+    ensures { λ r. ⌜ r ≡ row-of (edit-numbers e) ⌝ }
 {
     match e {
         Edit::Place(p) => plan_row(1, p),

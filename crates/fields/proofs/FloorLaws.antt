@@ -11,9 +11,6 @@ use borrow.Author.Tests.{leb-true, leb-false, le-leb, lt-leb, eq-eqb, ne-eqb}
 use Rattle.base.specs.Choice.{if_then_else_}
 use Rattle.base.specs.Lists.{within}
 use Rattle.network.proofs.RowsInUse.{used-rows}
-use Rattle.numbers.specs.Numbers.{read-number}
-use Rattle.numbers.specs.declared.Reading.{Reading}
-use Rattle.numbers.specs.declared.Reading.the-variants.{Value, Refused}
 use Rattle.timetable.specs.Formats.{Outcome, accepted, refused, placed-field, field-at, least, floor-after}
 use Rattle.fields.proofs.ReadLaws.{used-next, used-over}
 use Rattle.fields.specs.declared.field.Numbers.{Numbers}
@@ -73,9 +70,9 @@ module _ (floor : Numbers) (to : ℕ) (many : length (floor .values) ≡ 12) (e 
     unfolding floor-after
     after-other h k d = let (c, cs, u, v) = floor-more h k in rw (v, ne-eqb n (getD (floor .values) (floor .from) 0) (λ q. d (sym q)))
 
-    pub after-equal : floor .from < to → floor .from + 1 < to → getD (floor .values) (floor .from) 0 ≡ n → drop (floor .from + 1) (take to (floor .values)) ≡ floor-after n (in-use floor)
+    pub after-equal : floor .from < to → floor .from + 1 < to → getD (floor .values) (floor .from) 0 ≡ n → drop 1 (in-use floor) ≡ floor-after n (in-use floor)
     unfolding floor-after
-    after-equal h k d = let (c, cs, u, v) = floor-more h k in rw (v, eq-eqb n (getD (floor .values) (floor .from) 0) (sym d)) u
+    after-equal h k d = let (c, cs, u, v) = floor-more h k in rw (v, eq-eqb n (getD (floor .values) (floor .from) 0) (sym d))
 
 -- what an answer says of the outcome
 module _ (o : Outcome ℕ) (r : Number) (e : r ≡ number-read o) where

@@ -5,3 +5,4 @@ pub mod EndLaws
 pub mod FloorLaws
 pub mod ByteLaws
 pub mod NumbersPut
+pub mod RowHolds

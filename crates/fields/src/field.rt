@@ -84,14 +84,13 @@ pub fn refused_row(refusal: u8, place: usize) -> RowRead
     }
 }
 
-// How many of the places of an array are in use.
-pub fn in_use(count: usize, places: usize) -> usize
-    ensures { λ r. ⌜ r ≡ min count places ⌝ }
+pub fn smaller(x: usize, y: usize) -> usize
+    ensures { λ r. ⌜ r ≡ min x y ⌝ }
 {
-    if places < count {
-        return places;
+    if y < x {
+        return y;
     }
-    count
+    x
 }
 
 // A row of numbers from a place of the file on.
@@ -99,7 +98,7 @@ pub fn row(file: &[u8], at: usize, ranges: Spans) -> RowRead
     ensures { λ r. ⌜ r ≡ row-read (read (row (ranges-of ranges) []) (now (file .entry)) at) ⌝ }
 {
     let spans = ranges.spans;
-    let n = in_use(ranges.count, 8);
+    let n = smaller(ranges.count, 8);
     let mut values: [u16; 12] = [0; 12];
     let mut place = at;
     let mut i: usize = 0;

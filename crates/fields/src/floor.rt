@@ -3,8 +3,9 @@
 ghost use mathlib.Core.Path.{_≡_};
 ghost use mathlib.Core.List.{[]};
 ghost use Prim.Native.Nat.{_<_, max};
+ghost use lib.ListN.{drop};
 ghost use Rattle.timetable.specs.Formats.{field-at, least, floor-after};
-ghost use Rattle.fields.specs.between.Answers.{in-use, number-read};
+ghost use Rattle.fields.specs.between.Answers.{in-use, row-of, number-read};
 use crate::field;
 use crate::field::FieldRead;
 use crate::field::Numbers;
@@ -34,12 +35,37 @@ fn wide(x: u16) -> u32
 
 // No number to compare with.
 pub fn no_floor() -> Numbers
-    ensures { λ r. ⌜ in-use r ≡ [] ⌝ }
+    ensures { λ r. ⌜ r ≡ row-of [] ⌝ }
 {
     Numbers {
         from: 0,
         to: 0,
         values: [0; 12],
+    }
+}
+
+// The row without its first number.
+pub fn behind_first(row: Numbers) -> Numbers
+    ensures { λ r. ⌜ r ≡ row-of (drop 1 (in-use row)) ⌝ }
+{
+    let values = row.values;
+    let from = row.from;
+    let to = field::smaller(row.to, 12);
+    if to <= from {
+        return no_floor();
+    }
+    let mut left: [u16; 12] = [0; 12];
+    let mut count: usize = 0;
+    let mut i = from + 1;
+    while i < to {
+        left[count] = values[i];
+        count += 1;
+        i += 1;
+    }
+    Numbers {
+        from: 0,
+        to: count,
+        values: left,
     }
 }
 
@@ -49,7 +75,7 @@ fn least(floor: Numbers, lo: u32) -> u32
 {
     let values = floor.values;
     let from = floor.from;
-    let to = field::in_use(floor.to, 12);
+    let to = field::smaller(floor.to, 12);
     if from < to {
         let b = wide(values[from]);
         if from + 1 < to {
@@ -62,27 +88,21 @@ fn least(floor: Numbers, lo: u32) -> u32
 
 // What is left to compare with behind the number n.
 pub fn floor_after(floor: Numbers, n: u16) -> Numbers
-    ensures { λ r. ⌜ in-use r ≡ floor-after n (in-use floor) ⌝ }
+    ensures { λ r. ⌜ r ≡ row-of (floor-after n (in-use floor)) ⌝ }
 {
     let values = floor.values;
     let from = floor.from;
-    let to = field::in_use(floor.to, 12);
-    if from < to {
-        if from + 1 < to {
-            if values[from] == n {
-                return Numbers {
-                    from: from + 1,
-                    to: to,
-                    values: values,
-                };
-            }
-        }
+    let to = field::smaller(floor.to, 12);
+    if to <= from {
+        return no_floor();
     }
-    Numbers {
-        from: 0,
-        to: 0,
-        values: values,
+    if to <= from + 1 {
+        return no_floor();
     }
+    if values[from] == n {
+        return behind_first(floor);
+    }
+    no_floor()
 }
 
 // The number of lo..hi at a place that is not below the floor.

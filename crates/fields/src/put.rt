@@ -42,7 +42,7 @@ fn put_all(out: &mut [u8], at: usize, row: Numbers) -> usize
     ensures { λ r. ⌜ Places at (in-use row) (now (out .entry)) r (now (out .exit)) 36 ⌝ }
 {
     let values = row.values;
-    let to = field::in_use(row.to, 12);
+    let to = field::smaller(row.to, 12);
     let mut next = at;
     let mut i: usize = row.from;
     while i < to {

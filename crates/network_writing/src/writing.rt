@@ -10,11 +10,11 @@ ghost use Rattle.timetable.specs.Outputs.{reply, put};
 ghost use Rattle.fields.specs.between.Putting.{Places};
 ghost use Rattle.network_writing.specs.Writing.{write-network, network-written};
 use fields::field::Numbers;
-use fields::field::in_use;
 use fields::put;
 use network::LineRow;
 use network::Network;
 use network::StationRow;
+use network::in_use;
 use timetable::Output;
 
 // "(number, area, count of tracks 1..8)"
@@ -70,7 +70,7 @@ fn put_stations(out: &mut [u8], at: usize, n: Network) -> usize
     ensures { λ q. ⌜ Places at (flatMap station-numbers (station-rows n)) (now (out .entry)) q (now (out .exit)) 576 ⌝ }
 {
     let rows = n.stations;
-    let k = in_use(n.stationcount as usize, 16);
+    let k = in_use(n.stationcount, 16);
     let mut next = at;
     let mut i: usize = 0;
     while i < k {
@@ -86,7 +86,7 @@ fn put_lines(out: &mut [u8], at: usize, n: Network) -> usize
     ensures { λ q. ⌜ Places at (flatMap line-numbers (line-rows n)) (now (out .entry)) q (now (out .exit)) 1152 ⌝ }
 {
     let rows = n.lines;
-    let k = in_use(n.linecount as usize, 32);
+    let k = in_use(n.linecount, 32);
     let mut next = at;
     let mut i: usize = 0;
     while i < k {

@@ -1,12 +1,14 @@
 // The numbers of a relation, as they stand in a file, behind another number or alone.
 ghost use mathlib.Core.Path.{_≡_};
 ghost use mathlib.Core.List.{List, [], _∷_, _++_, map};
-ghost use Prim.Native.Nat.{_+_, _<_, _≤_};
+ghost use Prim.Native.Nat.{ℕ, _<_};
+ghost use lib.ListN.{length};
 ghost use Rattle.base.specs.Lists.{keep};
 ghost use Rattle.railway.specs.Relations.{present};
 ghost use Rattle.timetable.specs.EditsFile.{group-numbers, station-relation-numbers};
-ghost use Rattle.fields.specs.between.Answers.{in-use};
+ghost use Rattle.fields.specs.between.Answers.{row-of};
 use fields::field::Numbers;
+use fields::floor::behind_first;
 use railway::edit::StationRelation;
 use railway::relation::Relation;
 use railway::relation::Trains;
@@ -15,7 +17,7 @@ use railway::sorts::Train;
 
 // One train more, if the place holds one.
 fn with_train(f: Numbers, t: Train) -> Numbers
-    ensures { λ r. ⌜ (f .from ≤ f .to → f .to < 12 → (in-use r ≡ in-use f ++ map (λ u. u .0) (keep present (t ∷ []))) × (r .from ≡ f .from) × (f .to ≤ r .to) × (r .to ≤ f .to + 1)) ⌝ }
+    ensures { λ r. ⌜ ((ns : List ℕ) → f ≡ row-of ns → length ns < 12 → r ≡ row-of (ns ++ map (λ u. u .0) (keep present (t ∷ [])))) ⌝ }
 {
     let to = f.to;
     let mut values = f.values;
@@ -34,7 +36,7 @@ fn with_train(f: Numbers, t: Train) -> Numbers
 
 // A connection or a disconnection, by its kind.
 fn group_fields(lead: u16, s: Station, kind: u16, i: u8, ts: Trains) -> Numbers
-    ensures { λ r. ⌜ (in-use r ≡ lead ∷ s .0 ∷ group-numbers kind i ts) × (r .from ≡ 0) ⌝ }
+    ensures { λ r. ⌜ r ≡ row-of (lead ∷ s .0 ∷ group-numbers kind i ts) ⌝ }
 {
     let count = ts.count() as u16;
     let head = Numbers {
@@ -50,7 +52,7 @@ fn group_fields(lead: u16, s: Station, kind: u16, i: u8, ts: Trains) -> Numbers
 
 // Behind the number `lead`.
 pub fn led_numbers(lead: u16, x: StationRelation) -> Numbers
-    ensures { λ r. ⌜ (in-use r ≡ lead ∷ station-relation-numbers x) × (r .from ≡ 0) ⌝ }
+    ensures { λ r. ⌜ r ≡ row-of (lead ∷ station-relation-numbers x) ⌝ }
 {
     let relation = x.relation;
     match relation {
@@ -79,13 +81,7 @@ pub fn led_numbers(lead: u16, x: StationRelation) -> Numbers
 
 // Alone.
 pub fn relation_numbers(x: StationRelation) -> Numbers
-    ensures { λ r. ⌜ in-use r ≡ station-relation-numbers x ⌝ }
+    ensures { λ r. ⌜ r ≡ row-of (station-relation-numbers x) ⌝ }
 {
-    let led = led_numbers(0, x);
-    let values = led.values;
-    Numbers {
-        from: 1,
-        to: led.to,
-        values: values,
-    }
+    behind_first(led_numbers(0, x))
 }

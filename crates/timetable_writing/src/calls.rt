@@ -12,9 +12,9 @@ ghost use Rattle.sheet.specs.Sheets.{decode-sheet};
 ghost use Rattle.fields.specs.between.Putting.{Places};
 ghost use Rattle.timetable_writing.specs.between.Parts.{relation-row, visits-here, relations-here, visit-total, relation-total, visit-part, relation-part, file-rows};
 ghost use Rattle.timetable_writing.specs.Writing.{write-timetable, timetable-written, sheet-totals};
-use fields::field::in_use;
 use fields::put;
 use network::Network;
+use network::in_use;
 use page::entries;
 use railway::edit::StationRelation;
 use railway::relation::Relation;
@@ -97,7 +97,7 @@ fn visit_total(sheet: &[u8], n: Network) -> usize
     ensures { λ r. ⌜ (r ≡ visit-total n (decode-sheet (now (sheet .entry)))) × (r ≤ 384) ⌝ }
 {
     let rows = n.stations;
-    let k = in_use(n.stationcount as usize, 16);
+    let k = in_use(n.stationcount, 16);
     let mut total: usize = 0;
     let mut i: usize = 0;
     while i < k {
@@ -113,7 +113,7 @@ fn relation_total(sheet: &[u8], n: Network) -> usize
     ensures { λ r. ⌜ (r ≡ relation-total n (decode-sheet (now (sheet .entry)))) × (r ≤ 96) ⌝ }
 {
     let rows = n.stations;
-    let k = in_use(n.stationcount as usize, 16);
+    let k = in_use(n.stationcount, 16);
     let mut total: usize = 0;
     let mut i: usize = 0;
     while i < k {
@@ -147,7 +147,7 @@ fn put_all_visits(out: &mut [u8], at: usize, sheet: &[u8], n: Network) -> usize
     ensures { λ q. ⌜ Places at (visit-part n (decode-sheet (now (sheet .entry)))) (now (out .entry)) q (now (out .exit)) 41472 ⌝ }
 {
     let rows = n.stations;
-    let k = in_use(n.stationcount as usize, 16);
+    let k = in_use(n.stationcount, 16);
     let mut next = at;
     let mut i: usize = 0;
     while i < k {
@@ -168,7 +168,7 @@ fn put_all_relations(out: &mut [u8], at: usize, sheet: &[u8], n: Network) -> usi
     ensures { λ q. ⌜ Places at (relation-part n (decode-sheet (now (sheet .entry)))) (now (out .entry)) q (now (out .exit)) 3456 ⌝ }
 {
     let rows = n.stations;
-    let k = in_use(n.stationcount as usize, 16);
+    let k = in_use(n.stationcount, 16);
     let mut next = at;
     let mut i: usize = 0;
     while i < k {

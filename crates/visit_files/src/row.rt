@@ -2,7 +2,7 @@
 // (fields as listed, or a single 0 for none)".
 ghost use mathlib.Core.Path.{_≡_};
 ghost use Rattle.timetable.specs.TimetableFile.{status-number, visit-numbers};
-ghost use Rattle.fields.specs.between.Answers.{in-use};
+ghost use Rattle.fields.specs.between.Answers.{row-of};
 use fields::field::Numbers;
 use railway::sorts::Station;
 use railway::sorts::Train;
@@ -21,7 +21,7 @@ fn status_number(occurred: bool) -> u16
 }
 
 pub fn visit_numbers(station: Station, train: Train, v: Visit) -> Numbers
-    ensures { λ r. ⌜ in-use r ≡ visit-numbers (record { station = station; train = train; visit = v }) ⌝ }
+    ensures { λ r. ⌜ r ≡ row-of (visit-numbers (record { station = station; train = train; visit = v })) ⌝ }
 {
     let arrived = status_number(v.arrived);
     let departed = status_number(v.departed);

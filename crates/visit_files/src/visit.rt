@@ -6,7 +6,7 @@ ghost use Prim.Native.Nat.{_<_, _≤_};
 ghost use lib.ListN.{getD};
 ghost use Rattle.timetable.specs.Formats.{read};
 ghost use Rattle.timetable.specs.TimetableFile.{in-link-entry, out-link-entry, visit-entry};
-ghost use Rattle.fields.specs.between.Answers.{ranges-of, in-use};
+ghost use Rattle.fields.specs.between.Answers.{ranges-of, row-of};
 ghost use Rattle.visit_files.specs.between.Answers.{in-outcome, out-fields, out-outcome, value-ranges, visit-in, visit-values, visit-outcome};
 use fields::field::FieldRead;
 use fields::field::Numbers;
@@ -165,7 +165,7 @@ fn visit_values(file: &[u8], at: usize, s: u16, t: u16) -> VisitRead
 
 // "rising by s and t alone"
 fn visit_floor(s: Station, t: Train) -> Numbers
-    ensures { λ r. ⌜ in-use r ≡ s .0 ∷ t .0 ∷ [] ⌝ }
+    ensures { λ r. ⌜ r ≡ row-of (s .0 ∷ t .0 ∷ []) ⌝ }
 {
     Numbers {
         from: 0,

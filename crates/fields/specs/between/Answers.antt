@@ -37,7 +37,11 @@ row-read (refused k p) = record { accepted = false; refusal = k; place = p; valu
 unfoldable pub in-use : Numbers → List ℕ
 in-use f = drop (f .from) (take (f .to) (f .values))
 
+-- the row that holds these numbers, zeros behind them
+unfoldable pub row-of : List ℕ → Numbers
+row-of ns = record { from = 0; to = length ns; values = padded 12 0 ns }
+
 -- The key ring of this module: `unfolding opened` opens every definition above.
 unfoldable pub opened : Unit {0}
-unfolding field-outcome number-read ranges-of padded row-read in-use
+unfolding field-outcome number-read ranges-of padded row-read in-use row-of
 opened = tt

@@ -10,6 +10,7 @@ use Rattle.timetable.specs.EditsFile.{station-relation-entry}
 use Rattle.relation_files.specs.between.Answers.{relation-outcome}
 use Rattle.edit_files.specs.Answers.{edit-outcome}
 use Rattle.fields.proofs.EntryLaws.{made, unmade}
+use Rattle.fields.proofs.RowHolds.{row-held}
 use Rattle.edit_files.proofs.edit.remove_edit.Statement.{statement}
 use Rattle.edit_files.proofs.edit.remove_edit.Tie as tie
 
@@ -30,7 +31,7 @@ unfolding edit-outcome relation-outcome
 returns c =
     let s = c .before .before .before .before .before .before .args in
     let g = c .before .read .given in
-    let o = sym (c .before .before .before .relation-entry .ensures ∙ ap (λ (l : List ℕ). read (station-relation-entry l) (now (s .file)) (s .at)) (c .before .before .before .before .no-floor .ensures)) ∙ ap relation-outcome (g .1) in
+    let o = sym (c .before .before .before .relation-entry .ensures ∙ ap (λ (l : List ℕ). read (station-relation-entry l) (now (s .file)) (s .at)) (row-held (c .before .before .before .before .no-floor .ensures))) ∙ ap relation-outcome (g .1) in
     sym (unmade RemoveRelation (station-relation-entry []) (now (s .file)) (s .at) (g .0 .0) (g .0 .1 .0) o)
 
 returns-2 : tie.Need-returns-2
@@ -38,7 +39,7 @@ unfolding edit-outcome relation-outcome
 returns-2 c =
     let s = c .before .before .before .before .before .before .args in
     let g = c .before .read2 .given in
-    let o = sym (c .before .before .before .relation-entry .ensures ∙ ap (λ (l : List ℕ). read (station-relation-entry l) (now (s .file)) (s .at)) (c .before .before .before .before .no-floor .ensures)) ∙ ap relation-outcome (g .1) in
+    let o = sym (c .before .before .before .relation-entry .ensures ∙ ap (λ (l : List ℕ). read (station-relation-entry l) (now (s .file)) (s .at)) (row-held (c .before .before .before .before .no-floor .ensures))) ∙ ap relation-outcome (g .1) in
     sym (made RemoveRelation (station-relation-entry []) (now (s .file)) (s .at) (g .0 .0) (g .0 .1 .0) o)
 
 pub remove-edit-spec : {M : Type 1} → statement M

@@ -104,11 +104,11 @@ returns-8 c = rw (c .before .before .e8 .given .1) (c .report-row2 .ensures)
 
 returns-9 : tie.Need-returns-9
 unfolding edit-numbers
-returns-9 c = rw (c .before .before .e9 .given .1) (c .led-numbers .ensures .0)
+returns-9 c = rw (c .before .before .e9 .given .1) (c .led-numbers .ensures)
 
 returns-10 : tie.Need-returns-10
 unfolding edit-numbers
-returns-10 c = rw (c .before .before .e10 .given .1) (c .led-numbers2 .ensures .0)
+returns-10 c = rw (c .before .before .e10 .given .1) (c .led-numbers2 .ensures)
 
 returns-11 : tie.Need-returns-11
 unfolding edit-numbers

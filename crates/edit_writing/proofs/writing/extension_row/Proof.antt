@@ -1,29 +1,43 @@
--- `edit_writing::writing::extension_row` meets its contract: the numbers in use, one by one. Assumes nothing.
-use mathlib.Core.Path.{refl}
-use Rattle.timetable.specs.EditsFile.{plan-numbers, extension-numbers}
-use Rattle.fields.specs.between.Answers.{in-use}
+-- `edit_writing::writing::extension_row` meets its contract: the numbers of its plan, and three behind them. Assumes
+-- nothing.
+use mathlib.Core.Path.{ap}
+use lib.ListN.{set}
 use borrow.Author.Needs.{needs}
+use Rattle.timetable.specs.EditsFile.{plan-numbers, extension-numbers}
+use Rattle.fields.specs.declared.field.Numbers.{Numbers}
+use Rattle.fields.specs.between.Answers.{padded, row-of}
 use Rattle.edit_writing.proofs.writing.extension_row.Statement.{statement}
 use Rattle.edit_writing.proofs.writing.extension_row.Tie as tie
 
-cast-t4 : tie.Need-cast-t4
-cast-t4 c = search needs
+plan-row-requires : tie.Need-plan-row-requires
+plan-row-requires c κs = search needs
 
-cast-t5 : tie.Need-cast-t5
-cast-t5 c = search needs
+cast-values : tie.Need-cast-values
+cast-values c = search needs
 
-cast-t6 : tie.Need-cast-t6
-cast-t6 c = search needs
+array-write-values : tie.Need-array-write-values
+array-write-values c = search needs
 
-cast-t7 : tie.Need-cast-t7
-cast-t7 c = search needs
+cast-values-2 : tie.Need-cast-values-2
+cast-values-2 c = search needs
 
-cast-t8 : tie.Need-cast-t8
-cast-t8 c = search needs
+array-write-values-2 : tie.Need-array-write-values-2
+array-write-values-2 c = search needs
+
+cast-values-3 : tie.Need-cast-values-3
+cast-values-3 c = search needs
+
+array-write-values-3 : tie.Need-array-write-values-3
+array-write-values-3 c = search needs
 
 returns : tie.Need-returns
-unfolding in-use plan-numbers extension-numbers
-returns c = refl
+unfolding row-of padded plan-numbers extension-numbers
+returns c =
+    let x = c .before .before .before .before .before .args .x in
+    ap (λ (f : Numbers). record { from = 0; to = 9; values = set (set (set (f .values) 6 (x .other .0)) 7 (x .line .0)) 8 (x .run) }) (c .before .before .before .before .plan-row .ensures)
 
 pub extension-row-spec : {M : Type 1} → statement M
-extension-row-spec = tie.close (tie.spec cast-t4 cast-t5 cast-t6 cast-t7 cast-t8 returns)
+extension-row-spec =
+    tie.close
+    (tie.spec plan-row-requires cast-values array-write-values cast-values-2 array-write-values-2 cast-values-3
+    array-write-values-3 returns)

@@ -1,7 +1,7 @@
--- `edit_writing::writing::plan_row` meets its contract: the numbers in use, one by one. Assumes nothing.
+-- `edit_writing::writing::plan_row` meets its contract: its numbers one by one. Assumes nothing.
 use mathlib.Core.Path.{refl}
 use Rattle.timetable.specs.EditsFile.{plan-numbers}
-use Rattle.fields.specs.between.Answers.{in-use}
+use Rattle.fields.specs.between.Answers.{padded, row-of}
 use borrow.Author.Needs.{needs}
 use Rattle.edit_writing.proofs.writing.plan_row.Statement.{statement}
 use Rattle.edit_writing.proofs.writing.plan_row.Tie as tie
@@ -13,7 +13,7 @@ cast-t4 : tie.Need-cast-t4
 cast-t4 c = search needs
 
 returns : tie.Need-returns
-unfolding in-use plan-numbers
+unfolding row-of padded plan-numbers
 returns c = refl
 
 pub plan-row-spec : {M : Type 1} → statement M

@@ -16,6 +16,7 @@ use Rattle.fields.proofs.ReadLaws.{SoFar, start, turn, stop, over}
 use Rattle.fields.proofs.NumbersPut.{near}
 use Rattle.edit_files.proofs.EditsParts.{left-at, edit-taken, edit-stopped, edits-over}
 use Rattle.edit_files.specs.Answers.{edit-outcome}
+use Rattle.fields.proofs.RowHolds.{row-held}
 use Rattle.edit_writing.proofs.WritingLaws.{list-bytes, edit-put, same-edits}
 use Rattle.edit_writing.proofs.writing.put_edits.Statement.{statement}
 use Rattle.edit_writing.proofs.writing.put_edits.Tie as tie
@@ -89,7 +90,7 @@ loop-again c =
     let q = edit-taken (now (s .file)) (s .count) (l .i) (l .place) (omega arith) (g .0 .0) (g .0 .1 .0) o in
     let f = l .inv .3 .0 in
     let w = c .before .before .put-row in
-    let row = c .before .before .before .edit-row .ensures in
+    let row = row-held (c .before .before .before .edit-row .ensures) in
     let v = near (l .next) _ (l .out) (w .result) (w .last .0) 36 (omega arith) (w .ensures) in
     let x = edit-put (f .elements) (g .0 .0) (s .at) (l .next) (w .result) (s .out .now) (l .out) (w .last .0) (l .inv .3 .1) (l .inv .3 .2)
     (v .0 ∙ ap (λ (n : List ℕ). l .next + length (bytes-of n)) row) (v .1 ∙ ap (λ (n : List ℕ). put (l .next) (bytes-of n) (l .out)) row) in

@@ -1,17 +1,15 @@
--- `edit_writing::writing::report_row` meets its contract: the numbers in use, one by one. Assumes nothing.
-use mathlib.Core.Path.{refl}
-use Rattle.timetable.specs.EditsFile.{plan-numbers, report-numbers}
-use Rattle.fields.specs.between.Answers.{in-use}
+-- `edit_writing::writing::report_row` meets its contract: three numbers of it behind its kind. Assumes nothing.
 use borrow.Author.Needs.{needs}
+use Rattle.timetable.specs.EditsFile.{report-numbers}
 use Rattle.edit_writing.proofs.writing.report_row.Statement.{statement}
 use Rattle.edit_writing.proofs.writing.report_row.Tie as tie
 
-cast-t3 : tie.Need-cast-t3
-cast-t3 c = search needs
+visit-row-requires : tie.Need-visit-row-requires
+visit-row-requires c κs = search needs
 
 returns : tie.Need-returns
-unfolding in-use plan-numbers report-numbers
-returns c = refl
+unfolding report-numbers
+returns c = c .visit-row .ensures
 
 pub report-row-spec : {M : Type 1} → statement M
-report-row-spec = tie.close (tie.spec cast-t3 returns)
+report-row-spec = tie.close (tie.spec visit-row-requires returns)

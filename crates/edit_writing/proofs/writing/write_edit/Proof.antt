@@ -10,6 +10,7 @@ use Rattle.timetable.specs.Formats.{bytes-of}
 use Rattle.timetable.specs.EditsFile.{edit-numbers}
 use Rattle.timetable.specs.Outputs.{put}
 use Rattle.fields.proofs.NumbersPut.{near}
+use Rattle.fields.proofs.RowHolds.{row-held}
 use Rattle.edit_writing.proofs.WritingLaws.{edit-bad, edit-short, edit-fits}
 use borrow.Author.Needs.{needs}
 use Rattle.edit_writing.proofs.writing.write_edit.Statement.{statement}
@@ -33,7 +34,7 @@ returns c =
     let ok = sym (c .before .before .before .before .before .before .valid .ensures) ∙ c .before .before .before .before .before .if1 .taken in
     let p = c .before .before .put-row in
     let w = near _ _ _ _ _ 36 (omega arith) (p .ensures) in
-    let k : p .result ≡ length (bytes-of (edit-numbers (s .e))) = omega (arith, w .0, ap (λ (l : List ℕ). length (bytes-of l)) (c .before .before .before .before .edit-row .ensures)) in
+    let k : p .result ≡ length (bytes-of (edit-numbers (s .e))) = omega (arith, w .0, ap (λ (l : List ℕ). length (bytes-of l)) (row-held (c .before .before .before .before .edit-row .ensures))) in
     edit-short (s .e) (now (s .out)) ok (p .result) k (c .if2 .taken)
 
 put-row-requires-2 : tie.Need-put-row-requires-2
@@ -49,7 +50,7 @@ returns-2 c =
     let p = c .before .before .before .before .before .before .put-row in
     let w = near _ _ _ _ _ 36 (omega arith) (p .ensures) in
     let v = near _ _ _ _ _ 36 (omega arith) (c .before .before .put-row2 .ensures) in
-    let row = c .before .before .before .before .before .before .before .before .edit-row .ensures in
+    let row = row-held (c .before .before .before .before .before .before .before .before .edit-row .ensures) in
     let k : p .result ≡ length (bytes-of (edit-numbers (s .e))) = omega (arith, w .0, ap (λ (l : List ℕ). length (bytes-of l)) row) in
     let x = edit-fits (s .e) (now (s .out)) ok (p .result) k (c .before .before .before .before .if2 .left) in
     (x .0, v .1 ∙ ap (λ (l : List ℕ). put 0 (bytes-of l) (now (s .out))) row ∙ x .1)

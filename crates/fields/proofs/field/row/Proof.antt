@@ -62,8 +62,8 @@ whole : (ranges : Spans) (n : ℕ) (file : List ℕ) (at : ℕ) → length (rang
 unfolding ranges-of
 whole ranges n file at many e = ap (λ (l : List Span). read (row (map range l) []) file at) (used-rows (ranges .spans) (ranges .count) 8 n many e)
 
-in-use-requires : tie.Need-in-use-requires Inv-loop μ-loop
-in-use-requires c κs = search needs
+smaller-requires : tie.Need-smaller-requires Inv-loop μ-loop
+smaller-requires c κs = search needs
 
 loop-holds : tie.Need-loop-holds Inv-loop μ-loop
 unfolding padded start
@@ -88,7 +88,7 @@ returns : tie.Need-returns Inv-loop μ-loop
 unfolding field-outcome
 returns c =
     let l = c .before .before .before .before .before .before .before .loop in
-    let u = c .before .before .before .before .before .before .before .before .in-use in
+    let u = c .before .before .before .before .before .before .before .before .smaller in
     let s = c .before .before .before .before .before .before .before .before .before .before .before .args in
     let g = c .before .before .number .given in
     let many : length (s .ranges .spans) ≡ 8 = simp length-map at (c .before .before .before .before .before .before .before .before .before .before .before .good .1 .1 .0 .1 .1 .1 .0 .1 .0 .1) in
@@ -115,7 +115,7 @@ loop-again : tie.Need-loop-again Inv-loop μ-loop
 unfolding turn field-outcome
 loop-again c =
     let l = c .before .before .before .before .before .before .loop in
-    let u = c .before .before .before .before .before .before .before .in-use in
+    let u = c .before .before .before .before .before .before .before .smaller in
     let s = c .before .before .before .before .before .before .before .before .before .before .args in
     let g = c .before .number2 .given in
     let many : length (s .ranges .spans) ≡ 8 = simp length-map at (c .before .before .before .before .before .before .before .before .before .before .good .1 .1 .0 .1 .1 .1 .0 .1 .0 .1) in
@@ -128,7 +128,7 @@ returns-2 : tie.Need-returns-2 Inv-loop μ-loop
 unfolding row-read
 returns-2 c =
     let l = c .before .loop in
-    let u = c .before .before .in-use in
+    let u = c .before .before .smaller in
     let s = c .before .before .before .before .before .args in
     let many : length (s .ranges .spans) ≡ 8 = simp length-map at (c .before .before .before .before .before .good .1 .1 .0 .1 .1 .1 .0 .1 .0 .1) in
     let f = l .inv .1 .0 in
@@ -139,6 +139,6 @@ returns-2 c =
 pub row-spec : {M : Type 1} → statement M
 row-spec =
     tie.close
-    (tie.spec Inv-loop μ-loop in-use-requires loop-holds mul-span array-copy-out-span field-requires enum-known-number
+    (tie.spec Inv-loop μ-loop smaller-requires loop-holds mul-span array-copy-out-span field-requires enum-known-number
     refused-row-requires returns enum-known-number-2 mul-values array-write-values add-i loop-less loop-again
     returns-2)

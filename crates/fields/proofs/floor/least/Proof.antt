@@ -8,8 +8,8 @@ use Rattle.fields.proofs.FloorLaws.{least-none, least-last, least-more}
 use Rattle.fields.proofs.floor.least.Statement.{statement}
 use Rattle.fields.proofs.floor.least.Tie as tie
 
-in-use-requires : tie.Need-in-use-requires
-in-use-requires c κs = search needs
+smaller-requires : tie.Need-smaller-requires
+smaller-requires c κs = search needs
 
 mul-wide : tie.Need-mul-wide
 mul-wide c = search needs
@@ -30,7 +30,7 @@ returns : tie.Need-returns
 returns c =
     let s = c .before .before .before .before .before .before .args in
     let many : length (s .floor .values) ≡ 12 = simp length-map at (c .before .before .before .before .before .before .good .0 .1 .1 .1 .1 .0 .1 .0 .1) in
-    let u = c .before .before .before .before .in-use in
+    let u = c .before .before .before .before .smaller in
     let w = c .before .before .wide .ensures .0 in
     c .larger .ensures ∙ ap (λ (b : ℕ). max (s .lo) b) w ∙ least-more (s .floor) (u .result) many (u .ensures) (s .lo) (omega arith) (omega arith)
 
@@ -44,7 +44,7 @@ returns-2 : tie.Need-returns-2
 returns-2 c =
     let s = c .before .before .before .before .before .before .args in
     let many : length (s .floor .values) ≡ 12 = simp length-map at (c .before .before .before .before .before .before .good .0 .1 .1 .1 .1 .0 .1 .0 .1) in
-    let u = c .before .before .before .before .in-use in
+    let u = c .before .before .before .before .smaller in
     let w = c .before .before .wide .ensures .0 in
     c .larger2 .ensures ∙ ap (λ (b : ℕ). max (s .lo) (b + 1)) w ∙ least-last (s .floor) (u .result) many (u .ensures) (s .lo) (omega arith) (omega arith)
 
@@ -52,11 +52,11 @@ returns-3 : tie.Need-returns-3
 returns-3 c =
     let s = c .before .before .before .args in
     let many : length (s .floor .values) ≡ 12 = simp length-map at (c .before .before .before .good .0 .1 .1 .1 .1 .0 .1 .0 .1) in
-    let u = c .before .in-use in
+    let u = c .before .smaller in
     least-none (s .floor) (u .result) many (u .ensures) (s .lo) (omega arith)
 
 pub least-spec : {M : Type 1} → statement M
 least-spec =
     tie.close
-    (tie.spec in-use-requires mul-wide array-read-wide wide-requires add-if2 larger-requires returns add-larger
+    (tie.spec smaller-requires mul-wide array-read-wide wide-requires add-if2 larger-requires returns add-larger
     larger-requires-2 returns-2 returns-3)

@@ -27,8 +27,8 @@ Inv-loop out₀ at values to next₀ i₀ out next i =
 abbrev μ-loop : tie.MeasureT-loop
 μ-loop out₀ at values to next₀ i₀ out next i = to - i
 
-in-use-requires : tie.Need-in-use-requires Inv-loop μ-loop
-in-use-requires c κs = search needs
+smaller-requires : tie.Need-smaller-requires Inv-loop μ-loop
+smaller-requires c κs = search needs
 
 loop-holds : tie.Need-loop-holds Inv-loop μ-loop
 loop-holds c = (omega arith, omega arith, omega arith, refl, refl, refl)
@@ -52,7 +52,7 @@ loop-again : tie.Need-loop-again Inv-loop μ-loop
 loop-again c =
     let q = c .before .before .before .before .before .before .before .before .before in
     let s = q .args in
-    let u = c .before .before .before .before .before .before .in-use in
+    let u = c .before .before .before .before .before .before .smaller in
     let many : length (s .row .values) ≡ 12 = simp length-map at (q .good .1 .1 .0 .1 .1 .1 .1 .0 .1 .0 .1) in
     let l = c .before .before .before .before .before .loop in
     let w = c .before .before .put-bytes in
@@ -74,7 +74,7 @@ unfolding bytes-of put in-use
 returns c =
     let q = c .before .before .before .before .before in
     let s = q .args in
-    let u = c .before .before .in-use in
+    let u = c .before .before .smaller in
     let many : length (s .row .values) ≡ 12 = simp length-map at (q .good .1 .1 .0 .1 .1 .1 .1 .0 .1 .0 .1) in
     let l = c .before .loop in
     let whole : flatMap write-number (drop (s .row .from) (take (s .row .to) (s .row .values))) ≡ flatMap write-number (drop (s .row .from) (take (u .result) (s .row .values))) =
@@ -85,5 +85,5 @@ returns c =
 pub put-all-spec : {M : Type 1} → statement M
 put-all-spec =
     tie.close
-    (tie.spec Inv-loop μ-loop in-use-requires loop-holds mul-put-bytes array-read-put-bytes put-bytes-requires add-i
+    (tie.spec Inv-loop μ-loop smaller-requires loop-holds mul-put-bytes array-read-put-bytes put-bytes-requires add-i
     loop-less loop-again same-length returns)

@@ -18,9 +18,6 @@ Inv-loop out₀ at rows k next₀ i₀ out next i =
 abbrev μ-loop : tie.MeasureT-loop
 μ-loop out₀ at rows k next₀ i₀ out next i = k - i
 
-cast-in-use : tie.Need-cast-in-use Inv-loop μ-loop
-cast-in-use c = search needs
-
 in-use-requires : tie.Need-in-use-requires Inv-loop μ-loop
 in-use-requires c κs = search needs
 
@@ -44,7 +41,7 @@ loop-less c = omega arith
 
 loop-again : tie.Need-loop-again Inv-loop μ-loop
 loop-again c =
-    let q = c .before .before .before .before .before .before .before .before .before .before .before in
+    let q = c .before .before .before .before .before .before .before .before .before .before in
     let s = q .args in
     let many : length (s .n .stations) ≡ 16 = simp length-map at (q .good .1 .1 .0 .1 .1 .1 .0 .1 .0 .1) in
     let u = c .before .before .before .before .before .before .before .in-use in
@@ -62,7 +59,7 @@ same-length c = c .before .loop .inv .2
 returns : tie.Need-returns Inv-loop μ-loop
 unfolding station-rows
 returns c =
-    let q = c .before .before .before .before .before .before in
+    let q = c .before .before .before .before .before in
     let s = q .args in
     let many : length (s .n .stations) ≡ 16 = simp length-map at (q .good .1 .1 .0 .1 .1 .1 .0 .1 .0 .1) in
     let u = c .before .before .in-use in
@@ -73,5 +70,5 @@ returns c =
 pub put-stations-spec : {M : Type 1} → statement M
 put-stations-spec =
     tie.close
-    (tie.spec Inv-loop μ-loop cast-in-use in-use-requires loop-holds mul-row array-copy-out-row put-station-requires
+    (tie.spec Inv-loop μ-loop in-use-requires loop-holds mul-row array-copy-out-row put-station-requires
     add-i loop-less loop-again same-length returns)

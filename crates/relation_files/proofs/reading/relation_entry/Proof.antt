@@ -14,6 +14,7 @@ use Rattle.railway.specs.declared.edit.StationRelation.{StationRelation}
 use Rattle.fields.specs.between.Answers.{in-use, number-read}
 use Rattle.relation_files.specs.between.Answers.{relation-trains, relation-fields, relation-outcome}
 use Rattle.fields.proofs.FloorLaws.{number-value, number-refusal}
+use Rattle.fields.proofs.RowHolds.{row-held}
 use Rattle.relation_files.proofs.ReadingLaws.{relation-padded, trains-stop, trains-some, interval-stop, count-stop, count-then, place-stop, kind-stop, kind-then}
 use borrow.Author.Needs.{needs}
 use Rattle.relation_files.proofs.reading.relation_entry.Statement.{statement}
@@ -40,12 +41,12 @@ returns c =
     let n = c .before .before .before .before .before .before .compared in
     let o = number-value _ (n .result) (n .ensures) (c .before .before .before .before .before .if1 .taken) in
     let m = c .before .before .before .compared2 in
-    let e = m .ensures ∙ ap (λ (l : List ℕ). number-read (field-at (least 1 l) 3 (now (s .file)) (n .result .place))) (c .before .before .before .before .floor-after .ensures) in
+    let e = m .ensures ∙ ap (λ (l : List ℕ). number-read (field-at (least 1 l) 3 (now (s .file)) (n .result .place))) (row-held (c .before .before .before .before .floor-after .ensures)) in
     let q = number-value _ (m .result) e (c .before .before .if2 .taken) in
     let b = field-bounded _ 16 (now (s .file)) (s .at) (n .result .value) (n .result .place) o .1 in
     c .relation-fields .ensures b
     ∙ ap (λ (l : List ℕ). read (relation-fields (n .result .value) (m .result .value) l) (now (s .file)) (m .result .place))
-    (c .before .floor-after2 .ensures ∙ ap (floor-after (m .result .value)) (c .before .before .before .before .floor-after .ensures))
+    (row-held (c .before .floor-after2 .ensures) ∙ ap (floor-after (m .result .value)) (row-held (c .before .before .before .before .floor-after .ensures)))
     ∙ sym (kind-then (in-use (s .floor)) (now (s .file)) (s .at) (n .result .value) (n .result .place) o (m .result .value) (m .result .place) q)
 
 returns-2 : tie.Need-returns-2
@@ -55,7 +56,7 @@ returns-2 c =
     let n = c .before .before .before .before .compared in
     let o = number-value _ (n .result) (n .ensures) (c .before .before .before .if1 .taken) in
     let m = c .before .compared2 in
-    let e = m .ensures ∙ ap (λ (l : List ℕ). number-read (field-at (least 1 l) 3 (now (s .file)) (n .result .place))) (c .before .before .floor-after .ensures) in
+    let e = m .ensures ∙ ap (λ (l : List ℕ). number-read (field-at (least 1 l) 3 (now (s .file)) (n .result .place))) (row-held (c .before .before .floor-after .ensures)) in
     let q = number-refusal _ (m .result) e (c .if2 .left) in
     sym (kind-stop (in-use (s .floor)) (now (s .file)) (s .at) (n .result .value) (n .result .place) o (m .result .refusal) (m .result .place) q)
 

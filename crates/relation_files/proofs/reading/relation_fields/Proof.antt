@@ -14,6 +14,7 @@ use Rattle.railway.specs.declared.edit.StationRelation.{StationRelation}
 use Rattle.fields.specs.between.Answers.{in-use, number-read}
 use Rattle.relation_files.specs.between.Answers.{relation-trains, relation-fields, relation-outcome}
 use Rattle.fields.proofs.FloorLaws.{number-value, number-refusal}
+use Rattle.fields.proofs.RowHolds.{row-held}
 use Rattle.relation_files.proofs.ReadingLaws.{relation-padded, trains-stop, trains-some, interval-stop, count-stop, count-then, place-stop, kind-stop, kind-then}
 use borrow.Author.Needs.{needs}
 use Rattle.relation_files.proofs.reading.relation_fields.Statement.{statement}
@@ -47,13 +48,13 @@ returns c h =
     let o = number-value _ (n .result) (n .ensures) (c .before .before .before .before .before .before .if1 .taken) in
     let m = c .before .before .before .compared2 in
     let e = m .ensures
-    ∙ ap (λ (l : List ℕ). number-read (field-at (least 2 l) (c .before .before .before .before .most-trains .result) (now (s .file)) (n .result .place))) (c .before .before .before .before .before .floor-after .ensures)
+    ∙ ap (λ (l : List ℕ). number-read (field-at (least 2 l) (c .before .before .before .before .most-trains .result) (now (s .file)) (n .result .place))) (row-held (c .before .before .before .before .before .floor-after .ensures))
     ∙ ap (λ (x : ℕ). number-read (field-at (least 2 (floor-after (n .result .value) (in-use (s .floor)))) x (now (s .file)) (n .result .place))) (c .before .before .before .before .most-trains .ensures .0) in
     let q = number-value _ (m .result) e (c .before .before .if2 .taken) in
     let b = field-bounded _ 240 (now (s .file)) (s .at) (n .result .value) (n .result .place) o .1 in
     c .relation-trains .ensures h b
     ∙ ap (λ (l : List ℕ). read (relation-trains (s .s) (s .kind) (n .result .value) (m .result .value) l) (now (s .file)) (m .result .place))
-    (c .before .floor-after2 .ensures ∙ ap (floor-after (m .result .value)) (c .before .before .before .before .before .floor-after .ensures))
+    (row-held (c .before .floor-after2 .ensures) ∙ ap (floor-after (m .result .value)) (row-held (c .before .before .before .before .before .floor-after .ensures)))
     ∙ sym (count-then (s .s) (s .kind) (in-use (s .floor)) (now (s .file)) (s .at) (n .result .value) (n .result .place) o (m .result .value) (m .result .place) q)
 
 returns-2 : tie.Need-returns-2
@@ -64,7 +65,7 @@ returns-2 c h =
     let o = number-value _ (n .result) (n .ensures) (c .before .before .before .before .if1 .taken) in
     let m = c .before .compared2 in
     let e = m .ensures
-    ∙ ap (λ (l : List ℕ). number-read (field-at (least 2 l) (c .before .before .most-trains .result) (now (s .file)) (n .result .place))) (c .before .before .before .floor-after .ensures)
+    ∙ ap (λ (l : List ℕ). number-read (field-at (least 2 l) (c .before .before .most-trains .result) (now (s .file)) (n .result .place))) (row-held (c .before .before .before .floor-after .ensures))
     ∙ ap (λ (x : ℕ). number-read (field-at (least 2 (floor-after (n .result .value) (in-use (s .floor)))) x (now (s .file)) (n .result .place))) (c .before .before .most-trains .ensures .0) in
     let q = number-refusal _ (m .result) e (c .if2 .left) in
     sym (count-stop (s .s) (s .kind) (in-use (s .floor)) (now (s .file)) (s .at) (n .result .value) (n .result .place) o (m .result .refusal) (m .result .place) q)

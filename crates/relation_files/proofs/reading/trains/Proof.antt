@@ -15,6 +15,7 @@ use Rattle.fields.specs.between.Answers.{padded, row-read}
 use Rattle.fields.proofs.ReadLaws.{prefixed, SoFar, start, turn, stop, over, padded-next}
 use Rattle.fields.specs.between.Answers.{in-use, number-read}
 use Rattle.fields.proofs.FloorLaws.{number-value, number-refusal}
+use Rattle.fields.proofs.RowHolds.{row-held}
 use Rattle.relation_files.proofs.ReadingLaws.{least-train, train-taken, train-refused, trains-over}
 use Rattle.relation_files.proofs.reading.trains.Statement.{statement}
 use Rattle.relation_files.proofs.reading.trains.Tie as tie
@@ -94,7 +95,7 @@ loop-again c =
     let e = m .ensures ∙ ap (λ (lo : ℕ). number-read (field-at (least lo (in-use (l .left))) 9999 (now (s .file)) (l .place))) (c .before .before .before .least-train .ensures) in
     let o = number-value _ (m .result) e (c .before .if1 .taken) in
     let q = taken (now (s .file)) (s .rise) (s .count) (l .i) (l .before) (l .place) (in-use (l .left)) (omega arith) (m .result .value) (m .result .place) o
-    ∙ ap (λ (x : List ℕ). prefixed (m .result .value ∷ []) (left-at (now (s .file)) (s .rise) (s .count - (l .i + 1)) (m .result .value) x (m .result .place))) (sym (c .floor-after .ensures)) in
+    ∙ ap (λ (x : List ℕ). prefixed (m .result .value ∷ []) (left-at (now (s .file)) (s .rise) (s .count - (l .i + 1)) (m .result .value) x (m .result .place))) (sym (row-held (c .floor-after .ensures))) in
     let f = l .inv .1 .0 in (
       omega arith,
       (

@@ -6,8 +6,8 @@ use native.Mathlib.Omega.{arith}
 use lib.ListN.{length, length-map}
 use Rattle.railway.specs.Relations.{used}
 use Rattle.timetable.specs.EditsFile.{relation-numbers, station-relation-numbers, group-numbers}
-use Rattle.fields.specs.between.Answers.{in-use}
-use Rattle.relation_files.proofs.TrainNumbers.{train-more, train-none, one, four-places}
+use Rattle.fields.specs.between.Answers.{padded, row-of}
+use Rattle.relation_files.proofs.TrainNumbers.{one, one-more, four-places}
 use borrow.Author.Needs.{needs}
 use Rattle.relation_files.proofs.row.group_fields.Statement.{statement}
 use Rattle.relation_files.proofs.row.group_fields.Tie as tie
@@ -34,18 +34,22 @@ with-train-requires-4 : tie.Need-with-train-requires-4
 with-train-requires-4 c κs = search needs
 
 returns : tie.Need-returns
-unfolding in-use group-numbers
+unfolding row-of padded group-numbers
 returns c =
     let s = c .before .before .before .before .before .before .args in
-    let a = c .before .before .before .with-train .ensures (omega arith) (omega arith) in
-    let b = c .before .before .with-train2 .ensures (omega (arith, a .1, a .2)) (omega (arith, a .3)) in
-    let d = c .before .with-train3 .ensures (omega (arith, a .1, b .1, a .2, b .2)) (omega (arith, a .3, b .3)) in
-    let e = c .with-train4 .ensures (omega (arith, a .1, b .1, d .1, a .2, b .2, d .2)) (omega (arith, a .3, b .3, d .3)) in (
-      e .0 ∙ ap (λ (l : List ℕ). l ++ one (s .ts .d)) (d .0 ∙ ap (λ (l : List ℕ). l ++ one (s .ts .c)) (b .0 ∙ ap (λ (l : List ℕ). l ++ one (s .ts .b)) (a .0)))
-          ∙ four-places (s .ts) (s .lead ∷ s .s .0 ∷ s .kind ∷ s .i ∷ c .before .before .before .before .before .count .result ∷ [])
-          ∙ ap (λ (k : ℕ). s .lead ∷ s .s .0 ∷ s .kind ∷ s .i ∷ k ∷ map (λ u. u .0) (used (s .ts))) (c .before .before .before .before .before .count .ensures),
-      e .1 ∙ d .1 ∙ b .1 ∙ a .1,
-    )
+    let n = c .before .before .before .before .before .count in
+    let head : List ℕ = s .lead ∷ s .s .0 ∷ s .kind ∷ s .i ∷ n .result ∷ [] in
+    let few : length head ≤ 5 = omega arith in
+    let a-few = one-more head (s .ts .a) 5 few in
+    let b-few = one-more (head ++ one (s .ts .a)) (s .ts .b) 6 a-few in
+    let c-few = one-more ((head ++ one (s .ts .a)) ++ one (s .ts .b)) (s .ts .c) 7 b-few in
+    let a = c .before .before .before .with-train .ensures head refl (omega arith) in
+    let b = c .before .before .with-train2 .ensures (head ++ one (s .ts .a)) a (omega (arith, a-few)) in
+    let d = c .before .with-train3 .ensures ((head ++ one (s .ts .a)) ++ one (s .ts .b)) b (omega (arith, b-few)) in
+    let e = c .with-train4 .ensures (((head ++ one (s .ts .a)) ++ one (s .ts .b)) ++ one (s .ts .c)) d (omega (arith, c-few)) in
+    e ∙ ap row-of
+    (four-places (s .ts) head
+    ∙ ap (λ (k : ℕ). s .lead ∷ s .s .0 ∷ s .kind ∷ s .i ∷ k ∷ map (λ u. u .0) (used (s .ts))) (n .ensures))
 
 pub group-fields-spec : {M : Type 1} → statement M
 group-fields-spec =

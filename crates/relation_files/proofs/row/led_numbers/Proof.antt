@@ -4,7 +4,7 @@ use mathlib.Core.Path.{_≡_, refl, sym, _∙_}
 use mathlib.Core.List.{_∷_}
 use borrow.Author.Needs.{needs}
 use Rattle.timetable.specs.EditsFile.{relation-numbers, station-relation-numbers}
-use Rattle.fields.specs.between.Answers.{in-use}
+use Rattle.fields.specs.between.Answers.{padded, row-of}
 use Rattle.relation_files.proofs.row.led_numbers.Statement.{statement}
 use Rattle.relation_files.proofs.row.led_numbers.Tie as tie
 
@@ -31,15 +31,15 @@ cast-t12 c = search needs
 
 returns : tie.Need-returns
 unfolding station-relation-numbers relation-numbers
-returns c = (c .group-fields .ensures .0 ∙ sym (rw (c .before .before .relation .given .1)), c .group-fields .ensures .1)
+returns c = c .group-fields .ensures ∙ sym (rw (c .before .before .relation .given .1))
 
 returns-2 : tie.Need-returns-2
 unfolding station-relation-numbers relation-numbers
-returns-2 c = (c .group-fields2 .ensures .0 ∙ sym (rw (c .before .before .relation2 .given .1)), c .group-fields2 .ensures .1)
+returns-2 c = c .group-fields2 .ensures ∙ sym (rw (c .before .before .relation2 .given .1))
 
 returns-3 : tie.Need-returns-3
-unfolding station-relation-numbers relation-numbers in-use
-returns-3 c = (sym (rw (c .before .before .relation3 .given .1)), refl)
+unfolding station-relation-numbers relation-numbers row-of padded
+returns-3 c = sym (rw (c .before .before .relation3 .given .1))
 
 pub led-numbers-spec : {M : Type 1} → statement M
 led-numbers-spec =

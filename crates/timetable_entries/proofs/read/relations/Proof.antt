@@ -12,6 +12,7 @@ use Rattle.timetable.specs.EditsFile.{station-relation-entry}
 use Rattle.timetable.specs.TimetableFile.{relation-floor, relations-format}
 use Rattle.fields.specs.between.Answers.{in-use}
 use Rattle.relation_files.specs.between.Answers.{relation-outcome}
+use Rattle.fields.proofs.RowHolds.{row-held}
 use Rattle.timetable_entries.specs.declared.read.EntriesRead.{EntriesRead}
 use Rattle.timetable_entries.specs.between.Entering.{relation-step, answered, unanswered}
 use Rattle.timetable_entries.proofs.LoopLaws.{relation-station, left-at, Reached, reached-first, reached-next, reached-stop, reached-end}
@@ -32,7 +33,7 @@ no-floor-requires c κs = search needs
 loop-holds : tie.Need-loop-holds Inv-loop μ-loop
 loop-holds c =
     let s = c .before .before .before .args in
-    let e = ap (λ (l : List ℕ). left-at station-relation-entry relation-floor (now (s .file)) (s .count) l (s .at)) (sym (c .no-floor .ensures)) in
+    let e = ap (λ (l : List ℕ). left-at station-relation-entry relation-floor (now (s .file)) (s .count) l (s .at)) (sym (row-held (c .no-floor .ensures))) in
     (omega arith, (c .before .before .before .pre .0, reached-first station-relation-entry relation-floor (now (s .file)) (relation-step (s .n)) (s .count) (s .at) (progress (now (s .sheet)) (s .fault)) (in-use (c .no-floor .result)) e))
 
 relation-entry-requires : tie.Need-relation-entry-requires Inv-loop μ-loop
@@ -90,7 +91,7 @@ loop-again c =
     let o = sym (c .before .before .before .before .before .before .before .before .relation-entry .ensures) ∙ ap relation-outcome (g .1) in
     let h = c .before .before .before .enter-relation in
     let q = reached-next station-relation-entry relation-floor (now (s .file)) (relation-step (s .n)) (s .count) (s .at) (progress (now (s .sheet)) (s .fault)) (l .i) (in-use (l .floor)) (l .place) (progress (l .sheet) (l .first)) (l .inv .1 .1)
-    (omega arith) (g .0 .0) (g .0 .1 .0) _ _ o (c .relation-numbers .ensures) (h .ensures) in
+    (omega arith) (g .0 .0) (g .0 .1 .0) _ _ o (row-held (c .relation-numbers .ensures)) (h .ensures) in
     (omega arith, (h .kept .0 ∙ l .inv .1 .0, q))
 
 same-length-2 : tie.Need-same-length-2 Inv-loop μ-loop

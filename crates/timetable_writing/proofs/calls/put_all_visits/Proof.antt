@@ -23,9 +23,6 @@ Inv-loop out₀ at sheet rows k next₀ i₀ out next i =
 abbrev μ-loop : tie.MeasureT-loop
 μ-loop out₀ at sheet rows k next₀ i₀ out next i = k - i
 
-cast-in-use : tie.Need-cast-in-use Inv-loop μ-loop
-cast-in-use c = search needs
-
 in-use-requires : tie.Need-in-use-requires Inv-loop μ-loop
 in-use-requires c κs = search needs
 
@@ -42,7 +39,7 @@ page-of-requires : tie.Need-page-of-requires Inv-loop μ-loop
 page-of-requires c κs = search needs
 
 put-visits-requires : tie.Need-put-visits-requires Inv-loop μ-loop
-put-visits-requires c κs = omega (arith, c .before .before .before .before .before .in-use .ensures, c .before .before .before .before .before .before .before .before .before .before .pre .1)
+put-visits-requires c κs = omega (arith, c .before .before .before .before .before .in-use .ensures, c .before .before .before .before .before .before .before .before .before .pre .1)
 
 add-i : tie.Need-add-i Inv-loop μ-loop
 add-i c = omega arith
@@ -52,7 +49,7 @@ loop-less c = omega arith
 
 loop-again : tie.Need-loop-again Inv-loop μ-loop
 loop-again c =
-    let q = c .before .before .before .before .before .before .before .before .before .before .before .before .before in
+    let q = c .before .before .before .before .before .before .before .before .before .before .before .before in
     let s = q .args in
     let many : length (s .n .stations) ≡ 16 = simp length-map at (q .good .1 .1 .1 .0 .1 .1 .1 .0 .1 .0 .1) in
     let u = c .before .before .before .before .before .before .before .before .in-use in
@@ -71,7 +68,7 @@ same-length c = c .before .loop .inv .2
 returns : tie.Need-returns Inv-loop μ-loop
 unfolding visit-part station-rows
 returns c =
-    let q = c .before .before .before .before .before .before .before in
+    let q = c .before .before .before .before .before .before in
     let s = q .args in
     let many : length (s .n .stations) ≡ 16 = simp length-map at (q .good .1 .1 .1 .0 .1 .1 .1 .0 .1 .0 .1) in
     let u = c .before .before .in-use in
@@ -82,5 +79,5 @@ returns c =
 pub put-all-visits-spec : {M : Type 1} → statement M
 put-all-visits-spec =
     tie.close
-    (tie.spec Inv-loop μ-loop cast-in-use in-use-requires loop-holds mul-row array-copy-out-row page-of-requires
+    (tie.spec Inv-loop μ-loop in-use-requires loop-holds mul-row array-copy-out-row page-of-requires
     put-visits-requires add-i loop-less loop-again same-length returns)

@@ -22,9 +22,6 @@ Inv-loop sheet rows k total₀ i₀ total i = (i ≤ k) × (total ≤ 6 * i) × 
 abbrev μ-loop : tie.MeasureT-loop
 μ-loop sheet rows k total₀ i₀ total i = k - i
 
-cast-in-use : tie.Need-cast-in-use Inv-loop μ-loop
-cast-in-use c = search needs
-
 in-use-requires : tie.Need-in-use-requires Inv-loop μ-loop
 in-use-requires c κs = search needs
 
@@ -54,7 +51,7 @@ loop-less c = omega arith
 
 loop-again : tie.Need-loop-again Inv-loop μ-loop
 loop-again c =
-    let q = c .before .before .before .before .before .before .before .before .before in
+    let q = c .before .before .before .before .before .before .before .before in
     let s = q .args in
     let many : length (s .n .stations) ≡ 16 = simp length-map at (q .good .1 .0 .1 .1 .1 .0 .1 .0 .1) in
     let u = c .before .before .before .before .before .in-use in
@@ -69,7 +66,7 @@ loop-again c =
 returns : tie.Need-returns Inv-loop μ-loop
 unfolding relation-total station-rows
 returns c =
-    let q = c .before .before .before .before .before .before in
+    let q = c .before .before .before .before .before in
     let s = q .args in
     let many : length (s .n .stations) ≡ 16 = simp length-map at (q .good .1 .0 .1 .1 .1 .0 .1 .0 .1) in
     let u = c .before .before .in-use in
@@ -81,5 +78,5 @@ returns c =
 pub relation-total-spec : {M : Type 1} → statement M
 relation-total-spec =
     tie.close
-    (tie.spec Inv-loop μ-loop cast-in-use in-use-requires loop-holds mul-row array-copy-out-row page-of-requires
+    (tie.spec Inv-loop μ-loop in-use-requires loop-holds mul-row array-copy-out-row page-of-requires
     relation-count-requires add-total add-i loop-less loop-again returns)

@@ -1,7 +1,8 @@
 -- `visit_files::row::visit_numbers` meets its contract by the cases of the two links. Assumes nothing.
+use mathlib.Core.Path.{ap}
 use borrow.Author.Needs.{needs}
 use Rattle.timetable.specs.TimetableFile.{in-link-numbers, out-link-numbers}
-use Rattle.fields.specs.between.Answers.{in-use}
+use Rattle.fields.specs.between.Answers.{padded, row-of}
 use Rattle.visit_files.specs.Types.{InLink, OutLink}
 use Rattle.visit_files.proofs.VisitNumbers.{numbers-as}
 use Rattle.visit_files.proofs.row.visit_numbers.Statement.{statement}
@@ -62,36 +63,36 @@ cast-r-2 : tie.Need-cast-r-2
 cast-r-2 c = search needs
 
 returns : tie.Need-returns
-unfolding in-use in-link-numbers out-link-numbers
+unfolding row-of padded in-link-numbers out-link-numbers
 returns c =
     let s = c .before .before .before .before .before .before .before .before .args in
     let arrived = c .before .before .before .before .before .before .before .status-number in
     let departed = c .before .before .before .before .before .before .status-number2 in
-    numbers-as (s .station) (s .train) (s .v) (arrived .result) (departed .result) InLink.Nothing OutLink.Nothing (arrived .ensures) (departed .ensures) (c .before .before .enum-told .given .1) (c .enum-told2 .given .1)
+    ap row-of (numbers-as (s .station) (s .train) (s .v) (arrived .result) (departed .result) InLink.Nothing OutLink.Nothing (arrived .ensures) (departed .ensures) (c .before .before .enum-told .given .1) (c .enum-told2 .given .1))
 
 returns-2 : tie.Need-returns-2
-unfolding in-use in-link-numbers out-link-numbers
+unfolding row-of padded in-link-numbers out-link-numbers
 returns-2 c =
     let s = c .before .before .before .before .before .before .before .before .before .before .before .before .args in
     let arrived = c .before .before .before .before .before .before .before .before .before .before .before .status-number in
     let departed = c .before .before .before .before .before .before .before .before .before .before .status-number2 in
-    numbers-as (s .station) (s .train) (s .v) (arrived .result) (departed .result) InLink.Nothing (OutLink.To (c .before .before .before .before .to .given .0 .0)) (arrived .ensures) (departed .ensures) (c .before .before .before .before .before .before .enum-told .given .1) (c .before .before .before .before .to .given .1)
+    ap row-of (numbers-as (s .station) (s .train) (s .v) (arrived .result) (departed .result) InLink.Nothing (OutLink.To (c .before .before .before .before .to .given .0 .0)) (arrived .ensures) (departed .ensures) (c .before .before .before .before .before .before .enum-told .given .1) (c .before .before .before .before .to .given .1))
 
 returns-3 : tie.Need-returns-3
-unfolding in-use in-link-numbers out-link-numbers
+unfolding row-of padded in-link-numbers out-link-numbers
 returns-3 c =
     let s = c .before .before .before .before .before .before .before .before .before .before .before .args in
     let arrived = c .before .before .before .before .before .before .before .before .before .before .status-number in
     let departed = c .before .before .before .before .before .before .before .before .before .status-number2 in
-    numbers-as (s .station) (s .train) (s .v) (arrived .result) (departed .result) (InLink.From (c .before .before .before .before .before .from .given .0 .0)) OutLink.Nothing (arrived .ensures) (departed .ensures) (c .before .before .before .before .before .from .given .1) (c .enum-told3 .given .1)
+    ap row-of (numbers-as (s .station) (s .train) (s .v) (arrived .result) (departed .result) (InLink.From (c .before .before .before .before .before .from .given .0 .0)) OutLink.Nothing (arrived .ensures) (departed .ensures) (c .before .before .before .before .before .from .given .1) (c .enum-told3 .given .1))
 
 returns-4 : tie.Need-returns-4
-unfolding in-use in-link-numbers out-link-numbers
+unfolding row-of padded in-link-numbers out-link-numbers
 returns-4 c =
     let s = c .before .before .before .before .before .before .before .before .before .before .before .before .before .before .before .args in
     let arrived = c .before .before .before .before .before .before .before .before .before .before .before .before .before .before .status-number in
     let departed = c .before .before .before .before .before .before .before .before .before .before .before .before .before .status-number2 in
-    numbers-as (s .station) (s .train) (s .v) (arrived .result) (departed .result) (InLink.From (c .before .before .before .before .before .before .before .before .before .from .given .0 .0)) (OutLink.To (c .before .before .before .before .to2 .given .0 .0)) (arrived .ensures) (departed .ensures) (c .before .before .before .before .before .before .before .before .before .from .given .1) (c .before .before .before .before .to2 .given .1)
+    ap row-of (numbers-as (s .station) (s .train) (s .v) (arrived .result) (departed .result) (InLink.From (c .before .before .before .before .before .before .before .before .before .from .given .0 .0)) (OutLink.To (c .before .before .before .before .to2 .given .0 .0)) (arrived .ensures) (departed .ensures) (c .before .before .before .before .before .before .before .before .before .from .given .1) (c .before .before .before .before .to2 .given .1))
 
 pub visit-numbers-spec : {M : Type 1} → statement M
 visit-numbers-spec =

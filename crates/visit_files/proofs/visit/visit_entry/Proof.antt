@@ -9,6 +9,7 @@ use Rattle.fields.proofs.EntryLaws.{field-bounded}
 use Rattle.fields.specs.between.Answers.{number-read}
 use Rattle.visit_files.specs.between.Answers.{visit-outcome}
 use Rattle.fields.proofs.FloorLaws.{number-value, number-refusal}
+use Rattle.fields.proofs.RowHolds.{row-held}
 use Rattle.visit_files.proofs.VisitLaws.{station-stop, train-stop, train-then}
 use borrow.Author.Needs.{needs}
 use Rattle.visit_files.proofs.visit.visit_entry.Statement.{statement}
@@ -32,12 +33,12 @@ visit-values-requires c κs = search needs
 returns : tie.Need-returns
 returns c =
     let s = c .before .before .before .before .before .before .before .before .args in
-    let two = c .before .before .before .before .before .before .visit-floor .ensures in
+    let two = row-held (c .before .before .before .before .before .before .visit-floor .ensures) in
     let n = c .before .before .before .before .before .compared in
     let d = n .ensures ∙ ap (λ (l : List ℕ). number-read (field-at (least 1 l) 16 (now (s .file)) (s .at))) two in
     let o = number-value _ (n .result) d (c .before .before .before .before .if1 .taken) in
     let m = c .before .before .compared2 in
-    let left = c .before .before .before .floor-after .ensures ∙ ap (floor-after (n .result .value)) two in
+    let left = row-held (c .before .before .before .floor-after .ensures) ∙ ap (floor-after (n .result .value)) two in
     let e = m .ensures ∙ ap (λ (l : List ℕ). number-read (field-at (least 1 l) 9999 (now (s .file)) (n .result .place))) left in
     let q = number-value _ (m .result) e (c .before .if2 .taken) in
     let b = field-bounded _ 16 (now (s .file)) (s .at) (n .result .value) (n .result .place) o .1 in
@@ -48,12 +49,12 @@ returns-2 : tie.Need-returns-2
 unfolding visit-outcome
 returns-2 c =
     let s = c .before .before .before .before .before .before .before .args in
-    let two = c .before .before .before .before .before .visit-floor .ensures in
+    let two = row-held (c .before .before .before .before .before .visit-floor .ensures) in
     let n = c .before .before .before .before .compared in
     let d = n .ensures ∙ ap (λ (l : List ℕ). number-read (field-at (least 1 l) 16 (now (s .file)) (s .at))) two in
     let o = number-value _ (n .result) d (c .before .before .before .if1 .taken) in
     let m = c .before .compared2 in
-    let left = c .before .before .floor-after .ensures ∙ ap (floor-after (n .result .value)) two in
+    let left = row-held (c .before .before .floor-after .ensures) ∙ ap (floor-after (n .result .value)) two in
     let e = m .ensures ∙ ap (λ (l : List ℕ). number-read (field-at (least 1 l) 9999 (now (s .file)) (n .result .place))) left in
     let q = number-refusal _ (m .result) e (c .if2 .left) in
     sym (train-stop (s .station .0 ∷ s .train .0 ∷ []) (now (s .file)) (s .at) (n .result .value) (n .result .place) o (m .result .refusal) (m .result .place) q)
@@ -62,7 +63,7 @@ returns-3 : tie.Need-returns-3
 unfolding visit-outcome
 returns-3 c =
     let s = c .before .before .before .before .args in
-    let two = c .before .before .visit-floor .ensures in
+    let two = row-held (c .before .before .visit-floor .ensures) in
     let n = c .before .compared in
     let d = n .ensures ∙ ap (λ (l : List ℕ). number-read (field-at (least 1 l) 16 (now (s .file)) (s .at))) two in
     let o = number-refusal _ (n .result) d (c .if1 .left) in
