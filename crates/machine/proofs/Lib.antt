@@ -10,3 +10,4 @@ pub mod KnownGood
 pub mod FileRefusals
 pub mod TakenLaws
 pub mod RunLaws
+pub mod ReplyFixesRun

@@ -17,7 +17,7 @@ use Rattle.timetable.specs.Outputs.{output, output-after, put}
 use Rattle.timetable.proofs.BuffersFilled.{too-short, fits-in}
 use Rattle.machine.specs.Calls.{division-answer, division-after}
 use Rattle.edit_files.specs.Answers.{edits-answer}
-use Rattle.timetable.proofs.OutcomeLaws.{clash, behind-taken}
+use Rattle.timetable.proofs.OutcomeLaws.{clash, behind-taken, ended-taken}
 use Rattle.fields.proofs.EntryLaws.{field-bounded}
 use Rattle.fields.proofs.EntryLaws.{placed-read, entries-many}
 use Rattle.machine.specs.Types.{Edit, Network, Answer, Run, EditsRead}
@@ -40,15 +40,6 @@ pub record Held (file : List ℕ) (r : EditsRead) : Type 0 where
   pub many : length (edits .entry) ≡ r .count
   pub readable : can-be-read (r .count) file (r .first) ≡ true
   pub are : edits-at (r .count) file (r .first) ≡ edits .entry
-
-pub ended-taken : {A : Type 0} (file : List ℕ) (o : Outcome A) (a : A) (next : ℕ) → ended file o ≡ accepted a next → o ≡ accepted a next
-unfolding ended
-ended-taken file (refused k p) a next e = e
-ended-taken file (accepted b p) a next e = go (leb (length file) p) e
-  where
-    go : (c : Bool) → (if c then accepted b p else refused 1 p) ≡ accepted a next → accepted b p ≡ accepted a next
-    go true q = q
-    go false q = clash a next 1 p q
 
 pub taken-there : (file : List ℕ) (k p j at : ℕ) (es : List Edit) (u : ℕ) → j ≡ k → at ≡ p → read (edits-on k) file p ≡ accepted es u
     → (can-be-read j file at ≡ true) × (edits-at j file at ≡ es)
