@@ -36,18 +36,7 @@ module _ (at : ℕ) (s : Station) (rule a b : ℕ) (w x y z o : List ℕ)
   unfolding told
   told-so found e = rw e (omega arith, four, omega arith)
 
--- one part behind the other
-
-pub puts-two : (at r q k j : ℕ) (xs ys before mid after : List ℕ) → Puts at xs before r mid k → Puts r ys mid q after j → Puts at (xs ++ ys) before q after (k + j)
-puts-two at r q k j xs ys before mid after p s = (
-  omega (arith, length-append xs ys),
-  s .1 ∙ ap₂ (λ (i : ℕ) (b : List ℕ). put i ys b) (p .0) (p .1) ∙ sym (put-append at xs ys before),
-  omega arith,
-)
-
--- the same numbers by another name
-pub puts-as : (at r k : ℕ) (xs ys before after : List ℕ) → xs ≡ ys → Puts at xs before r after k → Puts at ys before r after k
-puts-as at r k xs ys before after e p = (p .0 ∙ ap (λ (zs : List ℕ). at + length zs) e, p .1 ∙ ap (λ (zs : List ℕ). put at zs before) e, p .2)
+-- a pass that puts fewer, and one that puts nothing
 
 pub puts-more : (at r k j : ℕ) (xs before after : List ℕ) → k ≤ j → Puts at xs before r after k → Puts at xs before r after j
 puts-more at r k j xs before after h p = (p .0, p .1, omega arith)

@@ -17,7 +17,7 @@ use Rattle.timetable.specs.Formats.{Outcome, accepted, refused, number, place-o
 use Rattle.timetable.specs.EditsFile.{edit-numbers, edits-on, edits-format, read-edits, edits-numbers}
 use Rattle.timetable.specs.Outputs.{reply, put}
 use Rattle.timetable.proofs.BuffersFilled.{put-two, refused-so, too-short, fits-in}
-use Rattle.timetable.proofs.OutcomeLaws.{clash, behind-taken}
+use Rattle.timetable.proofs.OutcomeLaws.{clash, behind-taken, ended-taken}
 use Rattle.fields.proofs.EntryLaws.{placed-read}
 use Rattle.fields.proofs.NumbersPut.{bytes-two}
 use Rattle.edit_files.specs.declared.list.EditsRead.{EditsRead}
@@ -74,15 +74,6 @@ list-put k es at later b₀ b c p q r s =
     put-two 0 at later (write-number k) (list-bytes es) b₀ b c p q r s
 
 -- the edits that a file holds, from the place of the first
-
-ended-taken : {A : Type 0} (file : List ℕ) (o : Outcome A) (a : A) (next : ℕ) → ended file o ≡ accepted a next → o ≡ accepted a next
-unfolding ended
-ended-taken file (refused k p) a next e = e
-ended-taken file (accepted b p) a next e = go (leb (length file) p) e
-  where
-    go : (t : Bool) → (if t then accepted b p else refused 1 p) ≡ accepted a next → accepted b p ≡ accepted a next
-    go true q = q
-    go false q = clash a next 1 p q
 
 there : (file : List ℕ) (k s u : ℕ) (es : List Edit) (x : Placed (List Edit)) (next : ℕ) → accepted (record { place = s; entry = es }) u ≡ accepted x next → length es ≡ k
     → read (edits-on k) file s ≡ accepted es u → read (edits-on (length (x .entry))) file (x .place) ≡ accepted (x .entry) u

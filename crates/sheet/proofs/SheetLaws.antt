@@ -12,7 +12,7 @@ use lib.Seq.{take-at, take-add, take-all, drop-drop, drop-append-add, length-tak
 use borrow.Author.Tests.{ltb-true, eq-eqb}
 use Rattle.base.specs.Choice.{if_then_else_}
 use Rattle.base.specs.Lists.{every, within}
-use Rattle.base.proofs.Tests.{by-value, T-true, true-T, not-T-false, and-l, and-r, both, every-head, every-tail, every-cons, every-weaker}
+use Rattle.base.proofs.Tests.{by-value, T-true, true-T, not-T-false, and-l, and-r, both, every-head, every-tail, every-cons, every-weaker, every-at}
 use Rattle.railway.specs.Ranges.{station-ok}
 use Rattle.network.specs.Networks.{network-refusal, listed, area-of}
 use Rattle.timetable.specs.Tables.{empty}
@@ -71,11 +71,6 @@ row-whole w (suc n) i b =
     let s : w * suc n ≡ w + w * n = omega arith in
     ap₂ _++_ (ap (λ (j : ℕ). take w (drop j b)) p) (row-whole w n (i + 1) b ∙ ap (λ (j : ℕ). take (w * n) (drop j b)) q ∙ ap (take (w * n)) (sym (drop-drop w (w * i) b)))
     ∙ sym (take-add w (w * n) (drop (w * i) b)) ∙ ap (λ (j : ℕ). take j (drop (w * i) b)) (sym s)
-
-every-at : {A : Type 0} (f : A → Bool) (xs : List A) (i : ℕ) (d : A) → T (every f xs) → i < length xs → T (f (getD xs i d))
-every-at f [] i d t h = absurd (omega arith)
-every-at f (x ∷ xs) zero d t h = every-head f x xs t
-every-at f (x ∷ xs) (suc i) d t h = every-at f xs i d (every-tail f x xs t) (omega arith)
 
 -- stations and areas by their numbers
 

@@ -34,7 +34,8 @@ use Rattle.machine.proofs.WholeSheets.{whole-good, whole-back, bytes-run}
 use Rattle.findings.specs.Lists.{sheet-list-refusal}
 use Rattle.findings.proofs.DividedLists.{list-formed}
 use Rattle.builder.specs.between.Builder.{findings-most}
-use Rattle.builder.proofs.FindingsPut.{puts-two, puts-as, puts-more}
+use Rattle.timetable.proofs.BuffersFilled.{puts-two, puts-as}
+use Rattle.builder.proofs.FindingsPut.{puts-more}
 use Rattle.builder.proofs.BuildLaws.{flat-map}
 use Rattle.machine.specs.Lists.{known-good, division-of}
 use Rattle.machine.proofs.KnownGood.{sheets-good, is-known}
@@ -161,8 +162,8 @@ module _ (n : Network) (good : network-refusal n ≡ 0) where
       pub run-put : (at r count : ℕ) (b mid later : List ℕ) → Puts 0 (answers-text 1 as′) b at mid (68 * count) → count ≤ 1000
           → Puts at (end-text n (decode-sheet (merged n d)) y) mid r later (26 * findings-most + 136) → Puts 0 (run-text n es) b r later shift-most
       run-put at r count b mid later w few v =
-          puts-as 0 r shift-most (answers-text 1 as′ ++ end-text n (decode-sheet (merged n d)) y) (run-text n es) b later (sym text-parts)
-          (puts-two 0 at r 68000 (26 * findings-most + 136) (answers-text 1 as′) (end-text n (decode-sheet (merged n d)) y) b mid later
+          puts-as 0 r (answers-text 1 as′ ++ end-text n (decode-sheet (merged n d)) y) (run-text n es) b later shift-most (sym text-parts)
+          (puts-two 0 at r (answers-text 1 as′) (end-text n (decode-sheet (merged n d)) y) b mid later 68000 (26 * findings-most + 136)
           (puts-more 0 at (68 * count) 68000 (answers-text 1 as′) b mid (omega (arith, few)) w) v)
 
 -- findings, totals and the tally of the sheet that a division merges to
@@ -173,16 +174,16 @@ unfolding end-text totals-text
 end-put n sheet whole y at p q r count b x z later same fine low w many t u =
     let m : Timetable = decode-sheet sheet in
     let near : at ≤ far = omega (arith, low) in
-    let found : Puts at (whole-text n m) b p x (26 * findings-most) = puts-as at p (26 * findings-most) _ (whole-text n m) b x (whole-there at near n sheet fine) w in
+    let found : Puts at (whole-text n m) b p x (26 * findings-most) = puts-as at p _ (whole-text n m) b x (26 * findings-most) (whole-there at near n sheet fine) w in
     let text = totals-there p (omega (arith, low, w .2)) n sheet (fine-size n sheet fine) count in
     let totals : Puts p (totals-text n m) x q z 68 =
-    puts-as p q 68 _ (totals-text n m) x z (text ∙ ap (λ (k : ℕ). line 84 (visit-count n m ∷ relation-count n m ∷ k ∷ [])) (many ∙ count-there at near n sheet fine)) t in
+    puts-as p q _ (totals-text n m) x z 68 (text ∙ ap (λ (k : ℕ). line 84 (visit-count n m ∷ relation-count n m ∷ k ∷ [])) (many ∙ count-there at near n sheet fine)) t in
     rw (← same)
-    (puts-two at p r (26 * findings-most) 136 (whole-text n m) (totals-text n m ++ line-text (tally-line y)) b x later found
-    (puts-two p q r 68 68 (totals-text n m) (line-text (tally-line y)) x z later totals u))
+    (puts-two at p r (whole-text n m) (totals-text n m ++ line-text (tally-line y)) b x later (26 * findings-most) 136 found
+    (puts-two p q r (totals-text n m) (line-text (tally-line y)) x z later 68 68 totals u))
 
 -- what is put of a text is put of the whole, where they are the same
 pub text-put : (input text : List ℕ) (r k : ℕ) (b later : List ℕ) → shift-text input ≡ text → k ≤ shift-most → Puts 0 text b r later k
     → Puts 0 (shift-text input) b r later shift-most
 text-put input text r k b later e h w =
-    puts-as 0 r shift-most text (shift-text input) b later (sym e) (puts-more 0 r k shift-most text b later h w)
+    puts-as 0 r text (shift-text input) b later shift-most (sym e) (puts-more 0 r k shift-most text b later h w)

@@ -12,7 +12,7 @@ use borrow.Author.Tests.{le-leb, lt-leb, ne-eqb}
 use Rattle.base.specs.Choice.{if_then_else_}
 use Rattle.base.proofs.Lengths.{drop-next}
 use Rattle.timetable.specs.Types.{Output}
-use Rattle.timetable.specs.Outputs.{reply, output, output-after, put}
+use Rattle.timetable.specs.Outputs.{reply, output, output-after, put, Puts}
 
 module _ {X : Type 0} where
   pub put-length : (at : ℕ) (xs b : List X) → length (put at xs b) ≡ length b
@@ -63,6 +63,15 @@ module _ {X : Type 0} where
       → (s ≡ at + length (xs ++ ys)) × (d ≡ put at (xs ++ ys) b)
   put-two at r s xs ys b c d e f g h =
       (omega (arith, e, g, length-append xs ys), h ∙ rw (e, f) (sym (put-append at xs ys b)))
+
+-- what each part of a pass promises: one part behind the other, and the same numbers by another name
+pub puts-two : (at r s : ℕ) (xs ys b c d : List ℕ) (j k : ℕ) → Puts at xs b r c j → Puts r ys c s d k → Puts at (xs ++ ys) b s d (j + k)
+puts-two at r s xs ys b c d j k x y =
+    let w = put-two at r s xs ys b c d (x .0) (x .1) (y .0) (y .1) in
+    (w .0, w .1, omega (arith, x .2, y .2))
+
+pub puts-as : (at r : ℕ) (xs ys b c : List ℕ) (k : ℕ) → xs ≡ ys → Puts at xs b r c k → Puts at ys b r c k
+puts-as at r xs ys b c k e x = rw e at x
 
 -- what the first k elements of a row are written as, from the one at i on
 module _ {X Y : Type 0} (f : Y → List X) (ys : List Y) (k : ℕ) (fits : k ≤ length ys) (i : ℕ) (y : Y) where

@@ -11,7 +11,8 @@ use Rattle.network.specs.Networks.{blank-station}
 use Rattle.rule_tests.specs.between.Tests.{held}
 use Rattle.builder.specs.between.Builder.{station-numbers}
 use Rattle.builder.specs.between.Builder.{list-most, station-most}
-use Rattle.builder.proofs.FindingsPut.{Left, left-start, left-on, left-end, puts-as}
+use Rattle.timetable.proofs.BuffersFilled.{puts-as}
+use Rattle.builder.proofs.FindingsPut.{Left, left-start, left-on, left-end}
 use Rattle.builder.proofs.BuildLaws.{rows-next, rows-over, stations-are}
 use Rattle.builder.proofs.list_all.Statement.{statement}
 use Rattle.builder.proofs.list_all.Tie as tie
@@ -61,7 +62,7 @@ returns c =
     let l = c .before .loop in
     let k = c .before .before .in-use in
     let many : length (s .n .stations) ≡ 16 = simp length-map at (c .before .before .before .before .before .before .good .1 .1 .0 .1 .1 .1 .0 .1 .0 .1) in
-    puts-as 0 (l .to) list-most _ _ (now (s .out)) (l .out) (stations-are (s .n) (s .scope) (held (now (s .sheet))) (k .result) many (k .ensures))
+    puts-as 0 (l .to) _ _ (now (s .out)) (l .out) list-most (stations-are (s .n) (s .scope) (held (now (s .sheet))) (k .result) many (k .ensures))
     (left-end 0 _ (now (s .out)) (l .to) list-most _ (l .out) (rows-over (λ r. station-numbers (s .n) (s .scope) (held (now (s .sheet))) (r .station)) (s .n .stations) (k .result) (omega (arith, k .ensures)) (l .i) (c .loop-test .left)) (l .inv .3) (omega (arith, k .ensures)))
 
 pub list-all-spec : {M : Type 1} → statement M

@@ -10,7 +10,8 @@ use Rattle.rules.specs.between.Parts.{entry}
 use Rattle.page.specs.between.Entries.{entry-at}
 use Rattle.page.proofs.EntryLaws.{entry-of, entry-parts}
 use Rattle.builder.specs.between.Builder.{visit-most}
-use Rattle.builder.proofs.FindingsPut.{puts-as, puts-more}
+use Rattle.timetable.proofs.BuffersFilled.{puts-as}
+use Rattle.builder.proofs.FindingsPut.{puts-more}
 use Rattle.builder.proofs.BuildLaws.{step-paired, step-facing, step-one}
 use borrow.Author.Needs.{needs}
 use Rattle.builder.proofs.list_one.Statement.{statement}
@@ -41,7 +42,7 @@ returns : tie.Need-returns
 returns c =
     let s = c .before .before .before .before .before .before .before .before .before .before .before .before .args in
     let same = entry-parts _ _ _ (c .before .before .before .before .before .before .before .train-in .ensures) (c .before .before .before .before .before .before .visit-in .ensures) ∙ entry-of _ _ _ (c .before .before .before .before .before .before .before .before .entry-record .ensures) in
-    puts-as (s .at) (c .before .before .list-against .result) visit-most _ _ _ _
+    puts-as (s .at) (c .before .before .list-against .result) _ _ _ _ visit-most
     (step-paired (s .n) (s .scope) (held (now (s .sheet))) (table-in (now (s .here))) (s .s) (s .rule) (entry-at (s .i) (now (s .here))) (entry (c .before .before .before .before .before .before .before .train-in .result) (c .before .before .before .before .before .before .visit-in .result)) (drop (s .i + 1) (table-in (now (s .here)) .visits)) same (c .before .before .before .before .before .is-paired .result) (c .before .before .before .before .before .is-paired .ensures) (c .before .before .before .before .if1 .taken))
     (c .before .before .list-against .ensures)
 
@@ -55,7 +56,7 @@ returns-2 : tie.Need-returns-2
 returns-2 c =
     let s = c .before .before .before .before .before .before .before .before .before .before .before .before .before .args in
     let same = entry-parts _ _ _ (c .before .before .before .before .before .before .before .before .train-in .ensures) (c .before .before .before .before .before .before .before .visit-in .ensures) ∙ entry-of _ _ _ (c .before .before .before .before .before .before .before .before .before .entry-record .ensures) in
-    puts-as (s .at) (c .before .before .list-facing .result) visit-most _ _ _ _
+    puts-as (s .at) (c .before .before .list-facing .result) _ _ _ _ visit-most
     (step-facing (s .n) (s .scope) (held (now (s .sheet))) (table-in (now (s .here))) (s .s) (s .rule) (entry-at (s .i) (now (s .here))) (entry (c .before .before .before .before .before .before .before .before .train-in .result) (c .before .before .before .before .before .before .before .visit-in .result)) (drop (s .i + 1) (table-in (now (s .here)) .visits)) same (c .before .before .before .before .before .before .is-paired .result) (c .before .before .before .before .before .before .is-paired .ensures) (c .before .before .before .before .before .if1 .left) (c .before .before .before .before .if2 .taken))
     (c .before .before .list-facing .ensures)
 
@@ -75,7 +76,7 @@ returns-3 : tie.Need-returns-3
 returns-3 c =
     let s = c .before .before .before .before .before .before .before .before .before .before .before .before .before .before .before .args in
     let same = entry-parts _ _ _ (c .before .before .before .before .before .before .before .before .before .before .train-in .ensures) (c .before .before .before .before .before .before .before .before .before .visit-in .ensures) ∙ entry-of _ _ _ (c .before .before .before .before .before .before .before .before .before .before .before .entry-record .ensures) in
-    puts-as (s .at) (c .before .before .finding .result) visit-most _ _ _ _
+    puts-as (s .at) (c .before .before .finding .result) _ _ _ _ visit-most
     (step-one (s .n) (s .scope) (held (now (s .sheet))) (table-in (now (s .here))) (s .s) (s .rule) (entry-at (s .i) (now (s .here))) (entry (c .before .before .before .before .before .before .before .before .before .before .train-in .result) (c .before .before .before .before .before .before .before .before .before .visit-in .result)) (drop (s .i + 1) (table-in (now (s .here)) .visits)) same (c .before .before .before .before .before .before .before .before .is-paired .result) (c .before .before .before .before .before .before .before .before .is-paired .ensures) (c .before .before .before .before .before .before .before .if1 .left) (c .before .before .before .before .before .before .if2 .left) (c .before .before .before .before .before .is-broken .result) (c .before .before .before .before .before .is-broken .ensures) (c .before .before .before .before .second-of .result) (c .before .before .before .before .second-of .ensures))
     (puts-more (s .at) (c .before .before .finding .result) 4 visit-most _ _ _ (omega arith) (c .before .before .finding .ensures))
 

@@ -10,7 +10,8 @@ use Rattle.page.specs.between.Changes.{table-in}
 use Rattle.rule_tests.specs.between.Tests.{held}
 use Rattle.rule_tests.proofs.HeldLaws.{page-read}
 use Rattle.builder.specs.between.Builder.{rule-count, visits-most, station-most}
-use Rattle.builder.proofs.FindingsPut.{Left, left-start, left-on, left-end, puts-as}
+use Rattle.timetable.proofs.BuffersFilled.{puts-as}
+use Rattle.builder.proofs.FindingsPut.{Left, left-start, left-on, left-end}
 use Rattle.builder.proofs.BuildLaws.{rules-left, rules-next, rules-over, station-is}
 use Rattle.builder.proofs.MostLaws.{page-bound}
 use Rattle.builder.proofs.list_station.Statement.{statement}
@@ -63,7 +64,7 @@ returns c =
     let same = page-read (now (s .sheet)) _ (s .s) (p .ensures) in
     let few = page-bound (s .n) (s .scope) (now (s .sheet)) (s .s) (table-in (now (p .result))) same in
     let over = rules-over (s .n) (s .scope) (held (now (s .sheet))) (table-in (now (p .result))) (s .s) (l .rule) (c .loop-test .left) in
-    puts-as (s .at) (l .to) station-most _ _ (now (s .out)) (l .out) (station-is (s .n) (s .scope) (held (now (s .sheet))) (table-in (now (p .result))) (s .s) same)
+    puts-as (s .at) (l .to) _ _ (now (s .out)) (l .out) station-most (station-is (s .n) (s .scope) (held (now (s .sheet))) (table-in (now (p .result))) (s .s) same)
     (left-end (s .at) _ (now (s .out)) (l .to) station-most _ (l .out) over (l .inv .3) (omega (arith, few, l .inv .3 .0)))
 
 pub list-station-spec : {M : Type 1} → statement M
