@@ -6,7 +6,7 @@ ghost use Prim.Native.Nat.{_≤_};
 ghost use lib.ListN.{length};
 ghost use Rattle.timetable.specs.Formats.{read};
 ghost use Rattle.timetable.specs.TimetableFile.{visits-format, relations-format, timetable-format};
-ghost use Rattle.timetable_entries.specs.between.Entering.{no-fault, unanswered, visit-step, relation-step, entries-read, entries-sheet};
+ghost use Rattle.timetable_entries.specs.between.Entering.{no-fault, answered, unanswered, visit-step, relation-step, entries-read, entries-sheet};
 ghost use Rattle.timetable_entries.specs.between.Entering.{visit-part, relation-part, timetable-entries, timetable-sheet};
 use crate::enter;
 use fields::field::FieldRead;
@@ -28,6 +28,17 @@ pub struct EntriesRead {
     pub refusal: u8,
     pub place: usize,
     pub fault: Fault,
+}
+
+fn accepted_entries(place: usize, fault: Fault) -> EntriesRead
+    ensures { λ r. ⌜ r ≡ answered place fault ⌝ }
+{
+    EntriesRead {
+        accepted: true,
+        refusal: 0,
+        place: place,
+        fault: fault,
+    }
 }
 
 fn refused_entries(refusal: u8, place: usize) -> EntriesRead
@@ -77,12 +88,7 @@ fn visits(
         }
         i += 1;
     }
-    EntriesRead {
-        accepted: true,
-        refusal: 0,
-        place: place,
-        fault: first,
-    }
+    accepted_entries(place, first)
 }
 
 fn relations(
@@ -116,12 +122,7 @@ fn relations(
         }
         i += 1;
     }
-    EntriesRead {
-        accepted: true,
-        refusal: 0,
-        place: place,
-        fault: first,
-    }
+    accepted_entries(place, first)
 }
 
 // "count of visits (0..384)", and the visits.

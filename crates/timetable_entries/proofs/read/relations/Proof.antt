@@ -14,7 +14,7 @@ use Rattle.fields.specs.between.Answers.{in-use}
 use Rattle.relation_files.specs.between.Answers.{relation-outcome}
 use Rattle.fields.proofs.RowHolds.{row-held}
 use Rattle.timetable_entries.specs.declared.read.EntriesRead.{EntriesRead}
-use Rattle.timetable_entries.specs.between.Entering.{relation-step, answered, unanswered}
+use Rattle.timetable_entries.specs.between.Entering.{relation-step, unanswered}
 use Rattle.timetable_entries.proofs.LoopLaws.{relation-station, left-at, Reached, reached-first, reached-next, reached-stop, reached-end}
 use Rattle.timetable_entries.proofs.SheetEntries.{progress}
 use Rattle.timetable_entries.proofs.read.relations.Statement.{statement}
@@ -94,20 +94,24 @@ loop-again c =
     (omega arith) (g .0 .0) (g .0 .1 .0) _ _ o (row-held (c .relation-numbers .ensures)) (h .ensures) in
     (omega arith, (h .kept .0 ∙ l .inv .1 .0, q))
 
+accepted-entries-requires : tie.Need-accepted-entries-requires Inv-loop μ-loop
+accepted-entries-requires c κs = search needs
+
 same-length-2 : tie.Need-same-length-2 Inv-loop μ-loop
-same-length-2 c = omega (arith, c .before .loop .inv .1 .0, c .before .before .before .before .before .pre .0)
+same-length-2 c = omega (arith, c .before .before .loop .inv .1 .0, c .before .before .before .before .before .before .pre .0)
 
 returns-2 : tie.Need-returns-2 Inv-loop μ-loop
-unfolding relations-format answered
+unfolding relations-format
 returns-2 c =
-    let s = c .before .before .before .before .before .args in
-    let l = c .before .loop in
+    let s = c .before .before .before .before .before .before .args in
+    let l = c .before .before .loop in
     let (a, b) = reached-end station-relation-entry relation-floor (now (s .file)) (relation-step (s .n)) (s .count) (s .at) (progress (now (s .sheet)) (s .fault)) (l .i) (in-use (l .floor)) (l .place) (progress (l .sheet) (l .first)) (l .inv .1 .1) (omega arith) in
-    (a, λ t. b)
+    (c .accepted-entries .ensures ∙ a, λ t. b)
 
 pub relations-spec : {M : Type 1} → statement M
 relations-spec =
     tie.close
     (tie.spec Inv-loop μ-loop no-floor-requires loop-holds relation-entry-requires enum-known-found
     refused-entries-requires same-length returns enum-known-found-2 enter-relation-requires relation-numbers-requires
-    add-i loop-less loop-again same-length-2 returns-2)
+    add-i loop-less loop-again accepted-entries-requires same-length-2
+    returns-2)

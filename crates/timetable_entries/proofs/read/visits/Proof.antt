@@ -12,7 +12,7 @@ use Rattle.timetable.specs.TimetableFile.{visit-entry, visit-floor, visits-form
 use Rattle.visit_files.specs.between.Answers.{visit-outcome}
 use Rattle.visit_files.proofs.VisitLaws.{station-visit, none-before, visit-station}
 use Rattle.timetable_entries.specs.declared.read.EntriesRead.{EntriesRead}
-use Rattle.timetable_entries.specs.between.Entering.{visit-step, answered, unanswered}
+use Rattle.timetable_entries.specs.between.Entering.{visit-step, unanswered}
 use Rattle.timetable_entries.proofs.LoopLaws.{same-left, Reached, reached-first, reached-next, reached-stop, reached-end}
 use Rattle.timetable_entries.proofs.SheetEntries.{progress}
 use Rattle.timetable_entries.proofs.read.visits.Statement.{statement}
@@ -86,19 +86,23 @@ loop-again c =
     (omega arith) (station-visit (g .0 .0) (g .0 .1 .0) (g .0 .1 .1 .0)) (g .0 .1 .1 .1 .0) (g .0 .0 .0 ∷ g .0 .1 .0 .0 ∷ []) _ o refl (h .ensures) in
     (omega arith, (h .kept .0 ∙ l .inv .1 .0, q))
 
+accepted-entries-requires : tie.Need-accepted-entries-requires Inv-loop μ-loop
+accepted-entries-requires c κs = search needs
+
 same-length-2 : tie.Need-same-length-2 Inv-loop μ-loop
-same-length-2 c = omega (arith, c .before .loop .inv .1 .0, c .before .before .before .before .pre .0)
+same-length-2 c = omega (arith, c .before .before .loop .inv .1 .0, c .before .before .before .before .before .pre .0)
 
 returns-2 : tie.Need-returns-2 Inv-loop μ-loop
-unfolding visits-format answered
+unfolding visits-format
 returns-2 c =
-    let s = c .before .before .before .before .args in
-    let l = c .before .loop in
+    let s = c .before .before .before .before .before .args in
+    let l = c .before .before .loop in
     let (a, b) = reached-end visit-entry visit-floor (now (s .file)) (visit-step (s .n)) (s .count) (s .at) (progress (now (s .sheet)) (s .fault)) (l .i) (l .station .0 ∷ l .train .0 ∷ []) (l .place) (progress (l .sheet) (l .first)) (l .inv .1 .1) (omega arith) in
-    (a, λ t. b)
+    (c .accepted-entries .ensures ∙ a, λ t. b)
 
 pub visits-spec : {M : Type 1} → statement M
 visits-spec =
     tie.close
     (tie.spec Inv-loop μ-loop loop-holds visit-entry-requires enum-known-found refused-entries-requires same-length
-    returns enum-known-found-2 enter-visit-requires add-i loop-less loop-again same-length-2 returns-2)
+    returns enum-known-found-2 enter-visit-requires add-i loop-less loop-again accepted-entries-requires same-length-2
+    returns-2)
