@@ -1,3 +1,4 @@
 pub mod NetworkLaws
 pub mod RowsInUse
 pub mod AreaLaws
+pub mod RowsByNumber
