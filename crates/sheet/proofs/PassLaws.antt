@@ -10,12 +10,14 @@ use native.Mathlib.Omega.{arith}
 use lib.Dec.{T, ltb, leb, eqb, leb→le, le→leb, eqb→eq}
 use lib.ListN.{length, getD, take, drop, take-append-drop, length-drop, length-map, drop-of-length-le}
 use lib.Seq.{drop-cons, drop-drop, drop-at, take-at, take-all, take-take, length-take-le}
-use borrow.Author.Tests.{lt-ltb, le-leb, lt-leb, eq-eqb, ne-eqb}
+use borrow.Author.Tests.{lt-ltb, le-leb, lt-leb, eq-eqb, ne-eqb, eqb-false}
+use Rattle.base.specs.Choice.{_if_else_}
 use Rattle.base.specs.Lists.{every, each-two, same}
 use Rattle.base.proofs.Lengths.{every-next}
 use Rattle.base.proofs.Sorted.{smaller-across, two-head, two-tail, two-cons, two-step, two-map, same-equal, same-refl, two-weaker}
-use Rattle.base.proofs.Tests.{true-T, and-l, and-r, both, or-l, or-r, or-cases, parts, every-head, every-tail, every-cons, every-weaker, every-map, every-true, every-both, T-false}
+use Rattle.base.proofs.Tests.{by-value, true-T, and-l, and-r, both, or-l, or-r, or-cases, parts, every-head, every-tail, every-cons, every-weaker, every-map, every-true, every-both, T-false}
 use Rattle.railway.specs.Ranges.{train-ok}
+use Rattle.network.proofs.RowsByNumber.{every-at}
 use Rattle.network.specs.Networks.{listed, area-of}
 use Rattle.railway.specs.Relations.{relation-ok, precedes}
 use Rattle.timetable.specs.Tables.{Entry, Table}
@@ -69,11 +71,6 @@ module _ {A : Type 0} (d : A) where
   all-every f [] h = tt
   all-every f (x ∷ xs) h = both (f x) (every f xs) (h 0 (omega arith)) (all-every f xs (λ j l. h (suc j) (omega arith)))
 
-  every-all : (f : A → Bool) (xs : List A) (j : ℕ) → T (every f xs) → j < length xs → T (f (getD xs j d))
-  every-all f [] j t h = absurd (omega arith)
-  every-all f (x ∷ xs) zero t h = every-head f x xs t
-  every-all f (x ∷ xs) (suc j) t h = every-all f xs j (every-tail f x xs t) (omega arith)
-
   -- neighbours in an order are each two
   next-two : (r : A → A → Bool) → ((x y z : A) → T (r x y) → T (r y z) → T (r x z)) → (xs : List A)
       → ((j : ℕ) → suc j < length xs → T (r (getD xs j d) (getD xs (suc j) d))) → T (each-two r xs)
@@ -85,7 +82,7 @@ module _ {A : Type 0} (d : A) where
 
   two-next : (r : A → A → Bool) (xs : List A) (j : ℕ) → T (each-two r xs) → suc j < length xs → T (r (getD xs j d) (getD xs (suc j) d))
   two-next r [] j t h = absurd (omega arith)
-  two-next r (x ∷ xs) zero t h = every-all (r x) xs 0 (two-head r x xs t) (omega arith)
+  two-next r (x ∷ xs) zero t h = every-at (r x) xs 0 d (two-head r x xs t) (omega arith)
   two-next r (x ∷ xs) (suc j) t h = two-next r xs j (two-tail r x xs t) (omega arith)
 
 -- records
@@ -219,7 +216,7 @@ module _ {A : Type 0} (encode : A → List ℕ) (decode : List ℕ → A) (ok : 
         one j h =
             rw (zero-add j)
             (both (passes (chunk j (slots encode m xs))) (comes-after decode before (slots encode m xs) j)
-            (rw (chunk-is j h) (every-all [] passes (map encode xs) j all-pass (omega (arith, length-map xs encode)))) (after-is j h))
+            (rw (chunk-is j h) (every-at passes (map encode xs) j [] all-pass (omega (arith, length-map xs encode)))) (after-is j h))
 
 -- a page that passes is good
 
@@ -376,24 +373,40 @@ links-pass n s v = ap₂ (λ (a b : Bool). a && b) (into (v .inward)) (onto (v .
 pub cut-chunk : (b : List ℕ) (i : ℕ) → take (16 * i + 16 - 16 * i) (drop (16 * i) b) ≡ chunk i b
 cut-chunk b i = rw (add-sub-cancel-left (16 * i) 16)
 
+-- the train of the record before an index, 0 before the first: trains that pass are above it
+unfoldable pub train-before : List ℕ → ℕ → ℕ
+train-before b i = 0 if eqb i 0 else decode-train (chunk (i - 1) b) .0
+
 module _ (b : List ℕ) (i : ℕ) where
-  pub train-first : i ≡ 0 → true ≡ train-after b i
-  unfolding train-after comes-after
-  train-first e = rw e
+  pub before-next : (t : Train) → t ≡ decode-train (take (16 * i + 16 - 16 * i) (drop (16 * i) b)) → t .0 ≡ train-before b (i + 1)
+  unfolding train-before
+  before-next t p =
+      let z : i + 1 - 1 ≡ i = omega arith in
+      rw (ne-eqb (i + 1) 0 (omega arith), z, p, cut-chunk b i)
 
-  pub relation-first : i ≡ 0 → true ≡ relation-after b i
+  pub train-next : (n : Network) (s : Station) → visit-passes n s (chunk i b) ≡ true → (t : Train) → t ≡ decode-train (take (16 * i + 16 - 16 * i) (drop (16 * i) b))
+      → ltb (train-before b i) (t .0) ≡ train-after b i
+  unfolding train-before train-after comes-after decode-entry visit-passes record-passes entry-good
+  train-next n s good t p =
+      let passed : T (visit-passes n s (chunk i b)) = true-T (visit-passes n s (chunk i b)) good in
+      let some : T (leb 1 (decode-train (chunk i b) .0)) = search parts in
+      rw (p, cut-chunk b i) (go (leb→le 1 (decode-train (chunk i b) .0) some) (eqb i 0))
+    where
+      go : 1 ≤ decode-train (chunk i b) .0 → (e : Bool)
+          → ltb (0 if e else decode-train (chunk (i - 1) b) .0) (decode-train (chunk i b) .0) ≡ (e || ltb (decode-train (chunk (i - 1) b) .0) (decode-train (chunk i b) .0))
+      go h true = lt-ltb 0 (decode-train (chunk i b) .0) (omega arith)
+      go h false = refl
+
+  pub kept-next : (q : Relation) → q ≡ decode-relation (take (16 * i + 16 - 16 * i) (drop (16 * i) b)) → q ≡ decode-relation (chunk (i + 1 - 1) b)
+  kept-next q p =
+      let z : i + 1 - 1 ≡ i = omega arith in
+      rw (z, p, cut-chunk b i)
+
+  -- the relation of the record before an index; before the first there is none
+  pub relation-next : (r q : Relation) → (¬ (i ≡ 0) → r ≡ decode-relation (chunk (i - 1) b)) → q ≡ decode-relation (take (16 * i + 16 - 16 * i) (drop (16 * i) b))
+      → (eqb i 0 || precedes r q) ≡ relation-after b i
   unfolding relation-after comes-after
-  relation-first e = rw e
-
-  pub train-next : ¬ (i ≡ 0) → (t u : Train) → t ≡ decode-train (take (16 * (i - 1) + 16 - 16 * (i - 1)) (drop (16 * (i - 1)) b))
-      → u ≡ decode-train (take (16 * i + 16 - 16 * i) (drop (16 * i) b)) → ltb (t .0) (u .0) ≡ train-after b i
-  unfolding train-after comes-after decode-entry
-  train-next d t u p q = rw (ne-eqb i 0 d, p, q, cut-chunk b (i - 1), cut-chunk b i)
-
-  pub relation-next : ¬ (i ≡ 0) → (r q : Relation) → r ≡ decode-relation (take (16 * (i - 1) + 16 - 16 * (i - 1)) (drop (16 * (i - 1)) b))
-      → q ≡ decode-relation (take (16 * i + 16 - 16 * i) (drop (16 * i) b)) → precedes r q ≡ relation-after b i
-  unfolding relation-after comes-after
-  relation-next d r q p v = rw (ne-eqb i 0 d, p, v, cut-chunk b (i - 1), cut-chunk b i)
+  relation-next r q p v = by-value (eqb i 0) (λ e. rw e) (λ e. rw (e, p (eqb-false i 0 e), v, cut-chunk b i))
 
 -- the tests that the code makes one after the other, joined
 

@@ -2,16 +2,28 @@
 // layout's order, with no visit or relation twice". A record is read, written anew and compared: what is not byte for
 // byte its own is found so.
 ghost use mathlib.Core.Path.{_≡_};
-ghost use Prim.Native.Nat.{_+_, _*_, _≤_};
-ghost use lib.ListN.{length};
+ghost use mathlib.Core.Bool.{true, _||_};
+ghost use Prim.Native.Nat.{_*_, _≤_};
+ghost use lib.Dec.{eqb};
+ghost use lib.ListN.{length, getD};
 ghost use Rattle.base.specs.Lists.{same};
-ghost use Rattle.timetable.specs.Good.{values-good, visit-good};
+ghost use Rattle.network.specs.Networks.{runs, network-refusal};
+ghost use Rattle.timetable.specs.Good.{visit-good};
+ghost use Rattle.railway.specs.Relations.{precedes};
+ghost use Rattle.records.specs.Records.{decode-relation};
 ghost use Rattle.page.specs.Pages.{good-page};
-ghost use Rattle.sheet.specs.between.Passes.{in-passes, out-passes, visit-passes, relation-passes, train-after, relation-after, visit-run, relation-run};
+ghost use Rattle.sheet.specs.between.Passes.{tracks-at, values-pass, row-place, row-there, RowOfIn, RowOfOut, RowOfByte};
+ghost use Rattle.sheet.specs.between.Passes.{in-passes, out-passes, visit-passes, relation-passes, visit-run, relation-run};
 ghost use Rattle.sheet.specs.between.Passes.{visits-pass, relations-pass, covers, place-passes, sheet-passes, division-passes};
+use network::LineRow;
 use network::Network;
+use network::StationFound;
+use railway::relation::Pair;
+use railway::relation::Relation;
 use railway::sorts::Area;
+use railway::sorts::Line;
 use railway::sorts::Station;
+use railway::sorts::Train;
 use railway::visit;
 use railway::visit::InLink;
 use railway::visit::OutLink;
@@ -76,11 +88,75 @@ pub fn out_good(l: OutLink, network: Network, s: Station) -> bool
     }
 }
 
-fn good_values(v: Visit, network: Network, s: Station) -> bool
-    ensures { λ r. ⌜ r ≡ values-good network s v ⌝ }
+// Links in a good network: its rows of lines rise by number and join listed stations. So a line that runs is all that
+// is asked, and a row in use that has the line's number is the line's.
+
+// The index of a line's number, at which its row is looked for first.
+fn place_of(l: Line) -> usize
+    ensures { λ r. ⌜ r ≡ row-place l ⌝ }
+{
+    if l.valid() {
+        return bytes::size(l.0) - 1;
+    }
+    0
+}
+
+// Searches only where another row stands there.
+fn runs_by(row: LineRow, network: Network, l: Line, from: Station, to: Station) -> bool
+    requires { ⌜ (network-refusal network ≡ 0) × (row ≡ row-there network l) ⌝ }
+    ensures { λ r. ⌜ r ≡ runs network l from to ⌝ }
+{
+    if row.line.0 == l.0 {
+        if 0 < l.0 {
+            if l.0 <= network.linecount {
+                return row.runs(from, to);
+            }
+        }
+    }
+    network.runs(l, from, to)
+}
+
+fn in_runs(l: InLink, row: LineRow, network: Network, s: Station) -> bool
+    requires { ⌜ (network-refusal network ≡ 0) × RowOfIn network l row ⌝ }
+    ensures { λ r. ⌜ r ≡ in-passes network s l ⌝ }
+{
+    match l {
+        InLink::Nothing => true,
+        InLink::From(i) => runs_by(row, network, i.line, i.station, s),
+    }
+}
+
+fn out_runs(l: OutLink, row: LineRow, network: Network, s: Station) -> bool
+    requires { ⌜ (network-refusal network ≡ 0) × RowOfOut network l row ⌝ }
+    ensures { λ r. ⌜ r ≡ out-passes network s l ⌝ }
+{
+    match l {
+        OutLink::Nothing => true,
+        OutLink::To(o) => {
+            if visit::run_valid(o.run) {
+                return runs_by(row, network, o.line, s, o.station);
+            }
+            false
+        }
+    }
+}
+
+// The count of a station's tracks, 0 where it is not listed.
+fn tracks_of(network: Network, s: Station) -> u8
+    ensures { λ r. ⌜ r ≡ tracks-at network s ⌝ }
+{
+    let found = network.station_row(s);
+    match found {
+        StationFound::Row(row) => row.tracks,
+        StationFound::Nothing => 0,
+    }
+}
+
+fn good_values(v: Visit, tracks: u8) -> bool
+    ensures { λ r. ⌜ r ≡ values-pass tracks v ⌝ }
 {
     if v.track.valid() {
-        if network.track_known(s, v.track) {
+        if v.track.0 <= tracks {
             if v.arrival.valid() {
                 return v.departure.valid();
             }
@@ -89,12 +165,29 @@ fn good_values(v: Visit, network: Network, s: Station) -> bool
     false
 }
 
-fn good_visit(v: Visit, network: Network, s: Station) -> bool
+// With the count of tracks and the rows of the two links' lines looked up before; where the network is not known to be
+// good, the links are tested as any.
+fn good_visit(
+    v: Visit,
+    a: LineRow,
+    b: LineRow,
+    network: Network,
+    s: Station,
+    tracks: u8,
+    good: bool,
+) -> bool
+    requires { ⌜ (tracks ≡ tracks-at network s) × (good ≡ true → network-refusal network ≡ 0) × RowOfIn network (v .inward) a × RowOfOut network (v .outward) b ⌝ }
     ensures { λ r. ⌜ r ≡ visit-good network s v ⌝ }
 {
     let inward = v.inward;
     let outward = v.outward;
-    if good_values(v, network, s) {
+    if good_values(v, tracks) {
+        if good {
+            if in_runs(inward, a, network, s) {
+                return out_runs(outward, b, network, s);
+            }
+            return false;
+        }
         if in_good(inward, network, s) {
             return out_good(outward, network, s);
         }
@@ -104,7 +197,16 @@ fn good_visit(v: Visit, network: Network, s: Station) -> bool
 
 // Records
 
-fn good_visit_record(r: &[u8], network: Network, s: Station) -> bool
+fn good_visit_record(
+    r: &[u8],
+    a: LineRow,
+    b: LineRow,
+    network: Network,
+    s: Station,
+    tracks: u8,
+    good: bool,
+) -> bool
+    requires { ⌜ (tracks ≡ tracks-at network s) × (good ≡ true → network-refusal network ≡ 0) × RowOfByte network (getD (now r) 10 0) a × RowOfByte network (getD (now r) 12 0) b ⌝ }
     ensures { λ a. ⌜ a ≡ visit-passes network s (now (r .entry)) ⌝ }
 {
     let t = record::train_in(r);
@@ -112,16 +214,16 @@ fn good_visit_record(r: &[u8], network: Network, s: Station) -> bool
     let own = record::visit_record(t, v);
     if is_same(r, &own) {
         if t.valid() {
-            return good_visit(v, network, s);
+            return good_visit(v, a, b, network, s, tracks, good);
         }
     }
     false
 }
 
-fn good_relation_record(r: &[u8]) -> bool
+fn good_relation_record(r: &[u8], q: Relation) -> bool
+    requires { ⌜ q ≡ decode-relation (now r) ⌝ }
     ensures { λ a. ⌜ a ≡ relation-passes (now (r .entry)) ⌝ }
 {
-    let q = record::relation_in(r);
     let own = record::relation_record(q);
     if is_same(r, &own) {
         return q.valid();
@@ -129,45 +231,23 @@ fn good_relation_record(r: &[u8]) -> bool
     false
 }
 
-// The record at an index is the first, or comes after the one before it.
-fn train_after(slots: &[u8], i: usize) -> bool
-    requires { ⌜ 16 * i + 16 ≤ length (now slots) ⌝ }
-    ensures { λ r. ⌜ r ≡ train-after (now (slots .entry)) i ⌝ }
-{
-    if i == 0 {
-        return true;
-    }
-    let before = 16 * (i - 1);
-    let at = 16 * i;
-    let a = record::train_in(&slots[before..before + 16]);
-    let b = record::train_in(&slots[at..at + 16]);
-    a.0 < b.0
-}
-
-fn relation_after(slots: &[u8], i: usize) -> bool
-    requires { ⌜ 16 * i + 16 ≤ length (now slots) ⌝ }
-    ensures { λ r. ⌜ r ≡ relation-after (now (slots .entry)) i ⌝ }
-{
-    if i == 0 {
-        return true;
-    }
-    let before = 16 * (i - 1);
-    let at = 16 * i;
-    let a = record::relation_in(&slots[before..before + 16]);
-    let b = record::relation_in(&slots[at..at + 16]);
-    a.precedes(b)
-}
-
-// The first n records.
-fn visit_run(slots: &[u8], n: usize, network: Network, s: Station) -> bool
-    requires { ⌜ 16 * n ≤ length (now slots) ⌝ }
+// The first n records: each is good and comes after the one before it, whose train or relation is kept.
+fn visit_run(slots: &[u8], n: usize, network: Network, s: Station, good: bool) -> bool
+    requires { ⌜ (16 * n ≤ length (now slots)) × (good ≡ true → network-refusal network ≡ 0) ⌝ }
     ensures { λ r. ⌜ r ≡ visit-run network s n (now (slots .entry)) ⌝ }
 {
+    let rows = network.lines;
+    let tracks = tracks_of(network, s);
+    let mut last: u16 = 0;
     let mut i: usize = 0;
     while i < n {
         let at = 16 * i;
-        if good_visit_record(&slots[at..at + 16], network, s) {
-            if train_after(slots, i) {
+        let a = rows[place_of(Line(slots[at + 10]))];
+        let b = rows[place_of(Line(slots[at + 12]))];
+        if good_visit_record(&slots[at..at + 16], a, b, network, s, tracks, good) {
+            let t = record::train_in(&slots[at..at + 16]);
+            if last < t.0 {
+                last = t.0;
                 i += 1;
             } else {
                 return false;
@@ -179,15 +259,38 @@ fn visit_run(slots: &[u8], n: usize, network: Network, s: Station) -> bool
     true
 }
 
+fn comes_after(i: usize, last: Relation, q: Relation) -> bool
+    ensures { λ r. ⌜ r ≡ (eqb i 0 || precedes last q) ⌝ }
+{
+    if i == 0 {
+        return true;
+    }
+    last.precedes(q)
+}
+
+// Before the first there is none: what stands there is not looked at.
+fn none_before() -> Relation {
+    Relation::Dependency(
+        0,
+        Pair {
+            arriver: Train(0),
+            departer: Train(0),
+        },
+    )
+}
+
 fn relation_run(slots: &[u8], n: usize) -> bool
     requires { ⌜ 16 * n ≤ length (now slots) ⌝ }
     ensures { λ r. ⌜ r ≡ relation-run n (now (slots .entry)) ⌝ }
 {
+    let mut last = none_before();
     let mut i: usize = 0;
     while i < n {
         let at = 16 * i;
-        if good_relation_record(&slots[at..at + 16]) {
-            if relation_after(slots, i) {
+        let q = record::relation_in(&slots[at..at + 16]);
+        if good_relation_record(&slots[at..at + 16], q) {
+            if comes_after(i, last, q) {
+                last = q;
                 i += 1;
             } else {
                 return false;
@@ -200,11 +303,11 @@ fn relation_run(slots: &[u8], n: usize) -> bool
 }
 
 // The records of a row of slots, and zeros behind them.
-fn good_visits(slots: &[u8], n: usize, network: Network, s: Station) -> bool
-    requires { ⌜ 16 * n ≤ length (now slots) ⌝ }
+fn good_visits(slots: &[u8], n: usize, network: Network, s: Station, good: bool) -> bool
+    requires { ⌜ (16 * n ≤ length (now slots)) × (good ≡ true → network-refusal network ≡ 0) ⌝ }
     ensures { λ r. ⌜ r ≡ visits-pass network s n (now (slots .entry)) ⌝ }
 {
-    if visit_run(slots, n, network, s) {
+    if visit_run(slots, n, network, s, good) {
         let at = 16 * n;
         return bytes::is_blank(&slots[at..]);
     }
@@ -222,8 +325,9 @@ fn good_relations(slots: &[u8], n: usize) -> bool
     false
 }
 
-// A station's page.
-pub fn good_page(page: &[u8], network: Network, s: Station) -> bool
+// A station's page, where it may be known that the network is good.
+fn page_under(page: &[u8], network: Network, s: Station, good: bool) -> bool
+    requires { ⌜ (good ≡ true → network-refusal network ≡ 0) ⌝ }
     ensures { λ r. ⌜ r ≡ good-page network s (now (page .entry)) ⌝ }
 {
     if page.len() != 512 {
@@ -238,11 +342,17 @@ pub fn good_page(page: &[u8], network: Network, s: Station) -> bool
         return false;
     }
     if bytes::is_blank(&page[2..32]) {
-        if good_visits(&page[32..416], n, network, s) {
+        if good_visits(&page[32..416], n, network, s, good) {
             return good_relations(&page[416..512], m);
         }
     }
     false
+}
+
+pub fn good_page(page: &[u8], network: Network, s: Station) -> bool
+    ensures { λ r. ⌜ r ≡ good-page network s (now (page .entry)) ⌝ }
+{
+    page_under(page, network, s, network.refusal() == 0)
 }
 
 // The stations that a sheet is over: all that are listed, or those of an area.
@@ -266,17 +376,19 @@ fn is_over(network: Network, extent: Extent, k: Station) -> bool
 }
 
 // The page of a station of the sheet is good, any other is zeros.
-fn good_place(page: &[u8], network: Network, extent: Extent, k: Station) -> bool
+fn good_place(page: &[u8], network: Network, extent: Extent, k: Station, good: bool) -> bool
+    requires { ⌜ (good ≡ true → network-refusal network ≡ 0) ⌝ }
     ensures { λ r. ⌜ r ≡ place-passes network extent k (now (page .entry)) ⌝ }
 {
     if is_over(network, extent, k) {
-        return good_page(page, network, k);
+        return page_under(page, network, k, good);
     }
     bytes::is_blank(page)
 }
 
 // A sheet over those stations.
-pub fn good_sheet(sheet: &[u8], network: Network, extent: Extent) -> bool
+fn sheet_under(sheet: &[u8], network: Network, extent: Extent, good: bool) -> bool
+    requires { ⌜ (good ≡ true → network-refusal network ≡ 0) ⌝ }
     ensures { λ r. ⌜ r ≡ sheet-passes network extent (now (sheet .entry)) ⌝ }
 {
     if sheet.len() != 8192 {
@@ -286,7 +398,7 @@ pub fn good_sheet(sheet: &[u8], network: Network, extent: Extent) -> bool
     let mut k: u8 = 1;
     while i < 16 {
         let at = 512 * i;
-        if good_place(&sheet[at..at + 512], network, extent, Station(k)) {
+        if good_place(&sheet[at..at + 512], network, extent, Station(k), good) {
             i += 1;
             k += 1;
         } else {
@@ -296,17 +408,24 @@ pub fn good_sheet(sheet: &[u8], network: Network, extent: Extent) -> bool
     true
 }
 
+pub fn good_sheet(sheet: &[u8], network: Network, extent: Extent) -> bool
+    ensures { λ r. ⌜ r ≡ sheet-passes network extent (now (sheet .entry)) ⌝ }
+{
+    sheet_under(sheet, network, extent, network.refusal() == 0)
+}
+
 pub fn good_division(division: &[u8], network: Network) -> bool
     ensures { λ r. ⌜ r ≡ division-passes network (now (division .entry)) ⌝ }
 {
     if division.len() != 49152 {
         return false;
     }
+    let good = network.refusal() == 0;
     let mut i: usize = 0;
     let mut a: u8 = 1;
     while i < 6 {
         let at = 8192 * i;
-        if good_sheet(&division[at..at + 8192], network, Extent::Of(Area(a))) {
+        if sheet_under(&division[at..at + 8192], network, Extent::Of(Area(a)), good) {
             i += 1;
             a += 1;
         } else {

@@ -4,17 +4,20 @@
 use Prim.Native.Nat.{ℕ, zero, suc, _+_, _*_, _-_}
 use mathlib.Core.Bool.{Bool, true, _&&_, _||_}
 use mathlib.Core.List.{List}
+use mathlib.Core.Option.{Option, none, some}
+use mathlib.Core.Path.{_≡_}
 use lib.Dec.{ltb, leb, eqb}
 use lib.ListN.{length, getD, take, drop}
 use Rattle.base.specs.Choice.{if_then_else_}
 use Rattle.base.specs.Lists.{same}
-use Rattle.network.specs.Networks.{listed, area-of}
+use Rattle.railway.specs.Ranges.{track-ok, line-ok, minute-ok}
+use Rattle.network.specs.Networks.{listed, area-of, station-row, blank-line}
 use Rattle.railway.specs.Relations.{relation-ok, precedes}
 use Rattle.timetable.specs.Good.{in-good, out-good, entry-good}
 use Rattle.timetable.specs.Tables.{Entry}
 use Rattle.records.specs.Bytes.{chunk, blank}
 use Rattle.records.specs.Records.{encode-entry, decode-entry, encode-relation, decode-relation}
-use Rattle.sheet.specs.Types.{Station, InLink, OutLink, Network}
+use Rattle.sheet.specs.Types.{Station, Line, InLink, OutLink, Visit, StationRow, LineRow, Network}
 use Rattle.sheet.specs.declared.test.Extent.{Extent}
 use Rattle.page.specs.Pages.{good-page}
 use Rattle.sheet.specs.Sheets.{good-sheet, good-division}
@@ -28,6 +31,38 @@ in-passes n s (InLink.From i) = in-good n s i
 unfoldable pub out-passes : Network → Station → OutLink → Bool
 out-passes n s OutLink.Nothing = true
 out-passes n s (OutLink.To o) = out-good n s o
+
+-- a visit's values, with the count of its station's tracks looked up before
+
+-- 0 where the station is not listed
+abbrev pub row-tracks : Option StationRow → ℕ
+row-tracks none = 0
+row-tracks (some r) = r .tracks
+
+unfoldable pub tracks-at : Network → Station → ℕ
+tracks-at n s = row-tracks (station-row n s)
+
+unfoldable pub values-pass : ℕ → Visit → Bool
+values-pass k v = (track-ok (v .track) && leb (v .track .0) k) && (minute-ok (v .arrival) && minute-ok (v .departure))
+
+-- links, with the row looked up before that stands at the index of their line's number
+
+unfoldable pub row-place : Line → ℕ
+row-place l = if line-ok l then l .0 - 1 else 0
+
+unfoldable pub row-there : Network → Line → LineRow
+row-there n l = getD (n .lines) (row-place l) blank-line
+
+abbrev pub RowOfByte : Network → ℕ → LineRow → Type 0
+RowOfByte n l r = r ≡ row-there n (record { 0 = l })
+
+abbrev pub RowOfIn : Network → InLink → LineRow → Type 0
+RowOfIn n InLink.Nothing r = Unit {0}
+RowOfIn n (InLink.From i) r = r ≡ row-there n (i .line)
+
+abbrev pub RowOfOut : Network → OutLink → LineRow → Type 0
+RowOfOut n OutLink.Nothing r = Unit {0}
+RowOfOut n (OutLink.To o) r = r ≡ row-there n (o .line)
 
 -- records
 
@@ -111,6 +146,6 @@ division-passes n division = eqb (length division) 49152 && good-division n divi
 
 -- The key ring of this module: `unfolding opened` opens every definition above.
 unfoldable pub opened : Unit {0}
-unfolding in-passes out-passes record-passes comes-after each-index records-pass slots-passes visit-passes relation-passes train-after relation-after visit-run relation-run
+unfolding in-passes out-passes tracks-at values-pass row-place row-there record-passes comes-after each-index records-pass slots-passes visit-passes relation-passes train-after relation-after visit-run relation-run
     visits-pass relations-pass content-passes page-passes covers place-passes sheet-passes division-passes
 opened = tt

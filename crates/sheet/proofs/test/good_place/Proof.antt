@@ -9,14 +9,14 @@ use Rattle.sheet.proofs.test.good_place.Tie as tie
 is-over-requires : tie.Need-is-over-requires
 is-over-requires c κs = search needs
 
-good-page-requires : tie.Need-good-page-requires
-good-page-requires c κs = search needs
+page-under-requires : tie.Need-page-under-requires
+page-under-requires c κs = search needs
 
 returns : tie.Need-returns
 returns c =
     let s = c .before .before .before .before .args in
     let o = c .before .before .is-over in
-    c .good-page .ensures ∙ place-over (s .network) (s .extent) (s .k) (now (s .page)) (o .result) (o .ensures) (c .before .if1 .taken)
+    c .page-under .ensures ∙ place-over (s .network) (s .extent) (s .k) (now (s .page)) (o .result) (o .ensures) (c .before .if1 .taken)
 
 is-blank-requires : tie.Need-is-blank-requires
 is-blank-requires c κs = search needs
@@ -29,4 +29,4 @@ returns-2 c =
 
 pub good-place-spec : {M : Type 1} → statement M
 good-place-spec =
-    tie.close (tie.spec is-over-requires good-page-requires returns is-blank-requires returns-2)
+    tie.close (tie.spec is-over-requires page-under-requires returns is-blank-requires returns-2)

@@ -7,9 +7,6 @@ use borrow.Author.Needs.{needs}
 use Rattle.sheet.proofs.test.good_relation_record.Statement.{statement}
 use Rattle.sheet.proofs.test.good_relation_record.Tie as tie
 
-relation-in-requires : tie.Need-relation-in-requires
-relation-in-requires c κs = search needs
-
 relation-record-requires : tie.Need-relation-record-requires
 relation-record-requires c κs = search needs
 
@@ -24,22 +21,19 @@ valid-requires c κs = search needs
 
 returns : tie.Need-returns
 returns c =
-    let s = c .before .before .before .before .before .before .before .args in
+    let s = c .before .before .before .before .before .before .args in
     let e = c .before .before .is-same in
     let w = c .before .before .before .before .relation-record in
-    let q = c .before .before .before .before .before .relation-in in
-    rw (c .before .if1 .taken) at (relation-record-tests (now (s .r)) (w .result) (q .result) (q .ensures) (w .ensures) (e .result) (c .valid .result) (e .ensures) (c .valid .ensures))
+    rw (c .before .if1 .taken) at (relation-record-tests (now (s .r)) (w .result) (s .q) (c .before .before .before .before .before .before .pre) (w .ensures) (e .result) (c .valid .result) (e .ensures) (c .valid .ensures))
 
 returns-2 : tie.Need-returns-2
 returns-2 c =
-    let s = c .before .before .before .before .before .before .args in
+    let s = c .before .before .before .before .before .args in
     let e = c .before .is-same in
     let w = c .before .before .before .relation-record in
-    let q = c .before .before .before .before .relation-in in
-    rw (c .if1 .left) at (relation-record-tests (now (s .r)) (w .result) (q .result) (q .ensures) (w .ensures) (e .result) (relation-ok (q .result)) (e .ensures) refl)
+    rw (c .if1 .left) at (relation-record-tests (now (s .r)) (w .result) (s .q) (c .before .before .before .before .before .pre) (w .ensures) (e .result) (relation-ok (s .q)) (e .ensures) refl)
 
 pub good-relation-record-spec : {M : Type 1} → statement M
 good-relation-record-spec =
     tie.close
-    (tie.spec relation-in-requires relation-record-requires slice-aggregate-is-same is-same-requires valid-requires
-    returns returns-2)
+    (tie.spec relation-record-requires slice-aggregate-is-same is-same-requires valid-requires returns returns-2)

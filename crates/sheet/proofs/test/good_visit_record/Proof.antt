@@ -4,6 +4,7 @@ use denote.Ref.{now}
 use Rattle.railway.specs.Ranges.{train-ok}
 use Rattle.timetable.specs.Good.{visit-good}
 use Rattle.sheet.proofs.PassLaws.{visit-record-tests}
+use Rattle.sheet.proofs.LinkRows.{in-row, out-row}
 use borrow.Author.Needs.{needs}
 use Rattle.sheet.proofs.test.good_visit_record.Statement.{statement}
 use Rattle.sheet.proofs.test.good_visit_record.Tie as tie
@@ -27,7 +28,11 @@ valid-requires : tie.Need-valid-requires
 valid-requires c κs = search needs
 
 good-visit-requires : tie.Need-good-visit-requires
-good-visit-requires c κs = search needs
+good-visit-requires c κs =
+    let s = c .before .before .before .before .before .before .before .before .before .args in
+    let p = c .before .before .before .before .before .before .before .before .before .pre in
+    let v = c .before .before .before .before .before .before .visit-in in
+    (p .0, p .1, rw (v .ensures) (in-row (s .network) (now (s .r)) (s .a) (p .2)), rw (v .ensures) (out-row (s .network) (now (s .r)) (s .b) (p .3)))
 
 returns : tie.Need-returns
 returns c =

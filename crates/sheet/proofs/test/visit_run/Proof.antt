@@ -1,29 +1,68 @@
 -- `sheet::test::visit_run` meets its contract. The loop's invariant: what is asked of all records is asked of those
--- from i on. Assumes nothing.
-use Prim.Native.Nat.{_≤_, _-_}
-use mathlib.Core.Path.{_≡_, sym, _∙_, ap}
+-- from i on, and the train that is kept is that of the record before i. Assumes nothing.
+use Prim.Native.Nat.{ℕ, _≤_, _-_}
+use mathlib.Core.Path.{_≡_, refl, sym, _∙_, ap}
 use native.Mathlib.Omega.{arith}
+use lib.Dec.{ltb}
 use borrow.Author.Needs.{needs}
+use borrow.Author.Tests.{lt-ltb, le-ltb}
 use denote.Ref.{now}
 use Rattle.records.specs.Bytes.{chunk}
 use Rattle.sheet.specs.between.Passes.{visit-passes, train-after, visit-run}
-use Rattle.sheet.proofs.PassLaws.{cut-chunk, all-from, from-first-not, from-second-not, from-on, from-end, visit-run-start}
+use Rattle.sheet.proofs.PassLaws.{cut-chunk, all-from, from-first-not, from-second-not, from-on, from-end, visit-run-start, train-before, train-next, before-next}
+use Rattle.sheet.proofs.LinkRows.{place-low, row-read}
 use Rattle.sheet.proofs.test.visit_run.Statement.{statement}
 use Rattle.sheet.proofs.test.visit_run.Tie as tie
 
 abbrev Inv-loop : tie.InvT-loop
-Inv-loop slots n network s i₀ i = (i ≤ n) × (visit-run network s n slots ≡ all-from (λ j. visit-passes network s (chunk j slots)) (train-after slots) n i)
+Inv-loop slots n network s good rows tracks last₀ i₀ last i =
+    (i ≤ n) × (last ≡ train-before slots i)
+    × (visit-run network s n slots ≡ all-from (λ j. visit-passes network s (chunk j slots)) (train-after slots) n i)
 
 abbrev μ-loop : tie.MeasureT-loop
-μ-loop slots n network s i₀ i = n - i
+μ-loop slots n network s good rows tracks last₀ i₀ last i = n - i
+
+tracks-of-requires : tie.Need-tracks-of-requires Inv-loop μ-loop
+tracks-of-requires c κs = search needs
 
 loop-holds : tie.Need-loop-holds Inv-loop μ-loop
+unfolding train-before
 loop-holds c =
-    let s = c .before .args in
-    (omega arith, visit-run-start (s .network) (s .s) (s .n) (now (s .slots)))
+    let s = c .before .before .before .args in
+    (omega arith, refl, visit-run-start (s .network) (s .s) (s .n) (now (s .slots)))
 
 mul-at : tie.Need-mul-at Inv-loop μ-loop
 mul-at c = omega arith
+
+add-t16 : tie.Need-add-t16 Inv-loop μ-loop
+add-t16 c = omega arith
+
+shared-slice-read-t18 : tie.Need-shared-slice-read-t18 Inv-loop μ-loop
+shared-slice-read-t18 c = omega arith
+
+place-of-requires : tie.Need-place-of-requires Inv-loop μ-loop
+place-of-requires c κs = search needs
+
+mul-a : tie.Need-mul-a Inv-loop μ-loop
+mul-a c = omega (arith, place-low _ _ (c .place-of .ensures))
+
+array-copy-out-a : tie.Need-array-copy-out-a Inv-loop μ-loop
+array-copy-out-a c = omega (arith, place-low _ _ (c .place-of .ensures))
+
+add-t16-2 : tie.Need-add-t16-2 Inv-loop μ-loop
+add-t16-2 c = omega arith
+
+shared-slice-read-t18-2 : tie.Need-shared-slice-read-t18-2 Inv-loop μ-loop
+shared-slice-read-t18-2 c = omega arith
+
+place-of-requires-2 : tie.Need-place-of-requires-2 Inv-loop μ-loop
+place-of-requires-2 c κs = search needs
+
+mul-b : tie.Need-mul-b Inv-loop μ-loop
+mul-b c = omega (arith, place-low _ _ (c .place-of2 .ensures))
+
+array-copy-out-b : tie.Need-array-copy-out-b Inv-loop μ-loop
+array-copy-out-b c = omega (arith, place-low _ _ (c .place-of2 .ensures))
 
 add-good-visit-record : tie.Need-add-good-visit-record Inv-loop μ-loop
 add-good-visit-record c = omega arith
@@ -38,10 +77,29 @@ part-good-visit-record-end : tie.Need-part-good-visit-record-end Inv-loop μ-loo
 part-good-visit-record-end c = omega arith
 
 good-visit-record-requires : tie.Need-good-visit-record-requires Inv-loop μ-loop
-good-visit-record-requires c κs = search needs
+good-visit-record-requires c κs =
+    let l = c .before .before .before .before .before .before .before .before .loop in
+    let s = c .before .before .before .before .before .before .before .before .before .before .before .before .args in (
+      c .before .before .before .before .before .before .before .before .before .tracks-of .ensures,
+      c .before .before .before .before .before .before .before .before .before .before .before .before .pre .1,
+      row-read (s .network) (now (s .slots)) (l .i) 10 (c .before .before .before .before .before .place-of .result) (omega arith) (c .before .before .before .before .before .place-of .ensures),
+      row-read (s .network) (now (s .slots)) (l .i) 12 (c .before .before .place-of2 .result) (omega arith) (c .before .before .place-of2 .ensures),
+    )
 
-train-after-requires : tie.Need-train-after-requires Inv-loop μ-loop
-train-after-requires c κs = omega arith
+add-train-in : tie.Need-add-train-in Inv-loop μ-loop
+add-train-in c = omega arith
+
+sub-train-in : tie.Need-sub-train-in Inv-loop μ-loop
+sub-train-in c = omega arith
+
+part-train-in-start : tie.Need-part-train-in-start Inv-loop μ-loop
+part-train-in-start c = omega arith
+
+part-train-in-end : tie.Need-part-train-in-end Inv-loop μ-loop
+part-train-in-end c = omega arith
+
+train-in-requires : tie.Need-train-in-requires Inv-loop μ-loop
+train-in-requires c κs = search needs
 
 add-i : tie.Need-add-i Inv-loop μ-loop
 add-i c = omega arith
@@ -51,39 +109,48 @@ loop-less c = omega arith
 
 loop-again : tie.Need-loop-again Inv-loop μ-loop
 loop-again c =
-    let l = c .before .before .before .before .before .before .loop in
-    let s = c .before .before .before .before .before .before .before .before .args in
-    let p : c .before .before .before .good-visit-record .result ≡ visit-passes (s .network) (s .s) (chunk (l .i) (now (s .slots))) =
-    c .before .before .before .good-visit-record .ensures ∙ ap (visit-passes (s .network) (s .s)) (cut-chunk (now (s .slots)) (l .i)) in (
+    let l = c .before .before .before .before .before .before .before .before .before .before .before .before .before .before .loop in
+    let s = c .before .before .before .before .before .before .before .before .before .before .before .before .before .before .before .before .before .before .args in
+    let g = c .before .before .before .before .before .good-visit-record in
+    let t = c .before .before .train-in in
+    let p : g .result ≡ visit-passes (s .network) (s .s) (chunk (l .i) (now (s .slots))) = g .ensures ∙ ap (visit-passes (s .network) (s .s)) (cut-chunk (now (s .slots)) (l .i)) in
+    let good = sym p ∙ c .before .before .before .before .if1 .taken in
+    let o = ap (λ (k : ℕ). ltb k (t .result .0)) (l .inv .1) ∙ train-next (now (s .slots)) (l .i) (s .network) (s .s) good (t .result) (t .ensures) in (
       omega arith,
-      l .inv .1 ∙ from-on (λ j. visit-passes (s .network) (s .s) (chunk j (now (s .slots)))) (train-after (now (s .slots))) (s .n) (l .i) (omega arith) (sym p ∙ c .before .before .if1 .taken) (sym (c .before .train-after .ensures) ∙ c .if2 .taken),
+      before-next (now (s .slots)) (l .i) (t .result) (t .ensures),
+      l .inv .2 ∙ from-on (λ j. visit-passes (s .network) (s .s) (chunk j (now (s .slots)))) (train-after (now (s .slots))) (s .n) (l .i) (omega arith) good (sym o ∙ lt-ltb _ _ (c .if2 .taken)),
     )
 
 returns : tie.Need-returns Inv-loop μ-loop
 returns c =
-    let l = c .before .before .before .before .before .before .loop in
-    let s = c .before .before .before .before .before .before .before .before .args in
-    let p : c .before .before .before .good-visit-record .result ≡ visit-passes (s .network) (s .s) (chunk (l .i) (now (s .slots))) =
-    c .before .before .before .good-visit-record .ensures ∙ ap (visit-passes (s .network) (s .s)) (cut-chunk (now (s .slots)) (l .i)) in
-    sym (l .inv .1 ∙ from-second-not (λ j. visit-passes (s .network) (s .s) (chunk j (now (s .slots)))) (train-after (now (s .slots))) (s .n) (l .i) (omega arith) (sym p ∙ c .before .before .if1 .taken) (sym (c .before .train-after .ensures) ∙ c .if2 .left))
+    let l = c .before .before .before .before .before .before .before .before .before .before .before .before .before .before .loop in
+    let s = c .before .before .before .before .before .before .before .before .before .before .before .before .before .before .before .before .before .before .args in
+    let g = c .before .before .before .before .before .good-visit-record in
+    let t = c .before .before .train-in in
+    let p : g .result ≡ visit-passes (s .network) (s .s) (chunk (l .i) (now (s .slots))) = g .ensures ∙ ap (visit-passes (s .network) (s .s)) (cut-chunk (now (s .slots)) (l .i)) in
+    let good = sym p ∙ c .before .before .before .before .if1 .taken in
+    let o = ap (λ (k : ℕ). ltb k (t .result .0)) (l .inv .1) ∙ train-next (now (s .slots)) (l .i) (s .network) (s .s) good (t .result) (t .ensures) in
+    sym (l .inv .2 ∙ from-second-not (λ j. visit-passes (s .network) (s .s) (chunk j (now (s .slots)))) (train-after (now (s .slots))) (s .n) (l .i) (omega arith) good (sym o ∙ le-ltb _ _ (c .if2 .left)))
 
 returns-2 : tie.Need-returns-2 Inv-loop μ-loop
 returns-2 c =
-    let l = c .before .before .before .before .loop in
-    let s = c .before .before .before .before .before .before .args in
-    let p : c .before .good-visit-record .result ≡ visit-passes (s .network) (s .s) (chunk (l .i) (now (s .slots))) =
-    c .before .good-visit-record .ensures ∙ ap (visit-passes (s .network) (s .s)) (cut-chunk (now (s .slots)) (l .i)) in
-    sym (l .inv .1 ∙ from-first-not (λ j. visit-passes (s .network) (s .s) (chunk j (now (s .slots)))) (train-after (now (s .slots))) (s .n) (l .i) (omega arith) (sym p ∙ c .if1 .left))
+    let l = c .before .before .before .before .before .before .before .before .before .before .loop in
+    let s = c .before .before .before .before .before .before .before .before .before .before .before .before .before .before .args in
+    let g = c .before .good-visit-record in
+    let p : g .result ≡ visit-passes (s .network) (s .s) (chunk (l .i) (now (s .slots))) = g .ensures ∙ ap (visit-passes (s .network) (s .s)) (cut-chunk (now (s .slots)) (l .i)) in
+    sym (l .inv .2 ∙ from-first-not (λ j. visit-passes (s .network) (s .s) (chunk j (now (s .slots)))) (train-after (now (s .slots))) (s .n) (l .i) (omega arith) (sym p ∙ c .if1 .left))
 
 returns-3 : tie.Need-returns-3 Inv-loop μ-loop
 returns-3 c =
     let l = c .before .loop in
-    let s = c .before .before .before .args in
-    sym (l .inv .1 ∙ from-end (λ j. visit-passes (s .network) (s .s) (chunk j (now (s .slots)))) (train-after (now (s .slots))) (s .n) (l .i) (omega arith))
+    let s = c .before .before .before .before .before .args in
+    sym (l .inv .2 ∙ from-end (λ j. visit-passes (s .network) (s .s) (chunk j (now (s .slots)))) (train-after (now (s .slots))) (s .n) (l .i) (omega arith))
 
 pub visit-run-spec : {M : Type 1} → statement M
 visit-run-spec =
     tie.close
-    (tie.spec Inv-loop μ-loop loop-holds mul-at add-good-visit-record sub-good-visit-record
-    part-good-visit-record-start part-good-visit-record-end good-visit-record-requires train-after-requires add-i
-    loop-less loop-again returns returns-2 returns-3)
+    (tie.spec Inv-loop μ-loop tracks-of-requires loop-holds mul-at add-t16 shared-slice-read-t18 place-of-requires
+    mul-a array-copy-out-a add-t16-2 shared-slice-read-t18-2 place-of-requires-2 mul-b array-copy-out-b
+    add-good-visit-record sub-good-visit-record part-good-visit-record-start part-good-visit-record-end
+    good-visit-record-requires add-train-in sub-train-in part-train-in-start part-train-in-end train-in-requires
+    add-i loop-less loop-again returns returns-2 returns-3)
