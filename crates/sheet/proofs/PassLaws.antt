@@ -10,12 +10,12 @@ use native.Mathlib.Omega.{arith}
 use lib.Dec.{T, ltb, leb, eqb, leb→le, le→leb, eqb→eq}
 use lib.ListN.{length, getD, take, drop, take-append-drop, length-drop, length-map, drop-of-length-le}
 use lib.Seq.{drop-cons, drop-drop, drop-at, take-at, take-all, take-take, length-take-le}
-use borrow.Author.Tests.{lt-ltb, le-leb, lt-leb, eq-eqb, ne-eqb, eqb-false}
+use borrow.Author.Tests.{lt-ltb, le-ltb, le-leb, lt-leb, eq-eqb, ne-eqb, eqb-false}
 use Rattle.base.specs.Choice.{_if_else_}
 use Rattle.base.specs.Lists.{every, each-two, same}
 use Rattle.base.proofs.Lengths.{every-next}
 use Rattle.base.proofs.Sorted.{smaller-across, two-head, two-tail, two-cons, two-step, two-map, same-equal, same-refl, two-weaker}
-use Rattle.base.proofs.Tests.{by-value, true-T, and-l, and-r, both, or-l, or-r, or-cases, parts, every-head, every-tail, every-cons, every-weaker, every-map, every-true, every-both, T-false}
+use Rattle.base.proofs.Tests.{by-value, T-true, true-T, and-l, and-r, both, or-l, or-r, or-cases, parts, every-head, every-tail, every-cons, every-weaker, every-map, every-true, every-both, T-false}
 use Rattle.railway.specs.Ranges.{train-ok}
 use Rattle.network.proofs.RowsByNumber.{every-at}
 use Rattle.network.specs.Networks.{listed, area-of}
@@ -33,7 +33,7 @@ use Rattle.page.specs.Pages.{slots, encode-page, records-of, visit-records, rel
 use Rattle.sheet.specs.Sheets.{sixteen, page-at, good-sheet, sheet-at, good-division}
 use Rattle.sheet.specs.declared.test.Extent.{Extent}
 use Rattle.sheet.specs.between.Passes.{covers, place-passes, sheet-passes, division-passes}
-use Rattle.sheet.specs.between.Passes.{visit-run, relation-run, in-passes, out-passes, visit-passes, relation-passes, train-after, relation-after, earlier, record-passes, comes-after, each-index, records-pass, slots-passes, visits-pass, relations-pass, content-passes, page-passes}
+use Rattle.sheet.specs.between.Passes.{visit-run, relation-run, in-passes, out-passes, visit-passes, passing-train, relation-passes, train-after, relation-after, earlier, record-passes, comes-after, each-index, records-pass, slots-passes, visits-pass, relations-pass, content-passes, page-passes}
 use Rattle.page.proofs.SlotLaws.{length-records, record-there}
 use Rattle.page.proofs.FlatLaws.{flat-length, slots-length, records-flat}
 use Rattle.page.proofs.PageLaws.{linked, always, Coded, page-length, relations-behind, good-coded, good-bytes, good-table}
@@ -378,24 +378,33 @@ unfoldable pub train-before : List ℕ → ℕ → ℕ
 train-before b i = 0 if eqb i 0 else decode-train (chunk (i - 1) b) .0
 
 module _ (b : List ℕ) (i : ℕ) where
-  pub before-next : (t : Train) → t ≡ decode-train (take (16 * i + 16 - 16 * i) (drop (16 * i) b)) → t .0 ≡ train-before b (i + 1)
-  unfolding train-before
-  before-next t p =
-      let z : i + 1 - 1 ≡ i = omega arith in
-      rw (ne-eqb (i + 1) 0 (omega arith), z, p, cut-chunk b i)
+  module _ (n : Network) (s : Station) (t : ℕ) (p : t ≡ passing-train n s (take (16 * i + 16 - 16 * i) (drop (16 * i) b))) where
+    -- the train of a record that passes is the one before the next index
+    pub train-kept : (visit-passes n s (chunk i b) && train-after b i) ≡ true → t ≡ train-before b (i + 1)
+    unfolding train-before passing-train
+    train-kept e =
+        let both = true-T (visit-passes n s (chunk i b) && train-after b i) e in
+        let good = T-true (visit-passes n s (chunk i b)) (and-l (visit-passes n s (chunk i b)) (train-after b i) both) in
+        let z : i + 1 - 1 ≡ i = omega arith in
+        rw (p, cut-chunk b i, good, ne-eqb (i + 1) 0 (omega arith), z)
 
-  pub train-next : (n : Network) (s : Station) → visit-passes n s (chunk i b) ≡ true → (t : Train) → t ≡ decode-train (take (16 * i + 16 - 16 * i) (drop (16 * i) b))
-      → ltb (train-before b i) (t .0) ≡ train-after b i
-  unfolding train-before train-after comes-after decode-entry visit-passes record-passes entry-good
-  train-next n s good t p =
-      let passed : T (visit-passes n s (chunk i b)) = true-T (visit-passes n s (chunk i b)) good in
-      let some : T (leb 1 (decode-train (chunk i b) .0)) = search parts in
-      rw (p, cut-chunk b i) (go (leb→le 1 (decode-train (chunk i b) .0) some) (eqb i 0))
-    where
-      go : 1 ≤ decode-train (chunk i b) .0 → (e : Bool)
-          → ltb (0 if e else decode-train (chunk (i - 1) b) .0) (decode-train (chunk i b) .0) ≡ (e || ltb (decode-train (chunk (i - 1) b) .0) (decode-train (chunk i b) .0))
-      go h true = lt-ltb 0 (decode-train (chunk i b) .0) (omega arith)
-      go h false = refl
+    pub train-next : ltb (train-before b i) t ≡ (visit-passes n s (chunk i b) && train-after b i)
+    unfolding train-before train-after comes-after decode-entry visit-passes record-passes entry-good passing-train
+    train-next = rw (p, cut-chunk b i) (go (visit-passes n s (chunk i b)) refl)
+      where
+        first : 1 ≤ decode-train (chunk i b) .0 → (e : Bool)
+            → ltb (0 if e else decode-train (chunk (i - 1) b) .0) (decode-train (chunk i b) .0) ≡ (e || ltb (decode-train (chunk (i - 1) b) .0) (decode-train (chunk i b) .0))
+        first h true = lt-ltb 0 (decode-train (chunk i b) .0) (omega arith)
+        first h false = refl
+
+        above : T (visit-passes n s (chunk i b)) → ltb (train-before b i) (decode-train (chunk i b) .0) ≡ train-after b i
+        above u =
+            let some : T (leb 1 (decode-train (chunk i b) .0)) = search parts in
+            first (leb→le 1 (decode-train (chunk i b) .0) some) (eqb i 0)
+
+        go : (e : Bool) → visit-passes n s (chunk i b) ≡ e → ltb (train-before b i) (decode-train (chunk i b) .0 if e else 0) ≡ (e && train-after b i)
+        go true e = above (true-T (visit-passes n s (chunk i b)) e)
+        go false e = le-ltb (train-before b i) 0 (omega arith)
 
   pub kept-next : (q : Relation) → q ≡ decode-relation (take (16 * i + 16 - 16 * i) (drop (16 * i) b)) → q ≡ decode-relation (chunk (i + 1 - 1) b)
   kept-next q p =
@@ -420,6 +429,11 @@ pub visit-record-tests : (n : Network) (s : Station) (r own : List ℕ) (t : Tra
 unfolding visit-passes record-passes encode-entry decode-entry entry-good
 visit-record-tests n s r own t v e f o a b c p q w = rw (p, q, w, o, e, f)
 
+-- so the train, or 0
+pub train-tests : (n : Network) (s : Station) (r : List ℕ) (t : Train) → t ≡ decode-train r → (x : Bool) → x ≡ visit-passes n s r → (t .0 if x else 0) ≡ passing-train n s r
+unfolding passing-train
+train-tests n s r t e x p = rw (p, e)
+
 pub relation-record-tests : (r own : List ℕ) (q : Relation) → q ≡ decode-relation r → own ≡ encode-relation q
     → (a b : Bool) → a ≡ same r own → b ≡ relation-ok q → (a && b) ≡ relation-passes r
 unfolding relation-passes record-passes
@@ -443,6 +457,13 @@ module _ (f g : ℕ → Bool) (n i : ℕ) where
 
   pub from-on : i < n → f i ≡ true → g i ≡ true → all-from f g n i ≡ all-from f g n (i + 1)
   from-on h p q = from-next h ∙ rw (p, q)
+
+  -- two tests decided at once
+  pub from-not : i < n → (f i && g i) ≡ false → all-from f g n i ≡ false
+  from-not h p = from-next h ∙ rw p
+
+  pub from-both : i < n → (f i && g i) ≡ true → all-from f g n i ≡ all-from f g n (i + 1)
+  from-both h p = from-next h ∙ rw p
 
   pub from-end : n ≤ i → all-from f g n i ≡ true
   unfolding all-from each-index

@@ -13,7 +13,7 @@ ghost use Rattle.railway.specs.Relations.{precedes};
 ghost use Rattle.records.specs.Records.{decode-relation};
 ghost use Rattle.page.specs.Pages.{good-page};
 ghost use Rattle.sheet.specs.between.Passes.{tracks-at, values-pass, row-place, row-there, RowOfIn, RowOfOut, RowOfByte};
-ghost use Rattle.sheet.specs.between.Passes.{in-passes, out-passes, visit-passes, relation-passes, visit-run, relation-run};
+ghost use Rattle.sheet.specs.between.Passes.{in-passes, out-passes, passing-train, relation-passes, visit-run, relation-run};
 ghost use Rattle.sheet.specs.between.Passes.{visits-pass, relations-pass, covers, place-passes, sheet-passes, division-passes};
 use network::LineRow;
 use network::Network;
@@ -197,7 +197,8 @@ fn good_visit(
 
 // Records
 
-fn good_visit_record(
+// The number of the train of a good visit record, and 0 for any other: no train is 0.
+fn good_train(
     r: &[u8],
     a: LineRow,
     b: LineRow,
@@ -205,19 +206,21 @@ fn good_visit_record(
     s: Station,
     tracks: u8,
     good: bool,
-) -> bool
+) -> u16
     requires { ⌜ (tracks ≡ tracks-at network s) × (good ≡ true → network-refusal network ≡ 0) × RowOfByte network (getD (now r) 10 0) a × RowOfByte network (getD (now r) 12 0) b ⌝ }
-    ensures { λ a. ⌜ a ≡ visit-passes network s (now (r .entry)) ⌝ }
+    ensures { λ t. ⌜ t ≡ passing-train network s (now (r .entry)) ⌝ }
 {
     let t = record::train_in(r);
     let v = record::visit_in(r);
     let own = record::visit_record(t, v);
     if is_same(r, &own) {
         if t.valid() {
-            return good_visit(v, a, b, network, s, tracks, good);
+            if good_visit(v, a, b, network, s, tracks, good) {
+                return t.0;
+            }
         }
     }
-    false
+    0
 }
 
 fn good_relation_record(r: &[u8], q: Relation) -> bool
@@ -244,14 +247,10 @@ fn visit_run(slots: &[u8], n: usize, network: Network, s: Station, good: bool) -
         let at = 16 * i;
         let a = rows[place_of(Line(slots[at + 10]))];
         let b = rows[place_of(Line(slots[at + 12]))];
-        if good_visit_record(&slots[at..at + 16], a, b, network, s, tracks, good) {
-            let t = record::train_in(&slots[at..at + 16]);
-            if last < t.0 {
-                last = t.0;
-                i += 1;
-            } else {
-                return false;
-            }
+        let t = good_train(&slots[at..at + 16], a, b, network, s, tracks, good);
+        if last < t {
+            last = t;
+            i += 1;
         } else {
             return false;
         }

@@ -1,6 +1,9 @@
 -- `sheet::test::visit_run` meets its contract. The loop's invariant: what is asked of all records is asked of those
 -- from i on, and the train that is kept is that of the record before i. Assumes nothing.
-use Prim.Native.Nat.{ℕ, _≤_, _-_}
+use Prim.Native.Nat.{ℕ, _+_, _*_, _≤_, _-_}
+use mathlib.Core.Bool.{Bool, true, false, _&&_}
+use mathlib.Core.List.{List}
+use lib.ListN.{take, drop}
 use mathlib.Core.Path.{_≡_, refl, sym, _∙_, ap}
 use native.Mathlib.Omega.{arith}
 use lib.Dec.{ltb}
@@ -8,11 +11,17 @@ use borrow.Author.Needs.{needs}
 use borrow.Author.Tests.{lt-ltb, le-ltb}
 use denote.Ref.{now}
 use Rattle.records.specs.Bytes.{chunk}
-use Rattle.sheet.specs.between.Passes.{visit-passes, train-after, visit-run}
-use Rattle.sheet.proofs.PassLaws.{cut-chunk, all-from, from-first-not, from-second-not, from-on, from-end, visit-run-start, train-before, train-next, before-next}
+use Rattle.sheet.specs.Types.{Station, Network}
+use Rattle.sheet.specs.between.Passes.{visit-passes, passing-train, train-after, visit-run}
+use Rattle.sheet.proofs.PassLaws.{cut-chunk, all-from, from-not, from-both, from-end, visit-run-start, train-before, train-kept, train-next}
 use Rattle.sheet.proofs.LinkRows.{place-low, row-read}
 use Rattle.sheet.proofs.test.visit_run.Statement.{statement}
 use Rattle.sheet.proofs.test.visit_run.Tie as tie
+
+-- the test of the loop is that of the record
+passes : (last t : ℕ) (b : List ℕ) (i : ℕ) (n : Network) (s : Station) → last ≡ train-before b i → t ≡ passing-train n s (take (16 * i + 16 - 16 * i) (drop (16 * i) b))
+    → (x : Bool) → ltb last t ≡ x → (visit-passes n s (chunk i b) && train-after b i) ≡ x
+passes last t b i n s e p x q = sym (ap (λ (k : ℕ). ltb k t) e ∙ train-next b i n s t p) ∙ q
 
 abbrev Inv-loop : tie.InvT-loop
 Inv-loop slots n network s good rows tracks last₀ i₀ last i =
@@ -64,20 +73,20 @@ mul-b c = omega (arith, place-low _ _ (c .place-of2 .ensures))
 array-copy-out-b : tie.Need-array-copy-out-b Inv-loop μ-loop
 array-copy-out-b c = omega (arith, place-low _ _ (c .place-of2 .ensures))
 
-add-good-visit-record : tie.Need-add-good-visit-record Inv-loop μ-loop
-add-good-visit-record c = omega arith
+add-good-train : tie.Need-add-good-train Inv-loop μ-loop
+add-good-train c = omega arith
 
-sub-good-visit-record : tie.Need-sub-good-visit-record Inv-loop μ-loop
-sub-good-visit-record c = omega arith
+sub-good-train : tie.Need-sub-good-train Inv-loop μ-loop
+sub-good-train c = omega arith
 
-part-good-visit-record-start : tie.Need-part-good-visit-record-start Inv-loop μ-loop
-part-good-visit-record-start c = omega arith
+part-good-train-start : tie.Need-part-good-train-start Inv-loop μ-loop
+part-good-train-start c = omega arith
 
-part-good-visit-record-end : tie.Need-part-good-visit-record-end Inv-loop μ-loop
-part-good-visit-record-end c = omega arith
+part-good-train-end : tie.Need-part-good-train-end Inv-loop μ-loop
+part-good-train-end c = omega arith
 
-good-visit-record-requires : tie.Need-good-visit-record-requires Inv-loop μ-loop
-good-visit-record-requires c κs =
+good-train-requires : tie.Need-good-train-requires Inv-loop μ-loop
+good-train-requires c κs =
     let l = c .before .before .before .before .before .before .before .before .loop in
     let s = c .before .before .before .before .before .before .before .before .before .before .before .before .args in (
       c .before .before .before .before .before .before .before .before .before .tracks-of .ensures,
@@ -85,21 +94,6 @@ good-visit-record-requires c κs =
       row-read (s .network) (now (s .slots)) (l .i) 10 (c .before .before .before .before .before .place-of .result) (omega arith) (c .before .before .before .before .before .place-of .ensures),
       row-read (s .network) (now (s .slots)) (l .i) 12 (c .before .before .place-of2 .result) (omega arith) (c .before .before .place-of2 .ensures),
     )
-
-add-train-in : tie.Need-add-train-in Inv-loop μ-loop
-add-train-in c = omega arith
-
-sub-train-in : tie.Need-sub-train-in Inv-loop μ-loop
-sub-train-in c = omega arith
-
-part-train-in-start : tie.Need-part-train-in-start Inv-loop μ-loop
-part-train-in-start c = omega arith
-
-part-train-in-end : tie.Need-part-train-in-end Inv-loop μ-loop
-part-train-in-end c = omega arith
-
-train-in-requires : tie.Need-train-in-requires Inv-loop μ-loop
-train-in-requires c κs = search needs
 
 add-i : tie.Need-add-i Inv-loop μ-loop
 add-i c = omega arith
@@ -109,39 +103,25 @@ loop-less c = omega arith
 
 loop-again : tie.Need-loop-again Inv-loop μ-loop
 loop-again c =
-    let l = c .before .before .before .before .before .before .before .before .before .before .before .before .before .before .loop in
-    let s = c .before .before .before .before .before .before .before .before .before .before .before .before .before .before .before .before .before .before .args in
-    let g = c .before .before .before .before .before .good-visit-record in
-    let t = c .before .before .train-in in
-    let p : g .result ≡ visit-passes (s .network) (s .s) (chunk (l .i) (now (s .slots))) = g .ensures ∙ ap (visit-passes (s .network) (s .s)) (cut-chunk (now (s .slots)) (l .i)) in
-    let good = sym p ∙ c .before .before .before .before .if1 .taken in
-    let o = ap (λ (k : ℕ). ltb k (t .result .0)) (l .inv .1) ∙ train-next (now (s .slots)) (l .i) (s .network) (s .s) good (t .result) (t .ensures) in (
+    let l = c .before .before .before .before .before .before .before .before .before .before .loop in
+    let s = c .before .before .before .before .before .before .before .before .before .before .before .before .before .before .args in
+    let t = c .before .good-train in
+    let good = passes (l .last) (t .result) (now (s .slots)) (l .i) (s .network) (s .s) (l .inv .1) (t .ensures) true (lt-ltb _ _ (c .if1 .taken)) in (
       omega arith,
-      before-next (now (s .slots)) (l .i) (t .result) (t .ensures),
-      l .inv .2 ∙ from-on (λ j. visit-passes (s .network) (s .s) (chunk j (now (s .slots)))) (train-after (now (s .slots))) (s .n) (l .i) (omega arith) good (sym o ∙ lt-ltb _ _ (c .if2 .taken)),
+      train-kept (now (s .slots)) (l .i) (s .network) (s .s) (t .result) (t .ensures) good,
+      l .inv .2 ∙ from-both (λ j. visit-passes (s .network) (s .s) (chunk j (now (s .slots)))) (train-after (now (s .slots))) (s .n) (l .i) (omega arith) good,
     )
 
 returns : tie.Need-returns Inv-loop μ-loop
 returns c =
-    let l = c .before .before .before .before .before .before .before .before .before .before .before .before .before .before .loop in
-    let s = c .before .before .before .before .before .before .before .before .before .before .before .before .before .before .before .before .before .before .args in
-    let g = c .before .before .before .before .before .good-visit-record in
-    let t = c .before .before .train-in in
-    let p : g .result ≡ visit-passes (s .network) (s .s) (chunk (l .i) (now (s .slots))) = g .ensures ∙ ap (visit-passes (s .network) (s .s)) (cut-chunk (now (s .slots)) (l .i)) in
-    let good = sym p ∙ c .before .before .before .before .if1 .taken in
-    let o = ap (λ (k : ℕ). ltb k (t .result .0)) (l .inv .1) ∙ train-next (now (s .slots)) (l .i) (s .network) (s .s) good (t .result) (t .ensures) in
-    sym (l .inv .2 ∙ from-second-not (λ j. visit-passes (s .network) (s .s) (chunk j (now (s .slots)))) (train-after (now (s .slots))) (s .n) (l .i) (omega arith) good (sym o ∙ le-ltb _ _ (c .if2 .left)))
+    let l = c .before .before .before .before .before .before .before .before .before .before .loop in
+    let s = c .before .before .before .before .before .before .before .before .before .before .before .before .before .before .args in
+    let t = c .before .good-train in
+    let bad = passes (l .last) (t .result) (now (s .slots)) (l .i) (s .network) (s .s) (l .inv .1) (t .ensures) false (le-ltb _ _ (c .if1 .left)) in
+    sym (l .inv .2 ∙ from-not (λ j. visit-passes (s .network) (s .s) (chunk j (now (s .slots)))) (train-after (now (s .slots))) (s .n) (l .i) (omega arith) bad)
 
 returns-2 : tie.Need-returns-2 Inv-loop μ-loop
 returns-2 c =
-    let l = c .before .before .before .before .before .before .before .before .before .before .loop in
-    let s = c .before .before .before .before .before .before .before .before .before .before .before .before .before .before .args in
-    let g = c .before .good-visit-record in
-    let p : g .result ≡ visit-passes (s .network) (s .s) (chunk (l .i) (now (s .slots))) = g .ensures ∙ ap (visit-passes (s .network) (s .s)) (cut-chunk (now (s .slots)) (l .i)) in
-    sym (l .inv .2 ∙ from-first-not (λ j. visit-passes (s .network) (s .s) (chunk j (now (s .slots)))) (train-after (now (s .slots))) (s .n) (l .i) (omega arith) (sym p ∙ c .if1 .left))
-
-returns-3 : tie.Need-returns-3 Inv-loop μ-loop
-returns-3 c =
     let l = c .before .loop in
     let s = c .before .before .before .before .before .args in
     sym (l .inv .2 ∙ from-end (λ j. visit-passes (s .network) (s .s) (chunk j (now (s .slots)))) (train-after (now (s .slots))) (s .n) (l .i) (omega arith))
@@ -151,6 +131,5 @@ visit-run-spec =
     tie.close
     (tie.spec Inv-loop μ-loop tracks-of-requires loop-holds mul-at add-t16 shared-slice-read-t18 place-of-requires
     mul-a array-copy-out-a add-t16-2 shared-slice-read-t18-2 place-of-requires-2 mul-b array-copy-out-b
-    add-good-visit-record sub-good-visit-record part-good-visit-record-start part-good-visit-record-end
-    good-visit-record-requires add-train-in sub-train-in part-train-in-start part-train-in-end train-in-requires
-    add-i loop-less loop-again returns returns-2 returns-3)
+    add-good-train sub-good-train part-good-train-start part-good-train-end good-train-requires add-i loop-less
+    loop-again returns returns-2)
