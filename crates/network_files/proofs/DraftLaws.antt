@@ -1,50 +1,109 @@
 -- Rows of stations and lines: the formats as the code reads them, and what an answer says of many rows. Assumes
 -- nothing.
-use Prim.Native.Nat.{ℕ, zero, suc, _+_, _-_, _<_, _≤_}
+use Prim.Native.Nat.{ℕ, zero, suc, _+_, _%_, _<_, _≤_}
 use mathlib.Core.Path.{_≡_, refl, sym, _∙_, ap}
 use mathlib.Core.Bool.{Bool, true, false, false≢true, not}
 use mathlib.Core.List.{List, [], _∷_, _++_, map}
-use mathlib.Core.Option.{Option, none, some}
+use mathlib.Core.Option.{none, some}
 use native.Mathlib.Omega.{arith}
-use lib.ListN.{length, length-map, getD}
+use lib.Dec.{T, leb, ltb, leb→le, ltb→lt}
+use native.Mathlib.Numerals.{add-one}
+use lib.ListN.{length, take, set, getD, length-map, List·getD-map}
+use lib.Seq.{take-all, take-suc, take-suc-set}
 use Rattle.base.specs.Choice.{if_then_else_}
-use Rattle.base.specs.Lists.{first}
+use Rattle.base.specs.Lists.{first, every}
+use Rattle.base.proofs.Tests.{every-head, every-tail}
 use Rattle.network.specs.declared.StationRow.{StationRow}
 use Rattle.network.specs.declared.LineRow.{LineRow}
 use Rattle.network.specs.declared.Network.{Network}
 use Rattle.network.specs.Networks.{blank-station, blank-line, station-rows, stations-of, listed, ends-listed}
-use Rattle.timetable.specs.Formats.{Format, done, Outcome, accepted, refused, _and-then_, behind, read, _to_, row, entries, Placed, placed}
-use Rattle.timetable.specs.NetworkFile.{station-ranges, station-of, station-entry, station-floor, line-ranges, line-of, line-fields, line-entry, line-floor}
+use Rattle.timetable.specs.Formats.{Format, done, Outcome, accepted, refused, _and-then_, read, Range, row, Placed}
+use Rattle.timetable.specs.NetworkFile.{station-of, station-entry, station-floor, line-of, line-entry, line-floor}
 use Rattle.timetable.specs.NetworkFile.{Listed, stations-format, lines-format, lines-part, only-stations, with-headway, with-lines, blank-network, network-with, network-of, unjoined, unjoined-fault, network-fault}
 use Rattle.network_files.specs.declared.draft.StationsRead.{StationsRead}
 use Rattle.network_files.specs.declared.draft.LinesRead.{LinesRead}
-use Rattle.timetable.specs.declared.Fault.{Fault}
 use Rattle.network_files.specs.declared.draft.Draft.{Draft}
-use Rattle.fields.specs.between.Answers.{padded}
+use Rattle.fields.specs.declared.field.RowRead.{RowRead}
+use Rattle.fields.specs.between.Answers.{padded, row-read}
+use Rattle.network_files.specs.between.Rows.{above, as-bytes}
 use Rattle.network_files.specs.Answers.{stations-read, fault-next, lines-read, before-lines, draft-read}
-use Rattle.fields.proofs.ReadLaws.{read-then}
-use Rattle.fields.proofs.EntryLaws.{row-above, padded-at, made, entries-many}
+use Rattle.fields.proofs.EntryLaws.{row-above, padded-at, row-took, row-refusal, made, unmade, entries-many}
 
--- stations
+-- rows of any ranges
 
-pub station-format : (b : ℕ) → station-entry (b ∷ []) ≡ (row ((b + 1) to 16 ∷ 1 to 6 ∷ 1 to 8 ∷ []) [] and-then (λ ns. done (station-of ns)))
-unfolding station-entry station-ranges
-station-format b = ap (λ (f : Format (List ℕ)). f and-then (λ ns. done (station-of ns))) (row-above 1 16 (1 to 6 ∷ 1 to 8 ∷ []) b (omega arith))
+-- the first number may be 1, so that a row before it decides; and each number fits a byte
+abbrev from-one : List Range → Bool
+from-one [] = true
+from-one (r ∷ rs) = leb (r .lo) 1
+
+abbrev of-bytes : List Range → Bool
+of-bytes rs = every (λ (r : Range). ltb (r .hi) 256) rs
+
+above-row : (rs : List Range) (b : ℕ) → T (from-one rs) → row rs (b ∷ []) ≡ row (above b rs) []
+unfolding above row
+above-row [] b h = refl
+above-row (r ∷ rs) b h = row-above (r .lo) (r .hi) rs b (omega (arith, leb→le (r .lo) 1 h))
+
+above-last : (rs : List Range) (b : ℕ) → map (λ (r : Range). r .hi) (above b rs) ≡ map (λ (r : Range). r .hi) rs
+unfolding above
+above-last [] b = refl
+above-last (r ∷ rs) b = refl
+
+bytes-each : (rs : List Range) → T (of-bytes rs) → (i : ℕ) → getD (map (λ (r : Range). r .hi) rs) i 0 < 256
+bytes-each [] h i = omega arith
+bytes-each (r ∷ rs) h zero = omega (arith, ltb→lt (r .hi) 256 (every-head (λ (x : Range). ltb (x .hi) 256) r rs h))
+bytes-each (r ∷ rs) h (suc i) = bytes-each rs (every-tail (λ (x : Range). ltb (x .hi) 256) r rs h) i
+
+-- numbers that fit bytes are kept
+bytes-kept : (ns : List ℕ) → ((i : ℕ) → getD ns i 0 < 256) → as-bytes ns ≡ ns
+unfolding as-bytes
+bytes-kept [] h = refl
+bytes-kept (n ∷ ns) h = let e : n % 256 ≡ n = omega (arith, h 0) in rw (e, bytes-kept ns (λ i. h (suc i)))
+
+-- bytes put one by one
+module _ (ns bs : List ℕ) (many : length ns ≡ 12) (long : length bs ≡ 12) where
+  pub bytes-next : (i b : ℕ) → i < 12 → take i bs ≡ take i (as-bytes ns) → b ≡ getD ns i 0 % 256 → take (i + 1) (set bs i b) ≡ take (i + 1) (as-bytes ns)
+  unfolding as-bytes
+  bytes-next i b h e q =
+      let l = length-map ns (λ (n : ℕ). n % 256) in
+      rw (add-one i, take-suc-set bs i b (omega arith), take-suc (as-bytes ns) i 0 (omega arith), List·getD-map (λ (n : ℕ). n % 256) ns i 0, q, e)
+
+  pub bytes-all : (i : ℕ) → 12 ≤ i → take i bs ≡ take i (as-bytes ns) → bs ≡ as-bytes ns
+  unfolding as-bytes
+  bytes-all i h e =
+      let l = length-map ns (λ (n : ℕ). n % 256) in
+      sym (take-all i bs (omega arith)) ∙ e ∙ take-all i (as-bytes ns) (omega arith)
+
+-- what is made of a row that is read behind another
+module _ {A : Type 0} (make : List ℕ → A) (rs : List Range) (low : T (from-one rs)) (small : T (of-bytes rs)) (pads : (ns : List ℕ) → make (padded 12 0 ns) ≡ make ns)
+    (b : ℕ) (file : List ℕ) (at : ℕ) (l : List Range) (is : l ≡ above b rs) (r : RowRead) (e : r ≡ row-read (read (row l []) file at)) where
+  raised : row rs (b ∷ []) ≡ row l []
+  raised = above-row rs b low ∙ ap (λ (l : List Range). row l []) (sym is)
+
+  pub row-made : r .accepted ≡ true → (a : A) (v : List ℕ) → a ≡ make v → v ≡ as-bytes (r .values)
+      → accepted a (r .place) ≡ read (row rs (b ∷ []) and-then (λ ns. done (make ns))) file at
+  row-made t a v p q =
+      let w = row-took l file at r e t in
+      let last = ap (map (λ (r : Range). r .hi)) is ∙ above-last rs b in
+      let k = bytes-kept (r .values) (λ i. omega (arith, w .at-most i, ap (λ (hs : List ℕ). getD hs i 0) last, bytes-each rs small i)) in
+      ap (λ (x : A). accepted x (r .place)) (p ∙ ap make (q ∙ k ∙ w .stored) ∙ pads (w .numbers))
+      ∙ sym (ap (λ (f : Format (List ℕ)). read (f and-then (λ ns. done (make ns))) file at) raised
+      ∙ made make (row l []) file at (w .numbers) (r .place) (w .outcome))
+
+  pub row-unmade : r .accepted ≡ false → refused (r .refusal) (r .place) ≡ read (row rs (b ∷ []) and-then (λ ns. done (make ns))) file at
+  row-unmade t =
+      sym (ap (λ (f : Format (List ℕ)). read (f and-then (λ ns. done (make ns))) file at) raised
+      ∙ unmade make (row l []) file at (r .refusal) (r .place) (row-refusal _ r e t))
+
+-- stations and lines
 
 pub station-padded : (ns : List ℕ) → station-of (padded 12 0 ns) ≡ station-of ns
 unfolding station-of
-station-padded ns = rw (padded-at 12 ns 0, padded-at 12 ns 1, padded-at 12 ns 2)
-
--- lines
-
-pub line-format : (b : ℕ) → line-fields (b ∷ []) ≡ (row ((b + 1) to 32 ∷ 1 to 16 ∷ 1 to 16 ∷ 1 to 3 ∷ 1 to 240 ∷ 1 to 9 ∷ []) [] and-then (λ ns. done (line-of ns)))
-unfolding line-fields line-ranges
-line-format b =
-    ap (λ (f : Format (List ℕ)). f and-then (λ ns. done (line-of ns))) (row-above 1 32 (1 to 16 ∷ 1 to 16 ∷ 1 to 3 ∷ 1 to 240 ∷ 1 to 9 ∷ []) b (omega arith))
+station-padded ns = simp (padded-at 12 ns)
 
 pub line-padded : (ns : List ℕ) → line-of (padded 12 0 ns) ≡ line-of ns
 unfolding line-of
-line-padded ns = rw (padded-at 12 ns 0, padded-at 12 ns 1, padded-at 12 ns 2, padded-at 12 ns 3, padded-at 12 ns 4, padded-at 12 ns 5)
+line-padded ns = simp (padded-at 12 ns)
 
 -- the first line that is not joined, one line more
 pub fault-snoc : (n : Network) (ls : List (Placed LineRow)) (l : Placed LineRow)

@@ -3,13 +3,13 @@
 ghost use mathlib.Core.Path.{_≡_};
 ghost use mathlib.Core.List.{[], _∷_};
 ghost use mathlib.Core.Option.{none};
-ghost use Prim.Native.Nat.{ℕ, _+_, _<_, _≤_};
-ghost use lib.ListN.{getD};
+ghost use Prim.Native.Nat.{_≤_};
 ghost use Rattle.network.specs.Networks.{blank-station, blank-line, ends-listed};
-ghost use Rattle.timetable.specs.Formats.{Range, _to_, refused, read};
-ghost use Rattle.timetable.specs.NetworkFile.{station-of, station-entry, stations-format, line-of, line-fields, lines-format};
+ghost use Rattle.timetable.specs.Formats.{refused, read};
+ghost use Rattle.timetable.specs.NetworkFile.{station-ranges, station-of, station-entry, stations-format, line-ranges, line-of, line-fields, lines-format};
 ghost use Rattle.timetable.specs.NetworkFile.{Listed, lines-part, count-part, headway-part, stations-part, network-format, blank-network, unjoined-fault};
 ghost use Rattle.fields.specs.between.Answers.{ranges-of};
+ghost use Rattle.network_files.specs.between.Rows.{above, as-bytes};
 ghost use Rattle.network_files.specs.Answers.{station-outcome, stations-read, line-outcome, fault-next, lines-read, before-lines, draft-read};
 use fields::field::FieldRead;
 use fields::field::Span;
@@ -106,19 +106,32 @@ fn no_fault() -> Fault
     }
 }
 
-fn station_from(v: [u16; 12]) -> StationRow
-    ensures { λ r. ⌜ (getD v 0 0 < 256 → getD v 1 0 < 256 → getD v 2 0 < 256 → r ≡ station-of v) ⌝ }
+// The numbers of a row as bytes.
+fn narrowed(values: [u16; 12]) -> [u8; 12]
+    ensures { λ r. ⌜ r ≡ as-bytes values ⌝ }
+{
+    let mut bytes: [u8; 12] = [0; 12];
+    let mut i: usize = 0;
+    while i < 12 {
+        bytes[i] = narrow(values[i]);
+        i += 1;
+    }
+    bytes
+}
+
+fn station_from(v: [u8; 12]) -> StationRow
+    ensures { λ r. ⌜ r ≡ station-of v ⌝ }
 {
     StationRow {
-        station: Station(narrow(v[0])),
-        area: Area(narrow(v[1])),
-        tracks: narrow(v[2]),
+        station: Station(v[0]),
+        area: Area(v[1]),
+        tracks: v[2],
     }
 }
 
 // "(number, area, count of tracks 1..8)", the number above the one before.
 fn station_spans(before: u8) -> Spans
-    ensures { λ r. ⌜ ranges-of r ≡ (before + 1) to 16 ∷ 1 to 6 ∷ 1 to 8 ∷ [] ⌝ }
+    ensures { λ r. ⌜ ranges-of r ≡ above before station-ranges ⌝ }
 {
     let none = Span { lo: 0, hi: 0 };
     let number = Span {
@@ -139,7 +152,7 @@ fn station_row(file: &[u8], at: usize, before: u8) -> StationRead
     let read = row(file, at, station_spans(before));
     if read.accepted {
         let values = read.values;
-        return StationRead::Row(station_from(values), read.place);
+        return StationRead::Row(station_from(narrowed(values)), read.place);
     }
     StationRead::Refused(read.refusal, read.place)
 }
@@ -186,22 +199,22 @@ fn stations(file: &[u8], at: usize, count: u8) -> StationsRead
     }
 }
 
-fn line_from(v: [u16; 12]) -> LineRow
-    ensures { λ r. ⌜ (((i : ℕ) → i < 6 → getD v i 0 < 256) → r ≡ line-of v) ⌝ }
+fn line_from(v: [u8; 12]) -> LineRow
+    ensures { λ r. ⌜ r ≡ line-of v ⌝ }
 {
     LineRow {
-        line: Line(narrow(v[0])),
-        first: Station(narrow(v[1])),
-        second: Station(narrow(v[2])),
-        kind: narrow(v[3]),
-        least: narrow(v[4]),
-        capacity: narrow(v[5]),
+        line: Line(v[0]),
+        first: Station(v[1]),
+        second: Station(v[2]),
+        kind: v[3],
+        least: v[4],
+        capacity: v[5],
     }
 }
 
 // "(number, first station, second station, kind, least running time, capacity 1..9)", the number above the one before.
 fn line_spans(before: u8) -> Spans
-    ensures { λ r. ⌜ ranges-of r ≡ (before + 1) to 32 ∷ 1 to 16 ∷ 1 to 16 ∷ 1 to 3 ∷ 1 to 240 ∷ 1 to 9 ∷ [] ⌝ }
+    ensures { λ r. ⌜ ranges-of r ≡ above before line-ranges ⌝ }
 {
     let none = Span { lo: 0, hi: 0 };
     let number = Span {
@@ -224,7 +237,7 @@ fn line_row(file: &[u8], at: usize, before: u8) -> LineRead
     let read = row(file, at, line_spans(before));
     if read.accepted {
         let values = read.values;
-        return LineRead::Row(line_from(values), read.place);
+        return LineRead::Row(line_from(narrowed(values)), read.place);
     }
     LineRead::Refused(read.refusal, read.place)
 }

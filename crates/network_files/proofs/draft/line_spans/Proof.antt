@@ -1,7 +1,9 @@
 -- `network_files::draft::line_spans` meets its contract by computation. Assumes nothing.
 use mathlib.Core.Path.{refl}
 use borrow.Author.Needs.{needs}
+use Rattle.timetable.specs.NetworkFile.{line-ranges}
 use Rattle.fields.specs.between.Answers.{ranges-of}
+use Rattle.network_files.specs.between.Rows.{above}
 use Rattle.network_files.proofs.draft.line_spans.Statement.{statement}
 use Rattle.network_files.proofs.draft.line_spans.Tie as tie
 
@@ -9,7 +11,7 @@ add-t9 : tie.Need-add-t9
 add-t9 c = search needs
 
 returns : tie.Need-returns
-unfolding ranges-of
+unfolding ranges-of above line-ranges
 returns c = refl
 
 pub line-spans-spec : {M : Type 1} → statement M

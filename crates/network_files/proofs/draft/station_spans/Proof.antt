@@ -1,7 +1,9 @@
 -- `network_files::draft::station_spans` meets its contract by computation. Assumes nothing.
 use mathlib.Core.Path.{refl}
 use borrow.Author.Needs.{needs}
+use Rattle.timetable.specs.NetworkFile.{station-ranges}
 use Rattle.fields.specs.between.Answers.{ranges-of}
+use Rattle.network_files.specs.between.Rows.{above}
 use Rattle.network_files.proofs.draft.station_spans.Statement.{statement}
 use Rattle.network_files.proofs.draft.station_spans.Tie as tie
 
@@ -9,7 +11,7 @@ add-t7 : tie.Need-add-t7
 add-t7 c = search needs
 
 returns : tie.Need-returns
-unfolding ranges-of
+unfolding ranges-of above station-ranges
 returns c = refl
 
 pub station-spans-spec : {M : Type 1} → statement M
