@@ -18,6 +18,7 @@ use Rattle.timetable.specs.Visits.{with-out, outs}
 use Rattle.timetable.specs.Tables.{Entry, Table}
 use Rattle.timetable.specs.Machine.{Timetable}
 use Rattle.timetable.specs.Rules.{met}
+use Rattle.timetable.specs.Findings.{rules}
 use Rattle.page.specs.between.Changes.{table-in}
 use Rattle.rules.specs.between.Parts.{entry}
 use Rattle.page.specs.between.Entries.{entry-at, relation-at}
@@ -28,6 +29,11 @@ use Rattle.scope.specs.declared.Scope.{Scope}
 use Rattle.rule_tests.specs.between.Tests.{clash, broken, second-of}
 use Rattle.builder.specs.between.Builder.{rule-count, told, is-far, against, unmet-numbers, facing, step, walk, rule-numbers, numbers-from, station-numbers, all-numbers}
 use Rattle.scope.specs.Scopes.{takes}
+
+-- the rules that are gone through are those of document 01
+pub rules-counted : (n : Network) (s : Station) (here : Table) → length (rules n s here) ≡ rule-count
+unfolding rules
+rules-counted n s here = refl
 
 -- entries
 

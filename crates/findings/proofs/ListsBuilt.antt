@@ -1,9 +1,11 @@
 -- What the builder puts are the lists of document 01: the numbers of the findings that a scope takes, rule by rule, are
 -- what each walk puts. Assumes nothing.
-use Prim.Native.Nat.{ℕ, _+_}
+use Prim.Native.Nat.{ℕ, suc, _+_}
 use mathlib.Core.Path.{_≡_, refl, sym, ap, ap₂, _∙_, fun-ext}
 use mathlib.Core.Bool.{Bool, true, false, not, _&&_}
 use mathlib.Core.List.{List, [], _∷_, _++_, map, flatMap, append-nil, append-assoc}
+use native.Mathlib.Numerals.{add-one}
+use lib.ListN.{length}
 use Rattle.base.specs.Choice.{if_then_else_}
 use Rattle.base.specs.Lists.{keep}
 use Rattle.base.proofs.Tests.{every-true}
@@ -15,12 +17,13 @@ use Rattle.timetable.specs.Visits.{ins, outs, comes, leaves, with-in, with-out}
 use Rattle.timetable.specs.Tables.{Entry, Table}
 use Rattle.timetable.specs.Machine.{Timetable}
 use Rattle.timetable.specs.Rules.{breaks-1, breaks-2, breaks-3, met, breaks-5, breaks-6, out-answered, in-answered, breaks-9, breaks-10}
-use Rattle.timetable.specs.Findings.{finding, numbers, numbers-of, Spanning, one, by-one, by-two, by-rank, by-out, by-in, of-out, of-in, of-facing, unused, rules, found-by, found-by-all, at-station, spanning, picked, findings, inside, group-findings, between, pair-findings}
+use Rattle.timetable.specs.Findings.{finding, numbers, numbers-of, Spanning, Rule, one, by-one, by-two, by-rank, by-out, by-in, of-out, of-in, of-facing, unused, rules, found-by, found-by-all, at-station, spanning, picked, findings, inside, group-findings, between, pair-findings}
 use Rattle.findings.specs.Types.{Station, Area, Inward, Outward, Visit, Relation, Network}
 use Rattle.scope.specs.declared.Scope.{Scope}
-use Rattle.rule_tests.specs.between.Tests.{clash, out-broken, in-broken, far-broken, broken, second-of}
+use Rattle.rule_tests.specs.between.Tests.{beside, clash, out-broken, in-broken, far-broken, own-broken, broken, second-of}
 use Rattle.builder.specs.between.Builder.{rule-count, told, is-far, against, unmet-numbers, facing, step, walk, rule-numbers, numbers-from, station-numbers, all-numbers}
 use Rattle.scope.specs.Scopes.{takes}
+use Rattle.builder.proofs.BuildLaws.{rules-counted}
 
 -- lists in a row
 
@@ -257,24 +260,38 @@ module _ (n : Network) (scope : Scope) (m : Timetable) (here : Table) (s : Stati
       ∙ ap (λ (k : Entry → List ℕ). flatMap k (here .visits)) (fun-ext (λ t. shown-flat taken _ (outs (t .visit)) ∙ facing-is t))
       ∙ walk-one 10 _ (λ t us. refl) (here .visits)
 
-  -- one rule, and those behind it
-  row : (x y : List Spanning) (u v : List ℕ) → shown taken x ≡ u → shown taken y ≡ v → shown taken (x ++ y) ≡ u ++ v
-  row x y u v p q = shown-append taken x y ∙ ap₂ (λ (w z : List ℕ). w ++ z) p q
+  -- each of some rules, numbered from k on: what the builder puts under its number is what it finds
+  infixr 20 _next_
+  data Each : ℕ → List Rule → Type 0 where
+    over : {k : ℕ} → Each k []
+    _next_ : {k : ℕ} {r : Rule} {rs : List Rule} → shown taken (found-by m s here k r) ≡ rule-numbers n scope m here s k → Each (suc k) rs → Each k (r ∷ rs)
 
-  -- THE RULES, one row each
+  each-shown : (k : ℕ) (rs : List Rule) → Each k rs → shown taken (found-by-all m s here k rs) ≡ numbers-from n scope m here s k (length rs)
+  unfolding found-by-all numbers-from
+  each-shown k [] over = shown-none taken
+  each-shown k (r ∷ rs) (h next hs) =
+      shown-append taken (found-by m s here k r) (found-by-all m s here (suc k) rs)
+      ∙ ap₂ (λ (x y : List ℕ). x ++ y) h (each-shown (suc k) rs hs ∙ ap (λ (j : ℕ). numbers-from n scope m here s j (length rs)) (sym (add-one k)))
+
+  -- THE RULES, one line each
+  rules-shown : Each 1 (rules n s here)
+  unfolding rules found-by rule-numbers is-far step beside own-broken broken second-of far-broken out-broken in-broken against clash
+  rules-shown =
+      own-one 1 (λ t. breaks-1 (t .visit)) unused (λ t us. refl)
+      next own-two 2 breaks-2 (λ t us. refl)
+      next own-two 3 (breaks-3 (n .headway)) (λ t us. refl)
+      next shown-unmet taken here s 1 (here .relations)
+      next own-one 5 (λ t. breaks-5 n (t .visit)) unused (λ t us. refl)
+      next own-one 6 (breaks-6 n (here .visits)) unused (λ t us. refl)
+      next far-out 7 (λ there t o. not (out-answered s (t .train) o there)) (λ t us. refl)
+      next far-in 8 (λ there t i. not (in-answered s (t .train) i there)) (λ t us. refl)
+      next far-out 9 (λ there t o. breaks-9 s t o there) (λ t us. refl)
+      next far-facing
+      next over
+
   shown-station : shown taken (at-station n m s here) ≡ numbers-from n scope m here s 1 rule-count
-  unfolding at-station rules found-by-all numbers-from rule-numbers is-far step broken second-of far-broken out-broken in-broken against clash found-by
-  shown-station =
-      row _ _ _ _ (own-one 1 (λ t. breaks-1 (t .visit)) unused (λ t us. refl))
-      (row _ _ _ _ (own-two 2 breaks-2 (λ t us. refl))
-      (row _ _ _ _ (own-two 3 (breaks-3 (n .headway)) (λ t us. refl))
-      (row _ _ _ _ (shown-unmet taken here s 1 (here .relations))
-      (row _ _ _ _ (own-one 5 (λ t. breaks-5 n (t .visit)) unused (λ t us. refl))
-      (row _ _ _ _ (own-one 6 (breaks-6 n (here .visits)) unused (λ t us. refl))
-      (row _ _ _ _ (far-out 7 (λ there t o. not (out-answered s (t .train) o there)) (λ t us. refl))
-      (row _ _ _ _ (far-in 8 (λ there t i. not (in-answered s (t .train) i there)) (λ t us. refl))
-      (row _ _ _ _ (far-out 9 (λ there t o. breaks-9 s t o there) (λ t us. refl))
-      (row _ _ _ _ far-facing (shown-none taken))))))))))
+  unfolding at-station
+  shown-station = each-shown 1 (rules n s here) rules-shown ∙ ap (numbers-from n scope m here s 1) (rules-counted n s here)
 
 module _ (n : Network) (scope : Scope) (m : Timetable) where
   shown-all : shown (takes n scope) (spanning n m) ≡ all-numbers n scope m

@@ -94,19 +94,15 @@ pub fn is_broken(
 ) -> bool
     ensures { λ r. ⌜ r ≡ broken n scope (held (now (sheet .entry))) (table-in (now (here .entry))) s rule (entry t v) ⌝ }
 {
-    if rule == 1 {
-        return stays::breaks_1(v);
+    match rule {
+        1 => stays::breaks_1(v),
+        5 => stays::breaks_5(n, v),
+        6 => lines::breaks_6(n, here, t, v),
+        _ => is_far_broken(sheet, n, scope, s, rule, t, v),
     }
-    if rule == 5 {
-        return stays::breaks_5(n, v);
-    }
-    if rule == 6 {
-        return lines::breaks_6(n, here, t, v);
-    }
-    is_far_broken(sheet, n, scope, s, rule, t, v)
 }
 
-// The second number of what they find: unused.
+// The second number of what they find: unused by all of these rules.
 pub fn second_of(rule: u16, t: Train, v: Visit) -> u16
     ensures { λ r. ⌜ r ≡ second-of rule (entry t v) ⌝ }
 {

@@ -2,7 +2,7 @@
 -- the sheet holds. findings/proofs/ListsBuilt.antt says that these are the rules of document 01. Assumes nothing.
 use Prim.Native.Nat.{ℕ}
 use mathlib.Core.Bool.{Bool, not, _&&_}
-use mathlib.Core.List.{List}
+use mathlib.Core.List.{List, [], _∷_}
 use lib.Dec.{eqb}
 use Rattle.base.specs.Choice.{if_then_else_}
 use Rattle.timetable.specs.Visits.{comes, leaves}
@@ -18,6 +18,11 @@ use Rattle.rule_tests.specs.Types.{Station, Train, Inward, Outward, Netw
 -- the tables of the pages that are found in some bytes: those of a sheet, or none
 unfoldable pub held : List ℕ → Timetable
 held sheet = λ s. table-in (station-part sheet s)
+
+-- what stands beside a number in some rows; d where the number is in none
+unfoldable pub beside : {A : Type 0} → ℕ → List (ℕ × A) → A → A
+beside x [] d = d
+beside x ((k, a) ∷ rows) d = if eqb x k then a else beside x rows d
 
 -- rules 2, 3 and 10: of two trains
 
@@ -45,14 +50,18 @@ module _ (n : Network) (scope : Scope) (m : Timetable) where
   unfoldable pub far-broken : Station → ℕ → Entry → Bool
   far-broken s rule t = if eqb rule 8 then comes (in-broken s (t .train)) (t .visit) else leaves (out-broken s rule t) (t .visit)
 
+  -- rules 1, 5 and 6: of the train's own station, each beside its number
+  unfoldable pub own-broken : Table → Entry → List (ℕ × Bool)
+  own-broken here t =
+      (1, breaks-1 (t .visit))
+      ∷ (5, breaks-5 n (t .visit))
+      ∷ (6, breaks-6 n (here .visits) t)
+      ∷ []
+
   unfoldable pub broken : Table → Station → ℕ → Entry → Bool
-  broken here s rule t =
-      if eqb rule 1 then breaks-1 (t .visit)
-      else if eqb rule 5 then breaks-5 n (t .visit)
-      else if eqb rule 6 then breaks-6 n (here .visits) t
-      else far-broken s rule t
+  broken here s rule t = beside rule (own-broken here t) (far-broken s rule t)
 
 -- The key ring of this module: `unfolding opened` opens every definition above.
 unfoldable pub opened : Unit {0}
-unfolding held clash second-of out-broken in-broken far-broken broken
+unfolding held beside clash second-of out-broken in-broken far-broken own-broken broken
 opened = tt
