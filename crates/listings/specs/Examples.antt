@@ -1,17 +1,20 @@
 -- Document 01's listing, from the bytes of its numbers to the bytes of its lines; the lines of refused files; and what
 -- `inspect` prints. Proved by evaluation. Assumes nothing.
-use Prim.Native.Nat.{ℕ}
+use Prim.Native.Nat.{ℕ, _+_}
 use mathlib.Core.Path.{_≡_, refl}
 use mathlib.Core.Bool.{true}
 use mathlib.Core.List.{List, [], _∷_, _++_}
-use lib.ListN.{replicate}
+use lib.ListN.{length, replicate}
 use Rattle.base.specs.Lists.{every, same}
 use Rattle.timetable.specs.Cases as Cases
+use Rattle.timetable.specs.Pieces.{size, one-station, first-line, net-numbers, loop-numbers}
 use Rattle.timetable.specs.Formats as Formats
+use Rattle.timetable.specs.Formats.{bytes-of}
 use Rattle.timetable.specs.NetworkFile as NetworkFile
 use Rattle.timetable.specs.EditsFile as EditsFile
 use Rattle.timetable.specs.InspectFile as InspectFile
 use Rattle.listings.specs.Text as Text
+use Rattle.listings.specs.Text.{line}
 use Rattle.listings.specs.Shift as Shift
 use Rattle.listings.specs.Shift.{shift-text}
 use Rattle.listings.specs.Inspect as Inspect
@@ -48,14 +51,14 @@ rows =
     -- an empty file: R 1 0
     ∷ ([], 82 ∷ 32 ∷ 49 ∷ 32 ∷ 48 ∷ 10 ∷ [])
     -- a byte too many: R 1 44
-    ∷ (input ++ (0 ∷ []), 82 ∷ 32 ∷ 49 ∷ 32 ∷ 52 ∷ 52 ∷ 10 ∷ [])
+    ∷ (input ++ (0 ∷ []), line 82 (1 ∷ length input ∷ []))
     -- a line that ends where it starts, before any edit: R 4 9
-    ∷ (2 ∷ 1 ∷ 1 ∷ 2 ∷ 2 ∷ 2 ∷ 1 ∷ 3 ∷ 1 ∷ 1 ∷ 1 ∷ 1 ∷ 3 ∷ 10 ∷ 1 ∷ 0 ∷ [], 82 ∷ 32 ∷ 52 ∷ 32 ∷ 57 ∷ 10 ∷ [])
+    ∷ (bytes-of (loop-numbers ++ (0 ∷ [])), line 82 (4 ∷ first-line ∷ []))
     -- as many bytes as may be, and one more: R 3 0, R 5 0
     ∷ (replicate 16384 0, 82 ∷ 32 ∷ 51 ∷ 32 ∷ 48 ∷ 10 ∷ [])
     ∷ (replicate 16385 0, 82 ∷ 32 ∷ 53 ∷ 32 ∷ 48 ∷ 10 ∷ [])
     -- no edits: T 0 0 0, A 0 0 0 0
-    ∷ (1 ∷ 1 ∷ 1 ∷ 1 ∷ 1 ∷ 0 ∷ 0 ∷ [], 84 ∷ 32 ∷ 48 ∷ 32 ∷ 48 ∷ 32 ∷ 48 ∷ 10 ∷ 65 ∷ 32 ∷ 48 ∷ 32 ∷ 48 ∷ 32 ∷ 48 ∷ 32 ∷ 48 ∷ 10 ∷ [])
+    ∷ (bytes-of (one-station 1 1 1 1 ++ (0 ∷ [])), 84 ∷ 32 ∷ 48 ∷ 32 ∷ 48 ∷ 32 ∷ 48 ∷ 10 ∷ 65 ∷ 32 ∷ 48 ∷ 32 ∷ 48 ∷ 32 ∷ 48 ∷ 32 ∷ 48 ∷ 10 ∷ [])
     ∷ []
 
 pub listing-holds : every (λ r. same (shift-text (r .0)) (r .1)) rows ≡ true
@@ -69,11 +72,11 @@ listing-holds = refl
 -- missing
 pub inspect-input : List ℕ
 inspect-input =
-    2 ∷ 1 ∷ 1 ∷ 2 ∷ 2 ∷ 2 ∷ 1 ∷ 3 ∷ 1 ∷ 1 ∷ 1 ∷ 2 ∷ 3 ∷ 10 ∷ 1
-    ∷ 3 ∷ 1 ∷ 7 ∷ 1 ∷ 100 ∷ 1 ∷ 102 ∷ 0 ∷ 0 ∷ 2 ∷ 1 ∷ 12
+    bytes-of net-numbers
+    ++ (3 ∷ 1 ∷ 7 ∷ 1 ∷ 100 ∷ 1 ∷ 102 ∷ 0 ∷ 0 ∷ 2 ∷ 1 ∷ 12
     ∷ 2 ∷ 7 ∷ 1 ∷ 130 ∷ 1 ∷ 0 ∷ 130 ∷ 1 ∷ 0 ∷ 1 ∷ 1 ∷ 0
     ∷ 2 ∷ 8 ∷ 1 ∷ 128 ∷ 1 ∷ 0 ∷ 131 ∷ 1 ∷ 0 ∷ 0 ∷ 0
-    ∷ 1 ∷ 1 ∷ 1 ∷ 5 ∷ 2 ∷ 7 ∷ 9 ∷ []
+    ∷ 1 ∷ 1 ∷ 1 ∷ 5 ∷ 2 ∷ 7 ∷ 9 ∷ [])
 
 -- in ASCII. The first arrival has occurred and stands; train 7 then comes to station 2 at 102 + 12, which is 16 early
 pub inspect-lines : List ℕ
@@ -103,16 +106,16 @@ unfolding inspect-input inspect-lines
 inspect-rows =
     (inspect-input, inspect-lines)
     -- an empty timetable: T 0 0 0, W 1
-    ∷ (1 ∷ 1 ∷ 1 ∷ 1 ∷ 1 ∷ 0 ∷ 0 ∷ 0 ∷ [], 84 ∷ 32 ∷ 48 ∷ 32 ∷ 48 ∷ 32 ∷ 48 ∷ 10 ∷ 87 ∷ 32 ∷ 49 ∷ 10 ∷ [])
+    ∷ (bytes-of (one-station 1 1 1 1 ++ (0 ∷ 0 ∷ [])), 84 ∷ 32 ∷ 48 ∷ 32 ∷ 48 ∷ 32 ∷ 48 ∷ 10 ∷ 87 ∷ 32 ∷ 49 ∷ 10 ∷ [])
     -- an empty file: R 1 0
     ∷ ([], 82 ∷ 32 ∷ 49 ∷ 32 ∷ 48 ∷ 10 ∷ [])
     -- a byte too many: R 1 8
-    ∷ (1 ∷ 1 ∷ 1 ∷ 1 ∷ 1 ∷ 0 ∷ 0 ∷ 0 ∷ 0 ∷ [], 82 ∷ 32 ∷ 49 ∷ 32 ∷ 56 ∷ 10 ∷ [])
+    ∷ (bytes-of (one-station 1 1 1 1 ++ (0 ∷ 0 ∷ 0 ∷ [])), line 82 (1 ∷ (size (one-station 1 1 1 1) + 2) ∷ []))
     -- a line that ends where it starts: R 4 9; a faulty number of the timetable behind it comes first: R 3 16
-    ∷ (2 ∷ 1 ∷ 1 ∷ 2 ∷ 2 ∷ 2 ∷ 1 ∷ 3 ∷ 1 ∷ 1 ∷ 1 ∷ 1 ∷ 3 ∷ 10 ∷ 1 ∷ 0 ∷ 0 ∷ [], 82 ∷ 32 ∷ 52 ∷ 32 ∷ 57 ∷ 10 ∷ [])
-    ∷ (2 ∷ 1 ∷ 1 ∷ 2 ∷ 2 ∷ 2 ∷ 1 ∷ 3 ∷ 1 ∷ 1 ∷ 1 ∷ 1 ∷ 3 ∷ 10 ∷ 1 ∷ 0 ∷ 97 ∷ [], 82 ∷ 32 ∷ 51 ∷ 32 ∷ 49 ∷ 54 ∷ 10 ∷ [])
+    ∷ (bytes-of (loop-numbers ++ (0 ∷ 0 ∷ [])), line 82 (4 ∷ first-line ∷ []))
+    ∷ (bytes-of (loop-numbers ++ (0 ∷ 97 ∷ [])), line 82 (3 ∷ (size loop-numbers + 1) ∷ []))
     -- a visit on a track that its station lacks: R 7 7
-    ∷ (1 ∷ 1 ∷ 1 ∷ 1 ∷ 1 ∷ 0 ∷ 1 ∷ 1 ∷ 7 ∷ 2 ∷ 0 ∷ 0 ∷ 0 ∷ 0 ∷ 0 ∷ 0 ∷ 0 ∷ [], 82 ∷ 32 ∷ 55 ∷ 32 ∷ 55 ∷ 10 ∷ [])
+    ∷ (bytes-of (one-station 1 1 1 1 ++ (1 ∷ 1 ∷ 7 ∷ 2 ∷ 0 ∷ 0 ∷ 0 ∷ 0 ∷ 0 ∷ 0 ∷ 0 ∷ [])), line 82 (7 ∷ (size (one-station 1 1 1 1) + 1) ∷ []))
     -- as many bytes as may be, and one more: R 3 0, R 5 0
     ∷ (replicate 16384 0, 82 ∷ 32 ∷ 51 ∷ 32 ∷ 48 ∷ 10 ∷ [])
     ∷ (replicate 16385 0, 82 ∷ 32 ∷ 53 ∷ 32 ∷ 48 ∷ 10 ∷ [])

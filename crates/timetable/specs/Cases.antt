@@ -30,6 +30,7 @@ use Rattle.timetable.specs.EditsFile as EditsFile
 use Rattle.timetable.specs.EditsFile.{Shift, edit-numbers, edits-numbers, read-edits, read-shift}
 use Rattle.timetable.specs.TimetableFile as TimetableFile
 use Rattle.timetable.specs.TimetableFile.{read-timetable, timetable-numbers}
+use Rattle.timetable.specs.Pieces as Pieces
 use Rattle.timetable.specs.Visits as Visits
 use Rattle.timetable.specs.Tables as Tables
 use Rattle.timetable.specs.Tables.{Entry, Table}
@@ -183,20 +184,6 @@ run-of es = run (after net) es nothing-placed
 unfoldable pub listed-edits : List Edit
 listed-edits = place 1 7 1 100 102 ∷ append (plan 2 7 1 115 115) 1 1 12 ∷ place 1 7 1 100 102 ∷ relate (Connection 5 (two 7 9)) ∷ []
 
--- the numbers of the listing's network: 15 bytes
-unfoldable pub net-numbers : List ℕ
-net-numbers = 2 ∷ 1 ∷ 1 ∷ 2 ∷ 2 ∷ 2 ∷ 1 ∷ 3 ∷ 1 ∷ 1 ∷ 1 ∷ 2 ∷ 3 ∷ 10 ∷ 1 ∷ []
-
--- visits of a timetable file at station 1, of k trains from the given number on: each 10 bytes
-unfoldable pub crowd-visits : ℕ → ℕ → List ℕ
-crowd-visits from zero = []
-crowd-visits from (suc k) = 1 ∷ from ∷ 1 ∷ 100 ∷ 0 ∷ 102 ∷ 0 ∷ 0 ∷ 0 ∷ crowd-visits (suc from) k
-
--- connections of a timetable file at station 1: each 6 bytes
-unfoldable pub connected : ℕ → ℕ → List ℕ
-connected from zero = []
-connected from (suc k) = 1 ∷ 1 ∷ from ∷ 2 ∷ 7 ∷ 8 ∷ connected (suc from) k
-
 -- cases
 
 pub data Case : Type 0 where
@@ -302,8 +289,8 @@ failing k (c ∷ cs) = if passes c then failing (suc k) cs else k ∷ failing (s
 unfoldable pub opened : Unit {0}
 unfolding st tr ln at plan place prepend append delete-first delete-last arrives departs relate unrelate delete-train four two pair station line
     with-capacity net branch leaving inbound crowd connections visiting by to tabled standing bare counted told run-of listed-edits
-    net-numbers crowd-visits connected outcome-numbers placed-edits shift-numbers reads-as reads-refused lists answer-numbers signed row-numbers each-before passes failing
+    outcome-numbers placed-edits shift-numbers reads-as reads-refused lists answer-numbers signed row-numbers each-before passes failing
     Lists.opened Runs.opened Numbers.opened Relations.opened Edits.opened Networks.opened
-    Formats.opened NetworkFile.opened EditsFile.opened TimetableFile.opened
+    Formats.opened NetworkFile.opened EditsFile.opened TimetableFile.opened Pieces.opened
     Visits.opened Tables.opened Machine.opened Groups.opened Good.opened Rules.opened Findings.opened Projection.opened Count.opened Listing.opened
 opened = tt

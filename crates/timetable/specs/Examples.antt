@@ -1,5 +1,6 @@
 -- The examples' table: (a) to (k) of document 01 and the listing of `shift`, then the edges that they leave open, as
 -- rows of one table with one computed test. Where a row fails, the error shows its place. Assumes nothing.
+use Prim.Native.Nat.{_+_}
 use mathlib.Core.Path.{_≡_, refl}
 use mathlib.Core.Bool.{true, false}
 use mathlib.Core.List.{List, [], _∷_, _++_}
@@ -8,12 +9,14 @@ use Rattle.timetable.specs.Findings.{finding}
 use Rattle.timetable.specs.Machine.{nothing-placed}
 use Rattle.timetable.specs.Formats.{bytes-of}
 use Rattle.timetable.specs.NetworkFile.{network-with as network}
+use Rattle.timetable.specs.Pieces.{cut, size, station-row, line-row, up-to-lines, network-row, one-station, headway-place, joined-by, first-line, second-line}
+use Rattle.timetable.specs.Pieces.{net-numbers, loop-numbers, listed-numbers, each-kind, crowd-visits, connected}
 use Rattle.timetable.specs.Cases as Cases
 use Rattle.timetable.specs.Cases.{st, plan, place, prepend, append, delete-first, delete-last, arrives, departs, relate, unrelate, delete-train}
 use Rattle.timetable.specs.Cases.{four, two, pair, station, line, with-capacity, net, branch, leaving, inbound, crowd, connections}
 use Rattle.timetable.specs.Cases.{visiting, by, to, tabled, standing, bare, counted, told}
 use Rattle.timetable.specs.Cases.{Case, bytes, unread, found, stands, related, answered, answered-on, ordered, network-is, naming, table-is}
-use Rattle.timetable.specs.Cases.{network-file, edits-file, shift-file, timetable-file, net-numbers, crowd-visits, connected}
+use Rattle.timetable.specs.Cases.{network-file, edits-file, shift-file, timetable-file}
 use Rattle.timetable.specs.Cases.{area-has, pair-has, projected, tallied, printed, failing, run-of, listed-edits}
 
 -- document 01, "Examples on the edges" and "A run of the program `shift`"
@@ -322,13 +325,13 @@ others =
 pub files : List Case
 files =
     -- networks: read, empty, goes on, ends early, ends within a number
-    network-file (bytes-of net-numbers) (0 ∷ 15 ∷ net-numbers)
-    ∷ network-file (bytes-of (1 ∷ 16 ∷ 6 ∷ 8 ∷ 30 ∷ 0 ∷ [])) (0 ∷ 6 ∷ 1 ∷ 16 ∷ 6 ∷ 8 ∷ 30 ∷ 0 ∷ [])
+    network-file (bytes-of net-numbers) (0 ∷ size net-numbers ∷ net-numbers)
+    ∷ network-file (bytes-of (one-station 16 6 8 30)) (0 ∷ size (one-station 16 6 8 30) ∷ one-station 16 6 8 30)
     ∷ network-file [] (1 ∷ 0 ∷ [])
-    ∷ network-file (bytes-of (2 ∷ 1 ∷ 1 ∷ 2 ∷ 2 ∷ 2 ∷ 1 ∷ 3 ∷ 1 ∷ 1 ∷ 1 ∷ 2 ∷ 3 ∷ 10 ∷ 1 ∷ 0 ∷ [])) (1 ∷ 15 ∷ [])
-    ∷ network-file (bytes-of (2 ∷ 1 ∷ 1 ∷ 2 ∷ 2 ∷ 2 ∷ 1 ∷ 3 ∷ 1 ∷ 1 ∷ 1 ∷ 2 ∷ 3 ∷ 10 ∷ 1 ∷ 0 ∷ 0 ∷ [])) (1 ∷ 15 ∷ [])
-    ∷ network-file (bytes-of (2 ∷ 1 ∷ 1 ∷ 2 ∷ 2 ∷ 2 ∷ 1 ∷ 3 ∷ 1 ∷ 1 ∷ 1 ∷ 2 ∷ 3 ∷ 10 ∷ [])) (1 ∷ 14 ∷ [])
-    ∷ network-file (2 ∷ 1 ∷ 1 ∷ 2 ∷ 2 ∷ 2 ∷ 1 ∷ 3 ∷ 1 ∷ 1 ∷ 1 ∷ 2 ∷ 3 ∷ 10 ∷ 129 ∷ []) (1 ∷ 15 ∷ [])
+    ∷ network-file (bytes-of (net-numbers ++ (0 ∷ []))) (1 ∷ size net-numbers ∷ [])
+    ∷ network-file (bytes-of (net-numbers ++ (0 ∷ 0 ∷ []))) (1 ∷ size net-numbers ∷ [])
+    ∷ network-file (bytes-of (cut net-numbers)) (1 ∷ size (cut net-numbers) ∷ [])
+    ∷ network-file (bytes-of (cut net-numbers) ++ (129 ∷ [])) (1 ∷ size net-numbers ∷ [])
     -- a number that is not shortest, one of four bytes, one whose third byte has the top bit set and that ends there
     ∷ network-file (2 ∷ 1 ∷ 129 ∷ 0 ∷ 2 ∷ 2 ∷ 2 ∷ 1 ∷ 3 ∷ 1 ∷ 1 ∷ 1 ∷ 2 ∷ 3 ∷ 10 ∷ 1 ∷ []) (2 ∷ 2 ∷ [])
     ∷ network-file (128 ∷ 128 ∷ 128 ∷ 1 ∷ []) (2 ∷ 0 ∷ [])
@@ -336,36 +339,36 @@ files =
     -- ranges, the value above its range written as it should be; the first faulty number decides
     ∷ network-file (bytes-of (0 ∷ [])) (3 ∷ 0 ∷ [])
     ∷ network-file (bytes-of (17 ∷ [])) (3 ∷ 0 ∷ [])
-    ∷ network-file (bytes-of (1 ∷ 17 ∷ 1 ∷ 1 ∷ 3 ∷ 0 ∷ [])) (3 ∷ 1 ∷ [])
-    ∷ network-file (bytes-of (1 ∷ 0 ∷ 1 ∷ 1 ∷ 3 ∷ 0 ∷ [])) (3 ∷ 1 ∷ [])
-    ∷ network-file (bytes-of (1 ∷ 1 ∷ 7 ∷ 1 ∷ 3 ∷ 0 ∷ [])) (3 ∷ 2 ∷ [])
-    ∷ network-file (bytes-of (1 ∷ 1 ∷ 1 ∷ 9 ∷ 3 ∷ 0 ∷ [])) (3 ∷ 3 ∷ [])
-    ∷ network-file (bytes-of (1 ∷ 1 ∷ 1 ∷ 8 ∷ 31 ∷ 0 ∷ [])) (3 ∷ 4 ∷ [])
-    ∷ network-file (bytes-of (1 ∷ 1 ∷ 1 ∷ 8 ∷ 0 ∷ 0 ∷ [])) (3 ∷ 4 ∷ [])
-    ∷ network-file (bytes-of (1 ∷ 1 ∷ 1 ∷ 8 ∷ 3 ∷ 33 ∷ [])) (3 ∷ 5 ∷ [])
-    ∷ network-file (bytes-of (1 ∷ 300 ∷ 0 ∷ 8 ∷ 3 ∷ 33 ∷ [])) (3 ∷ 1 ∷ [])
-    ∷ network-file (bytes-of (1 ∷ 1 ∷ 300 ∷ 8 ∷ 3 ∷ 33 ∷ [])) (3 ∷ 2 ∷ [])
-    ∷ network-file (bytes-of (2 ∷ 1 ∷ 1 ∷ 2 ∷ 2 ∷ 2 ∷ 1 ∷ 3 ∷ 1 ∷ 1 ∷ 1 ∷ 2 ∷ 4 ∷ 10 ∷ 1 ∷ [])) (3 ∷ 12 ∷ [])
-    ∷ network-file (bytes-of (2 ∷ 1 ∷ 1 ∷ 2 ∷ 2 ∷ 2 ∷ 1 ∷ 3 ∷ 1 ∷ 1 ∷ 1 ∷ 2 ∷ 3 ∷ 241 ∷ 1 ∷ [])) (3 ∷ 13 ∷ [])
-    ∷ network-file (bytes-of (2 ∷ 1 ∷ 1 ∷ 2 ∷ 2 ∷ 2 ∷ 1 ∷ 3 ∷ 1 ∷ 1 ∷ 1 ∷ 2 ∷ 3 ∷ 240 ∷ 10 ∷ [])) (3 ∷ 15 ∷ [])
-    ∷ network-file (bytes-of (2 ∷ 1 ∷ 1 ∷ 2 ∷ 2 ∷ 2 ∷ 1 ∷ 3 ∷ 1 ∷ 1 ∷ 17 ∷ 2 ∷ 3 ∷ 10 ∷ 1 ∷ [])) (3 ∷ 10 ∷ [])
+    ∷ network-file (bytes-of (one-station 17 1 1 3)) (3 ∷ 1 ∷ [])
+    ∷ network-file (bytes-of (one-station 0 1 1 3)) (3 ∷ 1 ∷ [])
+    ∷ network-file (bytes-of (one-station 1 7 1 3)) (3 ∷ 2 ∷ [])
+    ∷ network-file (bytes-of (one-station 1 1 9 3)) (3 ∷ 3 ∷ [])
+    ∷ network-file (bytes-of (one-station 1 1 8 31)) (3 ∷ headway-place ∷ [])
+    ∷ network-file (bytes-of (one-station 1 1 8 0)) (3 ∷ headway-place ∷ [])
+    ∷ network-file (bytes-of (up-to-lines (station-row 1 1 8 ∷ []) 3 33)) (3 ∷ (headway-place + 1) ∷ [])
+    ∷ network-file (bytes-of (up-to-lines (station-row 300 0 8 ∷ []) 3 33)) (3 ∷ 1 ∷ [])
+    ∷ network-file (bytes-of (up-to-lines (station-row 1 300 8 ∷ []) 3 33)) (3 ∷ 2 ∷ [])
+    ∷ network-file (bytes-of (joined-by (line-row 1 1 2 4 10 1 ∷ []))) (3 ∷ (first-line + 3) ∷ [])
+    ∷ network-file (bytes-of (joined-by (line-row 1 1 2 3 241 1 ∷ []))) (3 ∷ (first-line + 4) ∷ [])
+    ∷ network-file (bytes-of (joined-by (line-row 1 1 2 3 240 10 ∷ []))) (3 ∷ (first-line + 6) ∷ [])
+    ∷ network-file (bytes-of (joined-by (line-row 1 17 2 3 10 1 ∷ []))) (3 ∷ (first-line + 1) ∷ [])
     -- stations in falling order, equal ones; lines likewise
-    ∷ network-file (bytes-of (2 ∷ 2 ∷ 1 ∷ 2 ∷ 1 ∷ 2 ∷ 1 ∷ 3 ∷ 1 ∷ 1 ∷ 1 ∷ 2 ∷ 3 ∷ 10 ∷ 1 ∷ [])) (3 ∷ 4 ∷ [])
-    ∷ network-file (bytes-of (2 ∷ 1 ∷ 1 ∷ 2 ∷ 1 ∷ 2 ∷ 1 ∷ 3 ∷ 1 ∷ 1 ∷ 1 ∷ 2 ∷ 3 ∷ 10 ∷ 1 ∷ [])) (3 ∷ 4 ∷ [])
-    ∷ network-file (bytes-of (2 ∷ 1 ∷ 1 ∷ 2 ∷ 2 ∷ 2 ∷ 1 ∷ 3 ∷ 2 ∷ 2 ∷ 1 ∷ 2 ∷ 3 ∷ 10 ∷ 1 ∷ 1 ∷ 1 ∷ 2 ∷ 3 ∷ 10 ∷ 1 ∷ [])) (3 ∷ 15 ∷ [])
-    ∷ network-file (bytes-of (2 ∷ 1 ∷ 1 ∷ 2 ∷ 2 ∷ 2 ∷ 1 ∷ 3 ∷ 2 ∷ 2 ∷ 1 ∷ 2 ∷ 3 ∷ 10 ∷ 1 ∷ 2 ∷ 1 ∷ 2 ∷ 3 ∷ 10 ∷ 1 ∷ [])) (3 ∷ 15 ∷ [])
-    ∷ network-file (bytes-of (2 ∷ 1 ∷ 1 ∷ 2 ∷ 2 ∷ 2 ∷ 1 ∷ 3 ∷ 2 ∷ 2 ∷ 1 ∷ 2 ∷ 3 ∷ 10 ∷ 1 ∷ 3 ∷ 1 ∷ 2 ∷ 3 ∷ 10 ∷ 1 ∷ [])) (0 ∷ 21 ∷ 2 ∷ 1 ∷ 1 ∷ 2 ∷ 2 ∷ 2 ∷ 1 ∷ 3 ∷ 2 ∷ 2 ∷ 1 ∷ 2 ∷ 3 ∷ 10 ∷ 1 ∷ 3 ∷ 1 ∷ 2 ∷ 3 ∷ 10 ∷ 1 ∷ [])
+    ∷ network-file (bytes-of (network-row (station-row 2 1 2 ∷ station-row 1 2 1 ∷ []) 3 (line-row 1 1 2 3 10 1 ∷ []))) (3 ∷ 4 ∷ [])
+    ∷ network-file (bytes-of (network-row (station-row 1 1 2 ∷ station-row 1 2 1 ∷ []) 3 (line-row 1 1 2 3 10 1 ∷ []))) (3 ∷ 4 ∷ [])
+    ∷ network-file (bytes-of (joined-by (line-row 2 1 2 3 10 1 ∷ line-row 1 1 2 3 10 1 ∷ []))) (3 ∷ second-line ∷ [])
+    ∷ network-file (bytes-of (joined-by (line-row 2 1 2 3 10 1 ∷ line-row 2 1 2 3 10 1 ∷ []))) (3 ∷ second-line ∷ [])
+    ∷ network-file (bytes-of (joined-by (line-row 2 1 2 3 10 1 ∷ line-row 3 1 2 3 10 1 ∷ []))) (0 ∷ size (joined-by (line-row 2 1 2 3 10 1 ∷ line-row 3 1 2 3 10 1 ∷ [])) ∷ joined-by (line-row 2 1 2 3 10 1 ∷ line-row 3 1 2 3 10 1 ∷ []))
     -- equal ends, ends not listed: at the line's first byte, but a faulty number or a byte too many behind it comes
     -- first
-    ∷ network-file (bytes-of (2 ∷ 1 ∷ 1 ∷ 2 ∷ 2 ∷ 2 ∷ 1 ∷ 3 ∷ 1 ∷ 1 ∷ 1 ∷ 1 ∷ 3 ∷ 10 ∷ 1 ∷ [])) (4 ∷ 9 ∷ [])
-    ∷ network-file (bytes-of (2 ∷ 1 ∷ 1 ∷ 2 ∷ 2 ∷ 2 ∷ 1 ∷ 3 ∷ 1 ∷ 1 ∷ 1 ∷ 3 ∷ 3 ∷ 10 ∷ 1 ∷ [])) (4 ∷ 9 ∷ [])
-    ∷ network-file (bytes-of (2 ∷ 1 ∷ 1 ∷ 2 ∷ 2 ∷ 2 ∷ 1 ∷ 3 ∷ 1 ∷ 1 ∷ 3 ∷ 1 ∷ 3 ∷ 10 ∷ 1 ∷ [])) (4 ∷ 9 ∷ [])
-    ∷ network-file (bytes-of (2 ∷ 1 ∷ 1 ∷ 2 ∷ 2 ∷ 2 ∷ 1 ∷ 3 ∷ 2 ∷ 1 ∷ 1 ∷ 2 ∷ 3 ∷ 10 ∷ 1 ∷ 2 ∷ 3 ∷ 1 ∷ 3 ∷ 10 ∷ 1 ∷ [])) (4 ∷ 15 ∷ [])
-    ∷ network-file (bytes-of (2 ∷ 1 ∷ 1 ∷ 2 ∷ 2 ∷ 2 ∷ 1 ∷ 3 ∷ 2 ∷ 1 ∷ 1 ∷ 1 ∷ 3 ∷ 10 ∷ 1 ∷ 2 ∷ 3 ∷ 1 ∷ 3 ∷ 10 ∷ 1 ∷ [])) (4 ∷ 9 ∷ [])
-    ∷ network-file (bytes-of (2 ∷ 1 ∷ 1 ∷ 2 ∷ 2 ∷ 2 ∷ 1 ∷ 3 ∷ 2 ∷ 1 ∷ 1 ∷ 1 ∷ 3 ∷ 10 ∷ 1 ∷ 2 ∷ 1 ∷ 2 ∷ 3 ∷ 10 ∷ 10 ∷ [])) (3 ∷ 20 ∷ [])
-    ∷ network-file (bytes-of (2 ∷ 1 ∷ 1 ∷ 2 ∷ 2 ∷ 2 ∷ 1 ∷ 3 ∷ 1 ∷ 1 ∷ 1 ∷ 1 ∷ 3 ∷ 10 ∷ 1 ∷ 0 ∷ [])) (1 ∷ 15 ∷ [])
+    ∷ network-file (bytes-of (joined-by (line-row 1 1 1 3 10 1 ∷ []))) (4 ∷ first-line ∷ [])
+    ∷ network-file (bytes-of (joined-by (line-row 1 1 3 3 10 1 ∷ []))) (4 ∷ first-line ∷ [])
+    ∷ network-file (bytes-of (joined-by (line-row 1 3 1 3 10 1 ∷ []))) (4 ∷ first-line ∷ [])
+    ∷ network-file (bytes-of (joined-by (line-row 1 1 2 3 10 1 ∷ line-row 2 3 1 3 10 1 ∷ []))) (4 ∷ second-line ∷ [])
+    ∷ network-file (bytes-of (joined-by (line-row 1 1 1 3 10 1 ∷ line-row 2 3 1 3 10 1 ∷ []))) (4 ∷ first-line ∷ [])
+    ∷ network-file (bytes-of (joined-by (line-row 1 1 1 3 10 1 ∷ line-row 2 1 2 3 10 10 ∷ []))) (3 ∷ (second-line + 5) ∷ [])
+    ∷ network-file (bytes-of (loop-numbers ++ (0 ∷ []))) (1 ∷ size loop-numbers ∷ [])
     -- edits: one of each kind, none, too many, kinds
-    ∷ edits-file (bytes-of (13 ∷ 1 ∷ 1 ∷ 7 ∷ 1 ∷ 100 ∷ 102 ∷ 2 ∷ 1 ∷ 7 ∷ 1 ∷ 100 ∷ 102 ∷ 2 ∷ 1 ∷ 12 ∷ 3 ∷ 1 ∷ 7 ∷ 1 ∷ 100 ∷ 102 ∷ 2 ∷ 1 ∷ 12 ∷ 4 ∷ 1 ∷ 7 ∷ 2 ∷ 5 ∷ 1 ∷ 7 ∷ 2 ∷ 6 ∷ 1 ∷ 7 ∷ 1 ∷ 100 ∷ 102 ∷ 7 ∷ 1 ∷ 7 ∷ 100 ∷ 8 ∷ 1 ∷ 7 ∷ 100 ∷ 9 ∷ 1 ∷ 1 ∷ 5 ∷ 3 ∷ 7 ∷ 8 ∷ 9 ∷ 10 ∷ 1 ∷ 2 ∷ 5 ∷ 2 ∷ 7 ∷ 300 ∷ 9 ∷ 1 ∷ 3 ∷ 4 ∷ 2 ∷ 9 ∷ 7 ∷ 9 ∷ 1 ∷ 3 ∷ 4 ∷ 2 ∷ 7 ∷ 7 ∷ 11 ∷ 9999 ∷ [])) (0 ∷ 80 ∷ 1 ∷ 13 ∷ 1 ∷ 1 ∷ 7 ∷ 1 ∷ 100 ∷ 102 ∷ 2 ∷ 1 ∷ 7 ∷ 1 ∷ 100 ∷ 102 ∷ 2 ∷ 1 ∷ 12 ∷ 3 ∷ 1 ∷ 7 ∷ 1 ∷ 100 ∷ 102 ∷ 2 ∷ 1 ∷ 12 ∷ 4 ∷ 1 ∷ 7 ∷ 2 ∷ 5 ∷ 1 ∷ 7 ∷ 2 ∷ 6 ∷ 1 ∷ 7 ∷ 1 ∷ 100 ∷ 102 ∷ 7 ∷ 1 ∷ 7 ∷ 100 ∷ 8 ∷ 1 ∷ 7 ∷ 100 ∷ 9 ∷ 1 ∷ 1 ∷ 5 ∷ 3 ∷ 7 ∷ 8 ∷ 9 ∷ 10 ∷ 1 ∷ 2 ∷ 5 ∷ 2 ∷ 7 ∷ 300 ∷ 9 ∷ 1 ∷ 3 ∷ 4 ∷ 2 ∷ 9 ∷ 7 ∷ 9 ∷ 1 ∷ 3 ∷ 4 ∷ 2 ∷ 7 ∷ 7 ∷ 11 ∷ 9999 ∷ [])
+    ∷ edits-file (bytes-of each-kind) (0 ∷ size each-kind ∷ 1 ∷ each-kind)
     ∷ edits-file (bytes-of (0 ∷ [])) (0 ∷ 1 ∷ 1 ∷ 0 ∷ [])
     ∷ edits-file [] (1 ∷ 0 ∷ [])
     ∷ edits-file (bytes-of (1001 ∷ [])) (3 ∷ 0 ∷ [])
@@ -401,12 +404,12 @@ files =
     ∷ edits-file (bytes-of (1 ∷ 9 ∷ 1 ∷ 3 ∷ 5 ∷ 2 ∷ 7 ∷ 0 ∷ [])) (3 ∷ 7 ∷ [])
     ∷ edits-file (bytes-of (1 ∷ 9 ∷ 1 ∷ 1 ∷ 5 ∷ 2 ∷ 0 ∷ 7 ∷ [])) (3 ∷ 6 ∷ [])
     -- the input of `shift`: that of the listing; the first faulty number of the whole file comes before 4
-    ∷ shift-file (bytes-of (2 ∷ 1 ∷ 1 ∷ 2 ∷ 2 ∷ 2 ∷ 1 ∷ 3 ∷ 1 ∷ 1 ∷ 1 ∷ 2 ∷ 3 ∷ 10 ∷ 1 ∷ 4 ∷ 1 ∷ 1 ∷ 7 ∷ 1 ∷ 100 ∷ 102 ∷ 3 ∷ 2 ∷ 7 ∷ 1 ∷ 115 ∷ 115 ∷ 1 ∷ 1 ∷ 12 ∷ 1 ∷ 1 ∷ 7 ∷ 1 ∷ 100 ∷ 102 ∷ 9 ∷ 1 ∷ 1 ∷ 5 ∷ 2 ∷ 7 ∷ 9 ∷ [])) (0 ∷ 44 ∷ 2 ∷ 1 ∷ 1 ∷ 2 ∷ 2 ∷ 2 ∷ 1 ∷ 3 ∷ 1 ∷ 1 ∷ 1 ∷ 2 ∷ 3 ∷ 10 ∷ 1 ∷ 16 ∷ 4 ∷ 1 ∷ 1 ∷ 7 ∷ 1 ∷ 100 ∷ 102 ∷ 3 ∷ 2 ∷ 7 ∷ 1 ∷ 115 ∷ 115 ∷ 1 ∷ 1 ∷ 12 ∷ 1 ∷ 1 ∷ 7 ∷ 1 ∷ 100 ∷ 102 ∷ 9 ∷ 1 ∷ 1 ∷ 5 ∷ 2 ∷ 7 ∷ 9 ∷ [])
-    ∷ shift-file (bytes-of (2 ∷ 1 ∷ 1 ∷ 2 ∷ 2 ∷ 2 ∷ 1 ∷ 3 ∷ 1 ∷ 1 ∷ 1 ∷ 1 ∷ 3 ∷ 10 ∷ 1 ∷ 0 ∷ [])) (4 ∷ 9 ∷ [])
-    ∷ shift-file (bytes-of (2 ∷ 1 ∷ 1 ∷ 2 ∷ 2 ∷ 2 ∷ 1 ∷ 3 ∷ 1 ∷ 1 ∷ 1 ∷ 1 ∷ 3 ∷ 10 ∷ 1 ∷ 1 ∷ 12 ∷ [])) (3 ∷ 16 ∷ [])
-    ∷ shift-file (bytes-of (2 ∷ 1 ∷ 1 ∷ 2 ∷ 2 ∷ 2 ∷ 1 ∷ 3 ∷ 1 ∷ 1 ∷ 1 ∷ 1 ∷ 3 ∷ 10 ∷ 1 ∷ 0 ∷ 0 ∷ [])) (1 ∷ 16 ∷ [])
-    ∷ shift-file (bytes-of (2 ∷ 1 ∷ 1 ∷ 2 ∷ 2 ∷ 2 ∷ 1 ∷ 3 ∷ 1 ∷ 1 ∷ 1 ∷ 1 ∷ 3 ∷ 10 ∷ 1 ∷ [])) (1 ∷ 15 ∷ [])
-    ∷ shift-file (bytes-of (2 ∷ 1 ∷ 1 ∷ 2 ∷ 2 ∷ 2 ∷ 1 ∷ 3 ∷ 1 ∷ 1 ∷ 1 ∷ 2 ∷ 3 ∷ 10 ∷ 1 ∷ 1 ∷ 1 ∷ 7 ∷ [])) (1 ∷ 18 ∷ [])
+    ∷ shift-file (bytes-of (net-numbers ++ listed-numbers)) (0 ∷ size (net-numbers ++ listed-numbers) ∷ (net-numbers ++ ((size net-numbers + 1) ∷ listed-numbers)))
+    ∷ shift-file (bytes-of (loop-numbers ++ (0 ∷ []))) (4 ∷ first-line ∷ [])
+    ∷ shift-file (bytes-of (loop-numbers ++ (1 ∷ 12 ∷ []))) (3 ∷ (size loop-numbers + 1) ∷ [])
+    ∷ shift-file (bytes-of (loop-numbers ++ (0 ∷ 0 ∷ []))) (1 ∷ (size loop-numbers + 1) ∷ [])
+    ∷ shift-file (bytes-of (loop-numbers)) (1 ∷ size loop-numbers ∷ [])
+    ∷ shift-file (bytes-of (net-numbers ++ (1 ∷ 1 ∷ 7 ∷ []))) (1 ∷ (size net-numbers + 3) ∷ [])
     ∷ shift-file [] (1 ∷ 0 ∷ [])
     -- timetables: visits with their links and statuses, and relations; none
     ∷ timetable-file net (bytes-of (3 ∷ 1 ∷ 7 ∷ 1 ∷ 100 ∷ 1 ∷ 102 ∷ 0 ∷ 0 ∷ 2 ∷ 1 ∷ 12 ∷ 1 ∷ 8 ∷ 2 ∷ 100 ∷ 0 ∷ 102 ∷ 0 ∷ 0 ∷ 0 ∷ 2 ∷ 7 ∷ 1 ∷ 115 ∷ 0 ∷ 115 ∷ 0 ∷ 1 ∷ 1 ∷ 0 ∷ 3 ∷ 1 ∷ 1 ∷ 5 ∷ 2 ∷ 7 ∷ 9 ∷ 1 ∷ 1 ∷ 5 ∷ 3 ∷ 7 ∷ 8 ∷ 9 ∷ 2 ∷ 3 ∷ 0 ∷ 2 ∷ 7 ∷ 7 ∷ [])) (0 ∷ 51 ∷ 3 ∷ 1 ∷ 7 ∷ 1 ∷ 100 ∷ 1 ∷ 102 ∷ 0 ∷ 0 ∷ 2 ∷ 1 ∷ 12 ∷ 1 ∷ 8 ∷ 2 ∷ 100 ∷ 0 ∷ 102 ∷ 0 ∷ 0 ∷ 0 ∷ 2 ∷ 7 ∷ 1 ∷ 115 ∷ 0 ∷ 115 ∷ 0 ∷ 1 ∷ 1 ∷ 0 ∷ 3 ∷ 1 ∷ 1 ∷ 5 ∷ 2 ∷ 7 ∷ 9 ∷ 1 ∷ 1 ∷ 5 ∷ 3 ∷ 7 ∷ 8 ∷ 9 ∷ 2 ∷ 3 ∷ 0 ∷ 2 ∷ 7 ∷ 7 ∷ [])

@@ -16,5 +16,6 @@ pub mod Findings
 pub mod Projection
 pub mod Count
 pub mod Listing
+pub mod Pieces
 pub mod Cases
 pub mod Examples

@@ -1,0 +1,123 @@
+-- The numbers of files, piece by piece, to write cases with. They are listed here a second time, beside the formats
+-- that are tried; a field more in a row, or a part more of a network, moves its piece and no case. Assumes nothing.
+use Prim.Native.Nat.{ℕ, zero, suc, _+_, _-_}
+use mathlib.Core.List.{List, [], _∷_, _++_, flatMap}
+use lib.ListN.{length, take}
+use Rattle.timetable.specs.Formats.{bytes-of}
+
+-- rows in a row, all but the last number, and how many bytes numbers take
+unfoldable pub all : List (List ℕ) → List ℕ
+all rows = flatMap (λ r. r) rows
+
+unfoldable pub cut : List ℕ → List ℕ
+cut ns = take (length ns - 1) ns
+
+unfoldable pub size : List ℕ → ℕ
+size ns = length (bytes-of ns)
+
+-- networks
+
+-- number, area, count of tracks
+unfoldable pub station-row : ℕ → ℕ → ℕ → List ℕ
+station-row s a k = s ∷ a ∷ k ∷ []
+
+-- number, first station, second station, kind, least running time, capacity
+unfoldable pub line-row : ℕ → ℕ → ℕ → ℕ → ℕ → ℕ → List ℕ
+line-row l a b k r c = l ∷ a ∷ b ∷ k ∷ r ∷ c ∷ []
+
+-- station count, stations, headway, line count
+unfoldable pub up-to-lines : List (List ℕ) → ℕ → ℕ → List ℕ
+up-to-lines ss h m = length ss ∷ (all ss ++ (h ∷ m ∷ []))
+
+-- a network file
+unfoldable pub network-row : List (List ℕ) → ℕ → List (List ℕ) → List ℕ
+network-row ss h ls = up-to-lines ss h (length ls) ++ all ls
+
+-- one station, with a headway and no lines; the place of that headway, and of the count behind it
+unfoldable pub one-station : ℕ → ℕ → ℕ → ℕ → List ℕ
+one-station s a k h = network-row (station-row s a k ∷ []) h []
+
+unfoldable pub headway-place : ℕ
+headway-place = size (up-to-lines (station-row 1 1 8 ∷ []) 3 0) - 2
+
+-- the stations and the headway of the listing with some lines; the places of the first line, of the second, of the end
+unfoldable pub two-stations : List (List ℕ)
+two-stations = station-row 1 1 2 ∷ station-row 2 2 1 ∷ []
+
+unfoldable pub joined-by : List (List ℕ) → List ℕ
+joined-by ls = network-row two-stations 3 ls
+
+unfoldable pub first-line : ℕ
+first-line = size (up-to-lines two-stations 3 1)
+
+unfoldable pub second-line : ℕ
+second-line = first-line + size (line-row 1 1 2 3 10 1)
+
+-- the network of the listing: `2, 1 1 2, 2 2 1, 3, 1, 1 1 2 3 10 1`; the same with a line that ends where it starts
+unfoldable pub net-numbers : List ℕ
+net-numbers = joined-by (line-row 1 1 2 3 10 1 ∷ [])
+
+unfoldable pub loop-numbers : List ℕ
+loop-numbers = joined-by (line-row 1 1 1 3 10 1 ∷ [])
+
+-- edits: the kind, then the fields
+
+-- s, t, track, arrival, departure
+unfoldable pub plan-row : ℕ → ℕ → ℕ → ℕ → ℕ → List ℕ
+plan-row s t k a d = s ∷ t ∷ k ∷ a ∷ d ∷ []
+
+-- the plan, then p, line, running time
+unfoldable pub extension-row : List ℕ → ℕ → ℕ → ℕ → List ℕ
+extension-row plan p l r = plan ++ (p ∷ l ∷ r ∷ [])
+
+-- s, t, time
+unfoldable pub report-row : ℕ → ℕ → ℕ → List ℕ
+report-row s t m = s ∷ t ∷ m ∷ []
+
+unfoldable pub edit-row : ℕ → List ℕ → List ℕ
+edit-row kind fields = kind ∷ fields
+
+-- the edits of the listing: `4, 1 1 7 1 100 102, 3 2 7 1 115 115 1 1 12, 1 1 7 1 100 102, 9 1 1 5 2 7 9`
+unfoldable pub listed-numbers : List ℕ
+listed-numbers =
+    4 ∷ all (edit-row 1 (plan-row 1 7 1 100 102)
+    ∷ edit-row 3 (extension-row (plan-row 2 7 1 115 115) 1 1 12)
+    ∷ edit-row 1 (plan-row 1 7 1 100 102)
+    ∷ edit-row 9 (1 ∷ 1 ∷ 5 ∷ 2 ∷ 7 ∷ 9 ∷ [])
+    ∷ [])
+
+-- an edit of each kind, and of each kind of relation
+unfoldable pub each-kind : List ℕ
+each-kind =
+    13 ∷ all (edit-row 1 (plan-row 1 7 1 100 102)
+    ∷ edit-row 2 (extension-row (plan-row 1 7 1 100 102) 2 1 12)
+    ∷ edit-row 3 (extension-row (plan-row 1 7 1 100 102) 2 1 12)
+    ∷ edit-row 4 (1 ∷ 7 ∷ 2 ∷ [])
+    ∷ edit-row 5 (1 ∷ 7 ∷ 2 ∷ [])
+    ∷ edit-row 6 (plan-row 1 7 1 100 102)
+    ∷ edit-row 7 (report-row 1 7 100)
+    ∷ edit-row 8 (report-row 1 7 100)
+    ∷ edit-row 9 (1 ∷ 1 ∷ 5 ∷ 3 ∷ 7 ∷ 8 ∷ 9 ∷ [])
+    ∷ edit-row 10 (1 ∷ 2 ∷ 5 ∷ 2 ∷ 7 ∷ 300 ∷ [])
+    ∷ edit-row 9 (1 ∷ 3 ∷ 4 ∷ 2 ∷ 9 ∷ 7 ∷ [])
+    ∷ edit-row 9 (1 ∷ 3 ∷ 4 ∷ 2 ∷ 7 ∷ 7 ∷ [])
+    ∷ edit-row 11 (9999 ∷ [])
+    ∷ [])
+
+-- timetables
+
+-- visits at station 1, of k trains from the given number on: each 10 bytes
+unfoldable pub crowd-visits : ℕ → ℕ → List ℕ
+crowd-visits from zero = []
+crowd-visits from (suc k) = 1 ∷ from ∷ 1 ∷ 100 ∷ 0 ∷ 102 ∷ 0 ∷ 0 ∷ 0 ∷ crowd-visits (suc from) k
+
+-- connections at station 1: each 6 bytes
+unfoldable pub connected : ℕ → ℕ → List ℕ
+connected from zero = []
+connected from (suc k) = 1 ∷ 1 ∷ from ∷ 2 ∷ 7 ∷ 8 ∷ connected (suc from) k
+
+-- The key ring of this module: `unfolding opened` opens every definition above.
+unfoldable pub opened : Unit {0}
+unfolding all cut size station-row line-row up-to-lines network-row one-station headway-place two-stations joined-by first-line second-line net-numbers loop-numbers
+    plan-row extension-row report-row edit-row listed-numbers each-kind crowd-visits connected flatMap
+opened = tt
