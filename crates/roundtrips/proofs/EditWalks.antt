@@ -7,8 +7,7 @@ use mathlib.Core.List.{List, [], _∷_}
 use native.Mathlib.Omega.{arith}
 use lib.Dec.{T}
 use lib.ListN.{getD}
-use Rattle.base.specs.Lists.{within}
-use Rattle.base.proofs.Tests.{both, parts}
+use Rattle.base.specs.Lists.{every}
 use Rattle.numbers.specs.Numbers.{width}
 use Rattle.railway.specs.Ranges.{train-ok}
 use Rattle.railway.specs.Edits.{plan-ok, extension-ok, deletion-ok, report-ok, station-relation-ok, edit-ok}
@@ -16,131 +15,34 @@ use Rattle.timetable.specs.Formats.{done, _and-then_, _to_}
 use Rattle.timetable.specs.EditsFile.{plan-ranges, plan-of, plan-numbers, extension-ranges, extension-of, extension-numbers, deletion-ranges, deletion-of, deletion-numbers}
 use Rattle.timetable.specs.EditsFile.{report-ranges, report-of, report-numbers, edit-ranges, edit-of, edit-fields, edit-entry, edit-numbers}
 use Rattle.timetable.specs.EditsFile.{station-relation-entry, station-relation-numbers}
-use Rattle.roundtrips.specs.Types.{StationRelation, Plan, Extension, Deletion, Report, Cancellation, Edit, Place, Prepend, Append, DeleteFirst, DeleteLast, Amend}
+use Rattle.roundtrips.specs.Types.{StationRelation, Cancellation, Edit, Place, Prepend, Append, DeleteFirst, DeleteLast, Amend}
 use Rattle.roundtrips.specs.Types.{ReportArrival, ReportDeparture, AddRelation, RemoveRelation, DeleteTrain}
 use Rattle.roundtrips.proofs.Walks.{InRange, walks}
 use Rattle.roundtrips.proofs.WalkLaws.{walks-made, made-walks}
-use Rattle.roundtrips.proofs.RowsWalked.{Over, over-none, in-test, test-in, most-test, test-most, RowIn, by-index, row-exact, row-at, Fields, walks-fields, fields-walk}
+use Rattle.roundtrips.proofs.RowsWalked.{Over, over-none, by-index, row-test, Fields, tested-fields, and-assoc, and-true, nought-least, walks-fields, fields-walk}
 use Rattle.roundtrips.proofs.RelationWalks.{walks-station-relation, station-relation-walks}
 
 -- fields in a row
 
 pub plan-fields : Fields plan-ranges plan-of plan-numbers plan-ok
-unfolding RowIn by-index plan-ranges plan-of plan-numbers plan-ok
-plan-fields = record { written = row-exact plan-ranges; good = good; back = λ a. refl; within = fits }
-  where
-    good : (ns : List ℕ) → RowIn plan-ranges ns → T (plan-ok (plan-of ns))
-    good ns i =
-        let t₁ = in-test 1 16 (getD ns 0 0) (row-at plan-ranges ns i 0 (omega arith)) in
-        let t₂ = in-test 1 9999 (getD ns 1 0) (row-at plan-ranges ns i 1 (omega arith)) in
-        let t₃ = in-test 1 8 (getD ns 2 0) (row-at plan-ranges ns i 2 (omega arith)) in
-        let t₄ = most-test 2879 (getD ns 3 0) (row-at plan-ranges ns i 3 (omega arith)) in
-        let t₅ = most-test 2879 (getD ns 4 0) (row-at plan-ranges ns i 4 (omega arith)) in
-        search both
-
-    fits : (x : Plan) → T (plan-ok x) → RowIn plan-ranges (plan-numbers x)
-    fits x t = (
-      test-in 1 16 (x .station .0) (omega arith) (search parts),
-      (
-        test-in 1 9999 (x .train .0) (omega arith) (search parts),
-        (
-          test-in 1 8 (x .track .0) (omega arith) (search parts),
-          (
-            test-most 2879 (x .arrival .0) (omega arith) (search parts),
-            (test-most 2879 (x .departure .0) (omega arith) (search parts), tt),
-          ),
-        ),
-      ),
-    )
+unfolding row-test by-index every plan-ranges plan-of plan-numbers plan-ok
+plan-fields = tested-fields plan-ranges plan-of plan-numbers plan-ok tt (λ ns. refl) (λ x. refl) (λ x. simp (and-assoc, and-true, nought-least))
 
 pub extension-fields : Fields extension-ranges extension-of extension-numbers extension-ok
-unfolding RowIn by-index extension-ranges extension-of extension-numbers extension-ok plan-ranges plan-of plan-numbers plan-ok
-extension-fields = record { written = row-exact extension-ranges; good = good; back = λ a. refl; within = fits }
-  where
-    good : (ns : List ℕ) → RowIn extension-ranges ns → T (extension-ok (extension-of ns))
-    good ns i =
-        let t₁ = in-test 1 16 (getD ns 0 0) (row-at extension-ranges ns i 0 (omega arith)) in
-        let t₂ = in-test 1 9999 (getD ns 1 0) (row-at extension-ranges ns i 1 (omega arith)) in
-        let t₃ = in-test 1 8 (getD ns 2 0) (row-at extension-ranges ns i 2 (omega arith)) in
-        let t₄ = most-test 2879 (getD ns 3 0) (row-at extension-ranges ns i 3 (omega arith)) in
-        let t₅ = most-test 2879 (getD ns 4 0) (row-at extension-ranges ns i 4 (omega arith)) in
-        let t₆ = in-test 1 16 (getD ns 5 0) (row-at extension-ranges ns i 5 (omega arith)) in
-        let t₇ = in-test 1 32 (getD ns 6 0) (row-at extension-ranges ns i 6 (omega arith)) in
-        let t₈ = in-test 1 240 (getD ns 7 0) (row-at extension-ranges ns i 7 (omega arith)) in
-        search both
-
-    fits : (x : Extension) → T (extension-ok x) → RowIn extension-ranges (extension-numbers x)
-    fits x t = (
-      test-in 1 16 (x .plan .station .0) (omega arith) (search parts),
-      (
-        test-in 1 9999 (x .plan .train .0) (omega arith) (search parts),
-        (
-          test-in 1 8 (x .plan .track .0) (omega arith) (search parts),
-          (
-            test-most 2879 (x .plan .arrival .0) (omega arith) (search parts),
-            (
-              test-most 2879 (x .plan .departure .0) (omega arith) (search parts),
-              (
-                test-in 1 16 (x .other .0) (omega arith) (search parts),
-                (
-                  test-in 1 32 (x .line .0) (omega arith) (search parts),
-                  (test-in 1 240 (x .run) (omega arith) (search parts), tt),
-                ),
-              ),
-            ),
-          ),
-        ),
-      ),
-    )
+unfolding row-test by-index every extension-ranges extension-of extension-numbers extension-ok plan-ranges plan-of plan-numbers plan-ok
+extension-fields = tested-fields extension-ranges extension-of extension-numbers extension-ok tt (λ ns. refl) (λ x. refl) (λ x. simp (and-assoc, and-true, nought-least))
 
 pub deletion-fields : Fields deletion-ranges deletion-of deletion-numbers deletion-ok
-unfolding RowIn by-index deletion-ranges deletion-of deletion-numbers deletion-ok
-deletion-fields = record { written = row-exact deletion-ranges; good = good; back = λ a. refl; within = fits }
-  where
-    good : (ns : List ℕ) → RowIn deletion-ranges ns → T (deletion-ok (deletion-of ns))
-    good ns i =
-        let t₁ = in-test 1 16 (getD ns 0 0) (row-at deletion-ranges ns i 0 (omega arith)) in
-        let t₂ = in-test 1 9999 (getD ns 1 0) (row-at deletion-ranges ns i 1 (omega arith)) in
-        let t₃ = in-test 1 16 (getD ns 2 0) (row-at deletion-ranges ns i 2 (omega arith)) in
-        search both
-
-    fits : (x : Deletion) → T (deletion-ok x) → RowIn deletion-ranges (deletion-numbers x)
-    fits x t = (
-      test-in 1 16 (x .station .0) (omega arith) (search parts),
-      (
-        test-in 1 9999 (x .train .0) (omega arith) (search parts),
-        (test-in 1 16 (x .other .0) (omega arith) (search parts), tt),
-      ),
-    )
+unfolding row-test by-index every deletion-ranges deletion-of deletion-numbers deletion-ok
+deletion-fields = tested-fields deletion-ranges deletion-of deletion-numbers deletion-ok tt (λ ns. refl) (λ x. refl) (λ x. simp (and-assoc, and-true, nought-least))
 
 pub report-fields : Fields report-ranges report-of report-numbers report-ok
-unfolding RowIn by-index report-ranges report-of report-numbers report-ok
-report-fields = record { written = row-exact report-ranges; good = good; back = λ a. refl; within = fits }
-  where
-    good : (ns : List ℕ) → RowIn report-ranges ns → T (report-ok (report-of ns))
-    good ns i =
-        let t₁ = in-test 1 16 (getD ns 0 0) (row-at report-ranges ns i 0 (omega arith)) in
-        let t₂ = in-test 1 9999 (getD ns 1 0) (row-at report-ranges ns i 1 (omega arith)) in
-        let t₃ = most-test 2879 (getD ns 2 0) (row-at report-ranges ns i 2 (omega arith)) in
-        search both
-
-    fits : (x : Report) → T (report-ok x) → RowIn report-ranges (report-numbers x)
-    fits x t = (
-      test-in 1 16 (x .station .0) (omega arith) (search parts),
-      (
-        test-in 1 9999 (x .train .0) (omega arith) (search parts),
-        (test-most 2879 (x .time .0) (omega arith) (search parts), tt),
-      ),
-    )
+unfolding row-test by-index every report-ranges report-of report-numbers report-ok
+report-fields = tested-fields report-ranges report-of report-numbers report-ok tt (λ ns. refl) (λ x. refl) (λ x. simp (and-assoc, and-true, nought-least))
 
 cancellation-fields : Fields (1 to 9999 ∷ []) (λ ns. record { train = record { 0 = getD ns 0 0 } }) (λ (c : Cancellation). c .train .0 ∷ []) (λ c. train-ok (c .train))
-unfolding RowIn by-index
-cancellation-fields = record {
-  written = row-exact (1 to 9999 ∷ []);
-  good = λ ns i. in-test 1 9999 (getD ns 0 0) (row-at (1 to 9999 ∷ []) ns i 0 (omega arith));
-  back = λ c. refl;
-  within = λ c t. (test-in 1 9999 (c .train .0) (omega arith) t, tt);
-}
+unfolding row-test by-index every
+cancellation-fields = tested-fields (1 to 9999 ∷ []) _ _ _ tt (λ ns. refl) (λ x. refl) (λ x. simp (and-assoc, and-true, nought-least))
 
 -- edits
 

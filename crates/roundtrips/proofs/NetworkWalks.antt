@@ -6,9 +6,9 @@ use mathlib.Core.Bool.{Bool}
 use mathlib.Core.List.{List, [], _∷_, _++_, map, flatMap}
 use native.Mathlib.Omega.{arith}
 use lib.Dec.{T, ltb, ltb→lt, lt→ltb}
-use lib.ListN.{length, getD, length-map}
-use Rattle.base.specs.Lists.{every, each-two, within}
-use Rattle.base.proofs.Tests.{both, parts, every-head, every-tail, every-cons, every-weaker}
+use lib.ListN.{length, drop, length-map}
+use Rattle.base.specs.Lists.{every, each-two}
+use Rattle.base.proofs.Tests.{every-head, every-tail, every-cons, every-weaker}
 use Rattle.base.proofs.Sorted.{smaller, two-head, two-tail, two-cons}
 use Rattle.numbers.specs.Numbers.{width}
 use Rattle.network.specs.Networks.{station-row-ok, line-row-ok}
@@ -18,7 +18,7 @@ use Rattle.timetable.specs.NetworkFile.{Listed, station-floor, line-floor, stat
 use Rattle.roundtrips.specs.Types.{StationRow, LineRow}
 use Rattle.roundtrips.proofs.Walks.{InRange, walks}
 use Rattle.roundtrips.proofs.WalkLaws.{span, walks-then, then-walks, walks-made, made-walks}
-use Rattle.roundtrips.proofs.RowsWalked.{Over, over-none, in-test, test-in, RowIn, by-index, row-exact, row-at, Fields, walks-fields, fields-walk}
+use Rattle.roundtrips.proofs.RowsWalked.{Over, over-none, by-index, row-test, Fields, tested-fields, and-assoc, and-true, nought-least, walks-fields, fields-walk}
 use Rattle.roundtrips.proofs.RowsWalked.{Chain, values, Entry, walks-plain, plain-walks, walks-places, places-walk}
 
 -- rows that rise by their first number
@@ -71,65 +71,23 @@ abbrev pub station-number : StationRow → ℕ
 station-number r = r .station .0
 
 abbrev pub station-more : StationRow → List ℕ
-station-more r = r .area .0 ∷ r .tracks ∷ []
+station-more r = drop 1 (station-numbers r)
 
 pub station-fields : Fields station-ranges station-of station-numbers station-row-ok
-unfolding RowIn by-index station-ranges station-of station-numbers station-row-ok
-station-fields = record { written = row-exact station-ranges; good = good; back = λ a. refl; within = fits }
-  where
-    good : (ns : List ℕ) → RowIn station-ranges ns → T (station-row-ok (station-of ns))
-    good ns i =
-        let t₁ = in-test 1 16 (getD ns 0 0) (row-at station-ranges ns i 0 (omega arith)) in
-        let t₂ = in-test 1 6 (getD ns 1 0) (row-at station-ranges ns i 1 (omega arith)) in
-        let t₃ = in-test 1 8 (getD ns 2 0) (row-at station-ranges ns i 2 (omega arith)) in
-        search both
-
-    fits : (x : StationRow) → T (station-row-ok x) → RowIn station-ranges (station-numbers x)
-    fits x t = (
-      test-in 1 16 (x .station .0) (omega arith) (search parts),
-      (
-        test-in 1 6 (x .area .0) (omega arith) (search parts),
-        (test-in 1 8 (x .tracks) (omega arith) (search parts), tt),
-      ),
-    )
+unfolding row-test by-index every station-ranges station-of station-numbers station-row-ok
+station-fields =
+    tested-fields station-ranges station-of station-numbers station-row-ok tt (λ ns. refl) (λ r. refl) (λ r. simp (and-assoc, and-true, nought-least))
 
 abbrev pub line-number : LineRow → ℕ
 line-number r = r .line .0
 
 abbrev pub line-more : LineRow → List ℕ
-line-more r = r .first .0 ∷ r .second .0 ∷ r .kind ∷ r .least ∷ r .capacity ∷ []
+line-more r = drop 1 (line-numbers r)
 
 pub line-row-fields : Fields line-ranges line-of line-numbers line-row-ok
-unfolding RowIn by-index line-ranges line-of line-numbers line-row-ok
-line-row-fields = record { written = row-exact line-ranges; good = good; back = λ a. refl; within = fits }
-  where
-    good : (ns : List ℕ) → RowIn line-ranges ns → T (line-row-ok (line-of ns))
-    good ns i =
-        let t₁ = in-test 1 32 (getD ns 0 0) (row-at line-ranges ns i 0 (omega arith)) in
-        let t₂ = in-test 1 16 (getD ns 1 0) (row-at line-ranges ns i 1 (omega arith)) in
-        let t₃ = in-test 1 16 (getD ns 2 0) (row-at line-ranges ns i 2 (omega arith)) in
-        let t₄ = in-test 1 3 (getD ns 3 0) (row-at line-ranges ns i 3 (omega arith)) in
-        let t₅ = in-test 1 240 (getD ns 4 0) (row-at line-ranges ns i 4 (omega arith)) in
-        let t₆ = in-test 1 9 (getD ns 5 0) (row-at line-ranges ns i 5 (omega arith)) in
-        search both
-
-    fits : (x : LineRow) → T (line-row-ok x) → RowIn line-ranges (line-numbers x)
-    fits x t = (
-      test-in 1 32 (x .line .0) (omega arith) (search parts),
-      (
-        test-in 1 16 (x .first .0) (omega arith) (search parts),
-        (
-          test-in 1 16 (x .second .0) (omega arith) (search parts),
-          (
-            test-in 1 3 (x .kind) (omega arith) (search parts),
-            (
-              test-in 1 240 (x .least) (omega arith) (search parts),
-              (test-in 1 9 (x .capacity) (omega arith) (search parts), tt),
-            ),
-          ),
-        ),
-      ),
-    )
+unfolding row-test by-index every line-ranges line-of line-numbers line-row-ok
+line-row-fields =
+    tested-fields line-ranges line-of line-numbers line-row-ok tt (λ ns. refl) (λ r. refl) (λ r. simp (and-assoc, and-true, nought-least))
 
 -- the parts of the format
 

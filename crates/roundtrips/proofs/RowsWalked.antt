@@ -3,14 +3,14 @@
 -- ranges, and on the entries. Assumes nothing.
 use Prim.Native.Nat.{ℕ, zero, suc, _+_, _≤_, _<_, max}
 use mathlib.Core.Path.{_≡_, refl, sym, _∙_, ap, ap₂, subst}
-use mathlib.Core.Bool.{Bool}
+use mathlib.Core.Bool.{Bool, true, false, _&&_}
 use mathlib.Core.List.{List, [], _∷_, _++_, map, flatMap, map-id}
 use native.Mathlib.Omega.{arith}
-use lib.Dec.{T, leb, leb→le, le→leb}
+use lib.Dec.{T, leb, ltb, leb→le, le→leb, ltb→lt}
 use lib.ListN.{length, getD, drop}
 use lib.Seq.{drop-drop, getD-drop}
-use Rattle.base.specs.Lists.{within}
-use Rattle.base.proofs.Tests.{and-l, and-r, both}
+use Rattle.base.specs.Lists.{within, every}
+use Rattle.base.proofs.Tests.{T-true, and-l, and-r, both, every-head, every-tail}
 use Rattle.numbers.specs.Numbers.{width}
 use Rattle.timetable.specs.Formats.{Format, done, _and-then_, Range, _to_, least, floor-after, compared, row, entries, Placed, placed}
 use Rattle.roundtrips.proofs.Walks.{InRange, walks}
@@ -126,6 +126,58 @@ pub record Fields {A : Type 0} (ranges : List Range) (make : List ℕ → A) (nu
   pub good : (ns : List ℕ) → RowIn ranges ns → T (ok (make ns))
   pub back : (a : A) → make (numbers a) ≡ a
   pub within : (a : A) → T (ok a) → RowIn ranges (numbers a)
+
+-- each number is in its range, as one test; no range asks for a number that takes four bytes
+unfoldable pub row-test : List Range → List ℕ → Bool
+row-test [] [] = true
+row-test [] (n ∷ ns) = false
+row-test (r ∷ rs) [] = false
+row-test (r ∷ rs) (n ∷ ns) = within (r .lo) (r .hi) n && row-test rs ns
+
+abbrev pub three-bytes : List Range → Bool
+three-bytes rs = every (λ (r : Range). ltb (r .hi) 2097152) rs
+
+row-tested : (rs : List Range) (ns : List ℕ) → RowIn rs ns → T (row-test rs ns)
+unfolding RowIn row-test
+row-tested [] [] i = tt
+row-tested [] (n ∷ ns) i = absurd i
+row-tested (r ∷ rs) [] i = absurd i
+row-tested (r ∷ rs) (n ∷ ns) (x, i) = both (within (r .lo) (r .hi) n) (row-test rs ns) (in-test (r .lo) (r .hi) n x) (row-tested rs ns i)
+
+tested-row : (rs : List Range) → T (three-bytes rs) → (ns : List ℕ) → T (row-test rs ns) → RowIn rs ns
+unfolding RowIn row-test
+tested-row [] h [] t = tt
+tested-row [] h (n ∷ ns) t = absurd t
+tested-row (r ∷ rs) h [] t = absurd t
+tested-row (r ∷ rs) h (n ∷ ns) t = (
+  test-in (r .lo) (r .hi) n (ltb→lt (r .hi) 2097152 (every-head (λ (r : Range). ltb (r .hi) 2097152) r rs h)) (and-l (within (r .lo) (r .hi) n) (row-test rs ns) t),
+  tested-row rs (every-tail (λ (r : Range). ltb (r .hi) 2097152) r rs h) ns (and-r (within (r .lo) (r .hi) n) (row-test rs ns) t),
+)
+
+-- so the test of a value and that of its numbers need only be the same tests, put together as they may be
+module _ {A : Type 0} (ranges : List Range) (make : List ℕ → A) (numbers : A → List ℕ) (ok : A → Bool) (short : T (three-bytes ranges))
+    (written : (ns : List ℕ) → by-index (length ranges) 0 ns ≡ numbers (make ns)) (back : (a : A) → make (numbers a) ≡ a)
+    (tests : (a : A) → ok a ≡ row-test ranges (numbers a)) where
+  pub tested-fields : Fields ranges make numbers ok
+  tested-fields =
+      let whole : (ns : List ℕ) → RowIn ranges ns → ns ≡ numbers (make ns) = λ ns i. row-exact ranges ns i ∙ written ns in
+      record {
+        written = whole;
+        good = λ ns i. subst T (sym (tests (make ns))) (subst (λ (l : List ℕ). T (row-test ranges l)) (whole ns i) (row-tested ranges ns i));
+        back = back;
+        within = λ a t. tested-row ranges short (numbers a) (subst T (tests a) t);
+      }
+
+pub and-assoc : (a b c : Bool) → ((a && b) && c) ≡ (a && (b && c))
+and-assoc true b c = refl
+and-assoc false b c = refl
+
+pub nought-least : (n : ℕ) → leb 0 n ≡ true
+nought-least n = T-true (leb 0 n) (le→leb 0 n (omega arith))
+
+pub and-true : (a : Bool) → (a && true) ≡ a
+and-true true = refl
+and-true false = refl
 
 module _ {A B : Type 0} {ranges : List Range} {make : List ℕ → A} {numbers : A → List ℕ} {ok : A → Bool} (f : Fields ranges make numbers ok) (g : A → B) where
   pub walks-fields : (floor : List ℕ) (p : ℕ) (a : A) → T (ok a) → Over floor (numbers a) → walks (row ranges floor and-then (λ ns. done (g (make ns)))) p (numbers a) (g a)
