@@ -1,5 +1,6 @@
 // A network by value: rows of stations and lines with their counts. Rows past the count are not read.
 ghost use mathlib.Core.Path.{_≡_};
+ghost use mathlib.Core.Bool.{_&&_};
 ghost use Prim.Native.Nat.{min};
 ghost use Rattle.network.specs.Networks.{station-row-ok, line-row-ok, way-open, row-runs, station-found, line-found, area-found, station-row, line-row};
 ghost use Rattle.network.specs.Networks.{listed, area-of, track-known, runs, stations-rise, lines-rise, network-in-range, ends-listed, lines-joined, network-refusal};
@@ -51,6 +52,16 @@ pub enum AreaFound {
     Nothing,
 }
 
+// Both hold.
+fn both(a: bool, b: bool) -> bool
+    ensures { λ r. ⌜ r ≡ (a && b) ⌝ }
+{
+    if a {
+        return b;
+    }
+    false
+}
+
 impl StationRow {
     pub fn valid(self) -> bool
         ensures { λ r. ⌜ r ≡ station-row-ok self ⌝ }
@@ -68,18 +79,12 @@ impl LineRow {
     pub fn valid(self) -> bool
         ensures { λ r. ⌜ r ≡ line-row-ok self ⌝ }
     {
-        if self.line.valid() {
-            if self.first.valid() {
-                if self.second.valid() {
-                    if base::is_within(1, 3, self.kind as u16) {
-                        if run_valid(self.least) {
-                            return base::is_within(1, 9, self.capacity as u16);
-                        }
-                    }
-                }
-            }
-        }
-        false
+        let ends = both(self.first.valid(), self.second.valid());
+        let number = both(self.line.valid(), ends);
+        let kind = base::is_within(1, 3, self.kind as u16);
+        let capacity = base::is_within(1, 9, self.capacity as u16);
+        let measures = both(kind, both(run_valid(self.least), capacity));
+        both(number, measures)
     }
 
     // "Kind 1 runs first to second, 2 second to first, 3 either way."
