@@ -134,8 +134,9 @@ fn station_spans(before: u8) -> Spans
     ensures { λ r. ⌜ ranges-of r ≡ above before station-ranges ⌝ }
 {
     let none = Span { lo: 0, hi: 0 };
+    let least_number = before as u32 + 1;
     let number = Span {
-        lo: before as u32 + 1,
+        lo: least_number,
         hi: 16,
     };
     let area = Span { lo: 1, hi: 6 };
@@ -217,8 +218,9 @@ fn line_spans(before: u8) -> Spans
     ensures { λ r. ⌜ ranges-of r ≡ above before line-ranges ⌝ }
 {
     let none = Span { lo: 0, hi: 0 };
+    let least_number = before as u32 + 1;
     let number = Span {
-        lo: before as u32 + 1,
+        lo: least_number,
         hi: 32,
     };
     let end = Span { lo: 1, hi: 16 };

@@ -7,12 +7,12 @@ use Rattle.network_files.specs.between.Rows.{above}
 use Rattle.network_files.proofs.draft.line_spans.Statement.{statement}
 use Rattle.network_files.proofs.draft.line_spans.Tie as tie
 
-add-t9 : tie.Need-add-t9
-add-t9 c = search needs
+add-least-number : tie.Need-add-least-number
+add-least-number c = search needs
 
 returns : tie.Need-returns
 unfolding ranges-of above line-ranges
 returns c = refl
 
 pub line-spans-spec : {M : Type 1} → statement M
-line-spans-spec = tie.close (tie.spec add-t9 returns)
+line-spans-spec = tie.close (tie.spec add-least-number returns)

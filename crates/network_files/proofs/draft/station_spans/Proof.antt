@@ -7,12 +7,12 @@ use Rattle.network_files.specs.between.Rows.{above}
 use Rattle.network_files.proofs.draft.station_spans.Statement.{statement}
 use Rattle.network_files.proofs.draft.station_spans.Tie as tie
 
-add-t7 : tie.Need-add-t7
-add-t7 c = search needs
+add-least-number : tie.Need-add-least-number
+add-least-number c = search needs
 
 returns : tie.Need-returns
 unfolding ranges-of above station-ranges
 returns c = refl
 
 pub station-spans-spec : {M : Type 1} → statement M
-station-spans-spec = tie.close (tie.spec add-t7 returns)
+station-spans-spec = tie.close (tie.spec add-least-number returns)
