@@ -3,7 +3,6 @@ pub mod PutEach
 pub mod RowRanges
 pub mod RowTexts
 pub mod JourneyLines
-pub mod AreaLists
 pub mod WrittenLine
 pub mod PartIndices
 pub mod InputHeld

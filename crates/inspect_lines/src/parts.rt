@@ -13,7 +13,6 @@ ghost use Rattle.inspect_lines.specs.Parts.{input-answer, input-after, p
 ghost use Rattle.timetable.specs.Groups.{six};
 ghost use Rattle.listings.specs.Inspect.{pair-text, parts-of};
 use crate::journeys;
-use crate::lists;
 use crate::written;
 use network::Network;
 use railway::sorts::Area;
@@ -35,7 +34,7 @@ fn put_pair_at(out: &mut [u8], i: usize, sheet: &[u8], n: Network) -> usize
     ensures { λ r. ⌜ Puts 0 (pair-text n (decode-sheet (now (sheet .entry))) (getD (pairs six) i (0, 0))) (now (out .entry)) r (now (out .exit)) part-most ⌝ }
 {
     let pair = pairs::pair_at(i);
-    lists::put_pair(out, sheet, n, pair.first, pair.second)
+    area_lines::put_pair(out, sheet, n, pair.first, pair.second)
 }
 
 // The part of an accepted input, from its sheet and the bytes of its timetable.
@@ -48,7 +47,7 @@ fn put_part(out: &mut [u8], k: usize, sheet: &[u8], n: Network, bytes: &[u8]) ->
         return whole.at;
     }
     if k < 7 {
-        return lists::put_area(out, sheet, n, Area(k as u8));
+        return area_lines::put_area(out, sheet, n, Area(k as u8));
     }
     if k < 22 {
         return put_pair_at(out, k - 7, sheet, n);

@@ -11,6 +11,7 @@ use Rattle.text.proofs.PutParts.{puts-as}
 use Rattle.sheet_lines.proofs.ListedSheet.{fine-size}
 use Rattle.sheet_lines.proofs.FindingLines.{whole-there, count-there}
 use Rattle.sheet_lines.proofs.TotalsLine.{totals-there}
+use Rattle.area_lines.proofs.AreaLists.{area-there}
 use Rattle.inspect_lines.proofs.PartIndices.{area-at, part-whole, part-area, part-pair, part-totals, part-journeys, part-written, part-none}
 use borrow.Author.Needs.{needs}
 use Rattle.inspect_lines.proofs.parts.put_part.Statement.{statement}
@@ -33,16 +34,20 @@ cast-t14 : tie.Need-cast-t14
 cast-t14 c = search needs
 
 put-area-requires : tie.Need-put-area-requires
-put-area-requires c κs = (c .before .before .before .before .before .before .pre .0, area-at (c .before .before .before .before .before .before .args .k) (c .before .before .if1 .left) (c .before .if2 .taken))
+put-area-requires c κs = search needs
 
 same-length-2 : tie.Need-same-length-2
 same-length-2 c = search needs
 
 returns-2 : tie.Need-returns-2
 returns-2 c =
-    let s = c .before .before .before .before .before .before .before .before .before .args in
-    let e = c .before .before .put-area .ensures in
-    rw (part-area (s .n) (decode-sheet (now (s .sheet))) (now (s .bytes)) (s .k) (c .before .before .before .before .before .if1 .left) (c .before .before .before .before .if2 .taken)) (e .0, e .1, omega (arith, e .2))
+    let q = c .before .before .before .before .before .before .before .before .before in
+    let s = q .args in
+    let above = c .before .before .before .before .before .if1 .left in
+    let below = c .before .before .before .before .if2 .taken in
+    let text = area-there (s .n) (now (s .sheet)) (q .pre .0) _ (area-at (s .k) above below) in
+    let e = puts-as 0 _ _ _ _ _ (30 * findings-most) text (c .before .before .put-area .ensures) in
+    rw (part-area (s .n) (decode-sheet (now (s .sheet))) (now (s .bytes)) (s .k) above below) (e .0, e .1, omega (arith, e .2))
 
 put-pair-at-requires : tie.Need-put-pair-at-requires
 put-pair-at-requires c κs = search needs

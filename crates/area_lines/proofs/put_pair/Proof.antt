@@ -1,12 +1,12 @@
--- `inspect_lines::lists::put_pair` meets its contract: the arrays that it lends have the lengths that `pair_in` asks
+-- `area_lines::put_pair` meets its contract: the arrays that it lends have the lengths that `pair_in` asks
 -- for. Assumes nothing.
 use Prim.Native.Nat.{ℕ}
 use mathlib.Core.Path.{sym}
 use lib.ListN.{length-replicate}
 use borrow.Author.Needs.{needs}
 use Rattle.builder.specs.between.Builder.{list-most}
-use Rattle.inspect_lines.proofs.lists.put_pair.Statement.{statement}
-use Rattle.inspect_lines.proofs.lists.put_pair.Tie as tie
+use Rattle.area_lines.proofs.put_pair.Statement.{statement}
+use Rattle.area_lines.proofs.put_pair.Tie as tie
 
 slice-aggregate-pair-in : tie.Need-slice-aggregate-pair-in
 slice-aggregate-pair-in c = sym (length-replicate {A = ℕ} list-most 0)
@@ -16,8 +16,7 @@ slice-aggregate-pair-in-2 c = sym (length-replicate {A = ℕ} 49152 0)
 
 pair-in-requires : tie.Need-pair-in-requires
 pair-in-requires c κs =
-    let q = c .before .before .before .before .before in
-    (q .pre .0, q .pre .1, length-replicate {A = ℕ} list-most 0, length-replicate {A = ℕ} 49152 0)
+    (length-replicate {A = ℕ} list-most 0, length-replicate {A = ℕ} 49152 0)
 
 same-length : tie.Need-same-length
 same-length c = search needs

@@ -1,4 +1,4 @@
--- `inspect_lines::lists::put_list` meets its contract: numbers of two bytes have at most five digits, so no line is
+-- `area_lines::put_list` meets its contract: numbers of two bytes have at most five digits, so no line is
 -- longer than 30 bytes. Assumes nothing.
 use Prim.Native.Nat.{_*_, _/_, _≤_}
 use native.Mathlib.Omega.{arith}
@@ -8,9 +8,9 @@ use borrow.Author.Needs.{needs}
 use Rattle.text.specs.between.Lines.{of-areas}
 use Rattle.text.proofs.PutParts.{puts-as}
 use Rattle.text.proofs.WithinBounds.{findings-there}
-use Rattle.inspect_lines.proofs.AreaLists.{list-short}
-use Rattle.inspect_lines.proofs.lists.put_list.Statement.{statement}
-use Rattle.inspect_lines.proofs.lists.put_list.Tie as tie
+use Rattle.area_lines.proofs.AreaLists.{list-short}
+use Rattle.area_lines.proofs.put_list.Statement.{statement}
+use Rattle.area_lines.proofs.put_list.Tie as tie
 
 put-findings-requires : tie.Need-put-findings-requires
 put-findings-requires c κs = search needs

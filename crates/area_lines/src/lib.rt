@@ -1,15 +1,11 @@
 // The findings of an area and of two areas, printed from the sheets of a division.
 ghost use mathlib.Core.Path.{_≡_};
-ghost use mathlib.Core.Bool.{true};
 ghost use Prim.Native.Nat.{_*_, _/_, _≤_};
 ghost use lib.ListN.{length, take};
-ghost use Rattle.railway.specs.Ranges.{area-ok};
 ghost use Rattle.timetable.specs.Outputs.{Puts};
-ghost use Rattle.sheet.specs.Sheets.{decode-sheet};
 ghost use Rattle.builder.specs.between.Builder.{list-most, findings-most};
-ghost use Rattle.findings.specs.Lists.{sheet-list-refusal, two-areas};
-ghost use Rattle.listings.specs.Inspect.{area-text, pair-text};
 ghost use Rattle.text.specs.between.Lines.{of-areas, findings-text};
+ghost use Rattle.area_lines.specs.between.Areas.{area-lines, pair-lines};
 use findings::calls;
 use network::Network;
 use railway::sorts::Area;
@@ -34,14 +30,13 @@ fn area_in(
     numbers: &mut [u16],
     sheets: &mut [u8],
 ) -> usize
-    requires { ⌜
-        (sheet-list-refusal n (now sheet) ≡ 0)
-        × (area-ok a ≡ true)
-        × (length (now numbers) ≡ list-most)
-        × (length (now sheets) ≡ 49152) ⌝ }
-    ensures { λ r. ⌜ Puts 0 (area-text n (decode-sheet (now (sheet .entry))) (a .0)) (now (out .entry)) r (now (out .exit)) (30 * findings-most) ⌝ }
+    requires { ⌜ (length (now numbers) ≡ list-most) × (length (now sheets) ≡ 49152) ⌝ }
+    ensures { λ r. ⌜ Puts 0 (area-lines n (now (sheet .entry)) a) (now (out .entry)) r (now (out .exit)) (30 * findings-most) ⌝ }
 {
-    division::divide(sheet, sheets, n);
+    let refused = division::divide(sheet, sheets, n);
+    if refused != 0 {
+        return 0;
+    }
     let listed = calls::area_findings(division::area_sheet(sheets, a), n, a, numbers);
     match listed {
         Output::Written(k) => {
@@ -57,10 +52,9 @@ fn area_in(
     }
 }
 
-// The same with arrays of its own.
+// The same with arrays of its own; nothing where the sheet is refused or there is no such area.
 pub fn put_area(out: &mut [u8], sheet: &[u8], n: Network, a: Area) -> usize
-    requires { ⌜ (sheet-list-refusal n (now sheet) ≡ 0) × (area-ok a ≡ true) ⌝ }
-    ensures { λ r. ⌜ Puts 0 (area-text n (decode-sheet (now (sheet .entry))) (a .0)) (now (out .entry)) r (now (out .exit)) (30 * findings-most) ⌝ }
+    ensures { λ r. ⌜ Puts 0 (area-lines n (now (sheet .entry)) a) (now (out .entry)) r (now (out .exit)) (30 * findings-most) ⌝ }
 {
     let mut numbers = [0u16; findings::MOST];
     let mut sheets = [0u8; 49152];
@@ -77,14 +71,13 @@ fn pair_in(
     numbers: &mut [u16],
     sheets: &mut [u8],
 ) -> usize
-    requires { ⌜
-        (sheet-list-refusal n (now sheet) ≡ 0)
-        × (two-areas a b ≡ true)
-        × (length (now numbers) ≡ list-most)
-        × (length (now sheets) ≡ 49152) ⌝ }
-    ensures { λ r. ⌜ Puts 0 (pair-text n (decode-sheet (now (sheet .entry))) (a .0, b .0)) (now (out .entry)) r (now (out .exit)) (30 * findings-most) ⌝ }
+    requires { ⌜ (length (now numbers) ≡ list-most) × (length (now sheets) ≡ 49152) ⌝ }
+    ensures { λ r. ⌜ Puts 0 (pair-lines n (now (sheet .entry)) a b) (now (out .entry)) r (now (out .exit)) (30 * findings-most) ⌝ }
 {
-    division::divide(sheet, sheets, n);
+    let refused = division::divide(sheet, sheets, n);
+    if refused != 0 {
+        return 0;
+    }
     let first = division::area_sheet(sheets, a);
     let second = division::area_sheet(sheets, b);
     let listed = calls::pair_findings(first, second, n, a, b, numbers);
@@ -102,10 +95,9 @@ fn pair_in(
     }
 }
 
-// The same with arrays of its own.
+// The same with arrays of its own; nothing where the sheet is refused or these are not two areas.
 pub fn put_pair(out: &mut [u8], sheet: &[u8], n: Network, a: Area, b: Area) -> usize
-    requires { ⌜ (sheet-list-refusal n (now sheet) ≡ 0) × (two-areas a b ≡ true) ⌝ }
-    ensures { λ r. ⌜ Puts 0 (pair-text n (decode-sheet (now (sheet .entry))) (a .0, b .0)) (now (out .entry)) r (now (out .exit)) (30 * findings-most) ⌝ }
+    ensures { λ r. ⌜ Puts 0 (pair-lines n (now (sheet .entry)) a b) (now (out .entry)) r (now (out .exit)) (30 * findings-most) ⌝ }
 {
     let mut numbers = [0u16; findings::MOST];
     let mut sheets = [0u8; 49152];
