@@ -37,7 +37,7 @@ use Rattle.text.specs.between.Lines.{of-areas, findings-text}
 use Rattle.text.proofs.FourByFour.{of-none, of-one, of-two}
 use Rattle.sheet_lines.proofs.FindingLines.{one-digit, Short, line-most, lines-short, list-there, list-printed}
 use Rattle.text.proofs.OutputLaws.{written-unrefused, short-unrefused, written-many, never-refused, never-short}
-use Rattle.sheet_lines.proofs.ListedSheet.{fine-size, fine-network, fine-sheet}
+use Rattle.findings.proofs.ListedSheet.{fine-size, fine-network, fine-sheet}
 
 -- how long a line is
 

@@ -4,3 +4,4 @@ pub mod TurnLaws
 pub mod BoundLaws
 pub mod DividedLists
 pub mod ListCalls
+pub mod ListedSheet

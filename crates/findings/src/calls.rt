@@ -38,21 +38,32 @@ fn write_list(out: &mut [u16], sheet: &[u8], n: Network, scope: Scope) -> Output
     Output::Written(needed)
 }
 
+// What refuses the list of findings of a sheet: 5, 3, 4, 6, or 0.
+pub fn sheet_refusal(sheet: &[u8], n: Network) -> u8
+    ensures { λ r. ⌜ r ≡ sheet-list-refusal n (now (sheet .entry)) ⌝ }
+{
+    if sheet.len() != 8192 {
+        return 5;
+    }
+    let early = n.refusal();
+    if early != 0 {
+        return early;
+    }
+    if test::good_sheet(sheet, n, Extent::Whole) {
+        return 0;
+    }
+    6
+}
+
 // "A whole timetable's findings: all rules at all stations."
 pub fn sheet_findings(sheet: &[u8], n: Network, out: &mut [u16]) -> Output
     ensures { λ r. ⌜ Answers (sheet-list-refusal n (now (sheet .entry))) (sheet-list n (now (sheet .entry))) (now (out .entry)) r (now (out .exit)) ⌝ }
 {
-    if sheet.len() != 8192 {
-        return Output::Refused(5);
+    let refused = sheet_refusal(sheet, n);
+    if refused != 0 {
+        return Output::Refused(refused);
     }
-    let early = n.refusal();
-    if early != 0 {
-        return Output::Refused(early);
-    }
-    if test::good_sheet(sheet, n, Extent::Whole) {
-        return write_list(out, sheet, n, Scope::Whole);
-    }
-    Output::Refused(6)
+    write_list(out, sheet, n, Scope::Whole)
 }
 
 // 3 of the area or the network, 4, or 0.

@@ -1,8 +1,3 @@
-pub mod ElementAt
-pub mod PutEach
-pub mod RowRanges
-pub mod RowTexts
-pub mod JourneyLines
 pub mod WrittenLine
 pub mod PartIndices
 pub mod InputHeld

@@ -16,7 +16,7 @@ use Rattle.timetable.specs.Groups.{six}
 use Rattle.findings.specs.Lists.{two-areas}
 use Rattle.listings.specs.Inspect.{whole-text, area-text, pair-text, totals-text, journeys-text, written-text, parts-of}
 use Rattle.inspect_lines.specs.Types.{Area, Network}
-use Rattle.inspect_lines.proofs.ElementAt.{every-at, map-at}
+use Rattle.journey_lines.proofs.ElementAt.{every-at, map-at}
 
 -- two areas that are a pair are two
 

@@ -1,2 +1,2 @@
--- Between code and definition: the bounds that the functions keep.
+-- Between code and definition: the bound that the functions keep.
 pub mod Bounds

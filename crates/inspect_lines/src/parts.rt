@@ -12,12 +12,10 @@ ghost use Rattle.inspect_lines.specs.between.Bounds.{part-most};
 ghost use Rattle.inspect_lines.specs.Parts.{input-answer, input-after, part-refusal, part-text};
 ghost use Rattle.timetable.specs.Groups.{six};
 ghost use Rattle.listings.specs.Inspect.{pair-text, parts-of};
-use crate::journeys;
 use crate::written;
+use findings::calls;
 use network::Network;
 use railway::sorts::Area;
-use sheet::test;
-use sheet::test::Extent;
 use sheet_lines::totals;
 use sheet_lines::whole;
 use text::pairs;
@@ -58,7 +56,7 @@ fn put_part(out: &mut [u8], k: usize, sheet: &[u8], n: Network, bytes: &[u8]) ->
         return totals::put_totals(out, 0, sheet, n, whole.count);
     }
     if k == 23 {
-        return journeys::put_journeys(out, sheet, n);
+        return journey_lines::put_journeys(out, sheet, n);
     }
     if k == 24 {
         return written::put_written(out, sheet, n, bytes);
@@ -87,23 +85,6 @@ fn write_part(out: &mut [u8], k: usize, sheet: &[u8], n: Network, bytes: &[u8]) 
     Output::Written(needed)
 }
 
-// What refuses the list of findings of a sheet: 5, 3, 4, 6, or 0.
-fn sheet_refusal(sheet: &[u8], n: Network) -> u8
-    ensures { λ r. ⌜ r ≡ sheet-list-refusal n (now (sheet .entry)) ⌝ }
-{
-    if sheet.len() != 8192 {
-        return 5;
-    }
-    let early = n.refusal();
-    if early != 0 {
-        return early;
-    }
-    if test::good_sheet(sheet, n, Extent::Whole) {
-        return 0;
-    }
-    6
-}
-
 // The part with index k of what is printed of a sheet and the bytes that were read as its timetable.
 pub fn inspect_part(sheet: &[u8], n: Network, bytes: &[u8], k: usize, out: &mut [u8]) -> Output
     ensures { λ r. ⌜
@@ -113,7 +94,7 @@ pub fn inspect_part(sheet: &[u8], n: Network, bytes: &[u8], k: usize, out: &mut 
     if 16384 < bytes.len() {
         return Output::Refused(5);
     }
-    let refusal = sheet_refusal(sheet, n);
+    let refusal = calls::sheet_refusal(sheet, n);
     if refusal != 0 {
         return Output::Refused(refusal);
     }

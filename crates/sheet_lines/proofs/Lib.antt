@@ -1,3 +1,2 @@
-pub mod ListedSheet
 pub mod FindingLines
 pub mod TotalsLine

@@ -45,7 +45,7 @@ use Rattle.listings.specs.Shift.{line-text, shift-text}
 use Rattle.listings.specs.Inspect.{listed-text, whole-text, totals-text}
 use Rattle.text.specs.between.Lines.{far}
 use Rattle.sheet_lines.specs.between.Sheets.{whole-at, whole-count, totals-at}
-use Rattle.sheet_lines.proofs.ListedSheet.{fine-size}
+use Rattle.findings.proofs.ListedSheet.{fine-size}
 use Rattle.sheet_lines.proofs.FindingLines.{whole-there, count-there}
 use Rattle.sheet_lines.proofs.TotalsLine.{totals-there}
 use Rattle.shift_lines.specs.Types.{Station, Edit, Network, Answer, Tally, Finding}

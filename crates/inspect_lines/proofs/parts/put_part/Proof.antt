@@ -8,9 +8,10 @@ use Rattle.sheet.specs.Sheets.{decode-sheet}
 use Rattle.builder.specs.between.Builder.{findings-most}
 use Rattle.listings.specs.Inspect.{totals-text}
 use Rattle.text.proofs.PutParts.{puts-as}
-use Rattle.sheet_lines.proofs.ListedSheet.{fine-size}
+use Rattle.findings.proofs.ListedSheet.{fine-size}
 use Rattle.sheet_lines.proofs.FindingLines.{whole-there, count-there}
 use Rattle.sheet_lines.proofs.TotalsLine.{totals-there}
+use Rattle.journey_lines.proofs.JourneyLines.{journeys-there}
 use Rattle.area_lines.proofs.AreaLists.{area-there}
 use Rattle.inspect_lines.proofs.PartIndices.{area-at, part-whole, part-area, part-pair, part-totals, part-journeys, part-written, part-none}
 use borrow.Author.Needs.{needs}
@@ -91,8 +92,9 @@ same-length-5 c = search needs
 
 returns-5 : tie.Need-returns-5
 returns-5 c =
-    let s = c .before .before .before .before .before .before .before .before .before .before .before .before .args in
-    let e = c .before .before .put-journeys .ensures in
+    let q = c .before .before .before .before .before .before .before .before .before .before .before .before in
+    let s = q .args in
+    let e = puts-as 0 _ _ _ _ _ 442368 (journeys-there (s .n) (now (s .sheet)) (q .pre .0)) (c .before .before .put-journeys .ensures) in
     rw (part-journeys (s .n) (decode-sheet (now (s .sheet))) (now (s .bytes)) (s .k) (c .before .before .before .before .if5 .taken)) (e .0, e .1, omega (arith, e .2))
 
 put-written-requires : tie.Need-put-written-requires

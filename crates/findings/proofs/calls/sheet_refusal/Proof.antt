@@ -1,10 +1,10 @@
--- `inspect_lines::parts::sheet_refusal` meets its contract: each return by the tests that led there. Assumes nothing.
+-- `findings::calls::sheet_refusal` meets its contract: each return by the tests that led there. Assumes nothing.
 use mathlib.Core.Path.{sym, _∙_}
 use denote.Ref.{now}
 use Rattle.findings.proofs.ListCalls.{sheet-short, sheet-early, sheet-bad, sheet-good}
 use borrow.Author.Needs.{needs}
-use Rattle.inspect_lines.proofs.parts.sheet_refusal.Statement.{statement}
-use Rattle.inspect_lines.proofs.parts.sheet_refusal.Tie as tie
+use Rattle.findings.proofs.calls.sheet_refusal.Statement.{statement}
+use Rattle.findings.proofs.calls.sheet_refusal.Tie as tie
 
 returns : tie.Need-returns
 returns c = let s = c .before .before .args in sheet-short (s .n) (now (s .sheet)) (c .if1 .taken)

@@ -1,4 +1,4 @@
--- `inspect_lines::journeys::put_journeys` meets its contract: what the visits of all stations would write is what those
+-- `journey_lines::put_stations` meets its contract: what the visits of all stations would write is what those
 -- of the rows from i on still write, from the place reached. Assumes nothing.
 use Prim.Native.Nat.{ℕ, _-_, _*_, _≤_}
 use mathlib.Core.Path.{_≡_, refl, _∙_, ap}
@@ -10,12 +10,12 @@ use borrow.Author.Needs.{needs}
 use Rattle.network.specs.Networks.{blank-station}
 use Rattle.sheet.specs.Sheets.{decode-sheet}
 use Rattle.listings.specs.Inspect.{visit-text}
-use Rattle.inspect_lines.specs.Types.{StationRow}
-use Rattle.inspect_lines.proofs.PutEach.{Unwritten, one-on, all-put}
-use Rattle.sheet_lines.proofs.ListedSheet.{fine-network}
-use Rattle.inspect_lines.proofs.JourneyLines.{count-high, row-listed, rows-journeys}
-use Rattle.inspect_lines.proofs.journeys.put_journeys.Statement.{statement}
-use Rattle.inspect_lines.proofs.journeys.put_journeys.Tie as tie
+use Rattle.journey_lines.specs.Types.{StationRow}
+use Rattle.journey_lines.proofs.PutEach.{Unwritten, one-on, all-put}
+use Rattle.findings.proofs.ListedSheet.{fine-network}
+use Rattle.journey_lines.proofs.JourneyLines.{count-high, row-listed, rows-journeys}
+use Rattle.journey_lines.proofs.put_stations.Statement.{statement}
+use Rattle.journey_lines.proofs.put_stations.Tie as tie
 
 abbrev Inv-loop : tie.InvT-loop
 Inv-loop out₀ sheet n rows k next₀ i₀ out next i =
@@ -90,8 +90,8 @@ returns c =
     all-put text (s .n .stations) (k .result) 0 (now (s .out)) (omega (arith, many, k .ensures .0, high)) (l .i) blank-station (l .next) (l .out) (l .inv .3) (c .loop-test .left) _
     (ap (λ (j : ℕ). flatMap text (take j (s .n .stations))) (k .ensures .0) ∙ rows-journeys (s .n) net (decode-sheet (now (s .sheet)))) 442368 (omega (arith, l .inv .0, l .inv .1, k .ensures .0, high))
 
-pub put-journeys-spec : {M : Type 1} → statement M
-put-journeys-spec =
+pub put-stations-spec : {M : Type 1} → statement M
+put-stations-spec =
     tie.close
     (tie.spec Inv-loop μ-loop size-requires loop-holds mul-row array-copy-out-row put-visits-requires add-i loop-less
     loop-again same-length returns)

@@ -27,8 +27,8 @@ use Rattle.timetable.proofs.TableLaws.{GoodVisit, visit-facts}
 use Rattle.network.proofs.AreaLaws.{listed-ok}
 use Rattle.sheet.proofs.SheetLaws.{station-high}
 use Rattle.projection.specs.Numbers.{row-numbers, rows-numbers}
-use Rattle.inspect_lines.specs.Types.{Station, Train, Visit, OutLink, Network, Row}
-use Rattle.inspect_lines.specs.between.Bounds.{small}
+use Rattle.journey_lines.specs.Types.{Station, Train, Visit, OutLink, Network, Row}
+use Rattle.journey_lines.specs.between.Journeys.{small}
 
 -- how many rows
 

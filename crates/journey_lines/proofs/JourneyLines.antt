@@ -10,7 +10,7 @@ use lib.Dec.{T, leb, eqb, leb→le, eqb-refl}
 use lib.IntN.{ℤ}
 use lib.ListN.{length, getD, take, length-take}
 use lib.Seq.{getD-take}
-use borrow.Author.Tests.{le-leb}
+use borrow.Author.Tests.{le-leb, eq-eqb}
 use Rattle.base.specs.Lists.{every, first, is}
 use Rattle.base.proofs.Tests.{by-value, T-true, true-T, and-l, and-r, parts, every-map}
 use Rattle.railway.specs.Ranges.{station-ok, train-ok, same-train}
@@ -34,13 +34,14 @@ use Rattle.projection.proofs.ProjectionCall.{early-none}
 use Rattle.findings.specs.Lists.{sheet-list-refusal}
 use Rattle.builder.proofs.BuildLaws.{flat-map}
 use Rattle.listings.specs.Inspect.{row-text, visit-text, journeys-text}
-use Rattle.inspect_lines.specs.Types.{Station, Train, Minute, Visit, StationRow, Network, Row, Output}
+use Rattle.journey_lines.specs.between.Journeys.{journey-lines}
+use Rattle.journey_lines.specs.Types.{Station, Train, Minute, Visit, StationRow, Network, Row, Output}
 use Rattle.text.specs.between.Rows.{rows-text}
 use Rattle.text.proofs.OutputLaws.{written-whole, written-many, never-refused, never-short}
-use Rattle.inspect_lines.proofs.ElementAt.{every-at}
-use Rattle.inspect_lines.proofs.RowTexts.{rows-lines}
-use Rattle.inspect_lines.proofs.RowRanges.{numbers-many, rows-few, rows-small}
-use Rattle.sheet_lines.proofs.ListedSheet.{parts-fine, fine-network, sheet-whole}
+use Rattle.journey_lines.proofs.ElementAt.{every-at}
+use Rattle.journey_lines.proofs.RowTexts.{rows-lines}
+use Rattle.journey_lines.proofs.RowRanges.{numbers-many, rows-few, rows-small}
+use Rattle.findings.proofs.ListedSheet.{parts-fine, fine-network, sheet-whole}
 
 abbrev entry : Train → Visit → Entry
 entry t v = record { train = t; visit = v }
@@ -50,6 +51,11 @@ unfolding first
 first-there [] i d h = absurd (omega arith)
 first-there (e ∷ es) zero d h = rw (T-true (eqb (e .train .0) (e .train .0)) (eqb-refl (e .train .0)))
 first-there (e ∷ es) (suc i) d h = by-value (same-train (e .train) (getD es i d .train)) (λ p. rw p) (λ p. rw p (first-there es i d (omega arith)))
+
+-- for whoever knows that nothing refuses
+pub journeys-there : (n : Network) (sheet : List ℕ) → sheet-list-refusal n sheet ≡ 0 → journey-lines n sheet ≡ journeys-text n (decode-sheet sheet)
+unfolding journey-lines
+journeys-there n sheet fine = rw (eq-eqb (sheet-list-refusal n sheet) 0 fine)
 
 -- a good sheet
 module _ (n : Network) (sheet : List ℕ) (fine : sheet-list-refusal n sheet ≡ 0) (s : Station) (here : listed n s ≡ true) where

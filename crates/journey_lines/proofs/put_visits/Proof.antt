@@ -1,4 +1,4 @@
--- `inspect_lines::journeys::put_visits` meets its contract: what the visits of the page would write is what those from
+-- `journey_lines::put_visits` meets its contract: what the visits of the page would write is what those from
 -- i on still write, from the place reached. Assumes nothing.
 use Prim.Native.Nat.{_+_, _-_, _*_, _≤_}
 use mathlib.Core.Path.{_≡_, refl, _∙_, ap}
@@ -19,11 +19,11 @@ use Rattle.page.specs.between.Entries.{entry-at}
 use Rattle.page.proofs.EntryLaws.{entry-of, entry-parts}
 use Rattle.projection.proofs.JourneyLaws.{page-there}
 use Rattle.listings.specs.Inspect.{visit-text}
-use Rattle.inspect_lines.proofs.PutEach.{Unwritten, one-on, all-put}
-use Rattle.sheet_lines.proofs.ListedSheet.{fine-size}
-use Rattle.inspect_lines.proofs.JourneyLines.{here-ok, entry-there}
-use Rattle.inspect_lines.proofs.journeys.put_visits.Statement.{statement}
-use Rattle.inspect_lines.proofs.journeys.put_visits.Tie as tie
+use Rattle.journey_lines.proofs.PutEach.{Unwritten, one-on, all-put}
+use Rattle.findings.proofs.ListedSheet.{fine-size}
+use Rattle.journey_lines.proofs.JourneyLines.{here-ok, entry-there}
+use Rattle.journey_lines.proofs.put_visits.Statement.{statement}
+use Rattle.journey_lines.proofs.put_visits.Tie as tie
 
 abbrev Inv-loop : tie.InvT-loop
 Inv-loop out₀ at sheet n s first part k next₀ i₀ out next i =

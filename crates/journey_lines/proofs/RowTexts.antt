@@ -15,8 +15,8 @@ use Rattle.listings.specs.Text.{word, head}
 use Rattle.listings.specs.Inspect.{signed, row-text}
 use Rattle.text.specs.between.Rows.{signed-word, kept, row-line, rows-text}
 use Rattle.text.proofs.SignedLaws as signed-laws
-use Rattle.inspect_lines.specs.Types.{Row}
-use Rattle.inspect_lines.specs.between.Bounds.{small}
+use Rattle.journey_lines.specs.Types.{Row}
+use Rattle.journey_lines.specs.between.Journeys.{small}
 
 -- a small number is kept
 small-kept : (z : ℤ) → T (small z) → kept z ≡ z

@@ -14,8 +14,8 @@ use Rattle.timetable.proofs.RefusalLaws.{call-passed}
 use Rattle.sheet.specs.Sheets.{decode-sheet, good-sheet}
 use Rattle.network.proofs.AreaLaws.{listed-ok}
 use Rattle.sheet.proofs.SheetLaws.{decoded-good}
 use Rattle.findings.specs.Lists.{sheet-list-refusal}
-use Rattle.sheet_lines.specs.Types.{Network}
+use Rattle.findings.specs.Types.{Network}
 
 -- what a sheet is whose list is not refused
 

@@ -1,4 +1,4 @@
--- `inspect_lines::journeys::put_projection` meets its contract: the call is not refused and its rows fit, so the rows
+-- `journey_lines::put_projection` meets its contract: the call is not refused and its rows fit, so the rows
 -- that it wrote are printed. Assumes nothing.
 use mathlib.Core.Path.{refl, _∙_}
 use native.Mathlib.Omega.{arith}
@@ -6,9 +6,9 @@ use denote.Ref.{now}
 use borrow.Author.Needs.{needs}
 use Rattle.text.proofs.PutParts.{puts-as}
 use Rattle.text.proofs.WithinBounds.{rows-there}
-use Rattle.inspect_lines.proofs.JourneyLines.{rows-unrefused, rows-fit, rows-many, lines-printed}
-use Rattle.inspect_lines.proofs.journeys.put_projection.Statement.{statement}
-use Rattle.inspect_lines.proofs.journeys.put_projection.Tie as tie
+use Rattle.journey_lines.proofs.JourneyLines.{rows-unrefused, rows-fit, rows-many, lines-printed}
+use Rattle.journey_lines.proofs.put_projection.Statement.{statement}
+use Rattle.journey_lines.proofs.put_projection.Tie as tie
 
 expected-requires : tie.Need-expected-requires
 expected-requires c κs = search needs

@@ -1,8 +1,8 @@
--- `inspect_lines::journeys::expected` meets its contract: past five minutes before the last, the limit is below five
+-- `journey_lines::expected` meets its contract: past five minutes before the last, the limit is below five
 -- minutes on. Assumes nothing.
 use native.Mathlib.Omega.{arith}
-use Rattle.inspect_lines.proofs.journeys.expected.Statement.{statement}
-use Rattle.inspect_lines.proofs.journeys.expected.Tie as tie
+use Rattle.journey_lines.proofs.expected.Statement.{statement}
+use Rattle.journey_lines.proofs.expected.Tie as tie
 
 sub-if1 : tie.Need-sub-if1
 sub-if1 c = omega arith

@@ -10,6 +10,7 @@ ghost use Rattle.timetable.specs.Tables.{has-visit};
 ghost use Rattle.sheet.specs.Sheets.{decode-sheet};
 ghost use Rattle.findings.specs.Lists.{sheet-list-refusal};
 ghost use Rattle.listings.specs.Inspect.{visit-text, journeys-text};
+ghost use Rattle.journey_lines.specs.between.Journeys.{journey-lines};
 use network::Network;
 use page::entries;
 use projection::calls;
@@ -80,7 +81,7 @@ fn put_visits(out: &mut [u8], at: usize, sheet: &[u8], n: Network, s: Station) -
 }
 
 // All of a good sheet.
-pub fn put_journeys(out: &mut [u8], sheet: &[u8], n: Network) -> usize
+fn put_stations(out: &mut [u8], sheet: &[u8], n: Network) -> usize
     requires { ⌜ sheet-list-refusal n (now sheet) ≡ 0 ⌝ }
     ensures { λ r. ⌜ Puts 0 (journeys-text n (decode-sheet (now (sheet .entry)))) (now (out .entry)) r (now (out .exit)) 442368 ⌝ }
 {
@@ -94,4 +95,15 @@ pub fn put_journeys(out: &mut [u8], sheet: &[u8], n: Network) -> usize
         i += 1;
     }
     next
+}
+
+// The same of any sheet; nothing where its list of findings is refused.
+pub fn put_journeys(out: &mut [u8], sheet: &[u8], n: Network) -> usize
+    ensures { λ r. ⌜ Puts 0 (journey-lines n (now (sheet .entry))) (now (out .entry)) r (now (out .exit)) 442368 ⌝ }
+{
+    let refused = findings::calls::sheet_refusal(sheet, n);
+    if refused != 0 {
+        return 0;
+    }
+    put_stations(out, sheet, n)
 }

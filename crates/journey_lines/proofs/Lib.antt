@@ -1,0 +1,5 @@
+pub mod ElementAt
+pub mod PutEach
+pub mod RowRanges
+pub mod RowTexts
+pub mod JourneyLines
