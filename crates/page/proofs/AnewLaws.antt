@@ -22,9 +22,10 @@ use Rattle.records.specs.Bytes.{zeros, overwritten}
 use Rattle.records.specs.Records.{encode-relation, decode-relation}
 use Rattle.records.proofs.RecordLaws.{relation-length}
 use Rattle.page.specs.Types.{Train, Relation}
-use Rattle.page.specs.declared.loss.Left.{Left}
+use Rattle.relation_loss.specs.declared.Left.{Left}
+use Rattle.relation_loss.specs.between.Left.{left}
 use Rattle.page.specs.Pages.{slots, records-of, relation-records, relations-of}
-use Rattle.page.specs.between.Changes.{index-of, put-in, left, is-slotted, slotted, slotted-count, slotted-left, left-count, page-lose-train}
+use Rattle.page.specs.between.Changes.{index-of, put-in, is-slotted, slotted, slotted-count, slotted-left, left-count, page-lose-train}
 use Rattle.page.proofs.SlotLaws.{length-records, record-there, index-most, any-index, rest-of-page}
 use Rattle.page.proofs.RecordsPut.{counts-few}
 use Rattle.page.proofs.FlatLaws.{slots-length, records-slots, put-slots}

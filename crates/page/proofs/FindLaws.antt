@@ -20,7 +20,8 @@ use Rattle.page.specs.Types.{Train, Relation}
 use Rattle.page.specs.declared.Found.{Found}
 use Rattle.page.specs.declared.VisitFound.{VisitFound}
 use Rattle.page.specs.Pages.{records-of, visit-records, relation-records, visits-of, relations-of, decode-page}
-use Rattle.page.specs.between.Changes.{table-in, index-of, found, train-index, train-place, train-found, visit-answer, relation-index, relation-place}
+use Rattle.page.specs.between.Changes.{table-in, index-of, found, counts-to, train-index, train-place, train-found, visit-answer, relation-index, relation-place}
+use Rattle.page.proofs.RecordsPut.{counts-few}
 use Rattle.page.proofs.SlotLaws.{length-records, record-there, table-of-page, table-of-none, first-at, first-nowhere, any-index, index-in-visits, index-in-relations}
 
 module _ (t : Train) (page : List ℕ) where
@@ -40,6 +41,11 @@ module _ (t : Train) (page : List ℕ) where
     pub found-nowhere : n ≤ i → Found.Nothing ≡ train-found t page
     unfolding train-found found
     found-nowhere h = sym (rw (eq-eqb (length page) 512 e, train-index-is, ← m, le-ltb i n h))
+
+  -- sought among the visits of a page that counts no more than there is room for
+  pub train-sought : (i n : ℕ) → length page ≡ 512 → n ≡ getD page 0 0 → n ≤ 24 → i ≡ index-of (λ b. eqb (word b 0) (t .0)) (records-of n (take 480 (drop 32 page)))
+      → (counts-to 0 24 page ≡ true) × (train-index t page ≡ i)
+  train-sought i n e c few s = let m : n ≡ min (getD page 0 0) 24 = omega (arith, c, few) in (counts-few 0 24 page n e c few, train-index-is i n e m s)
 
   pub train-place-is : (i n : ℕ) → length page ≡ 512 → n ≡ min (getD page 0 0) 24 → i ≡ index-of (λ b. ltb (t .0) (word b 0)) (records-of n (take 480 (drop 32 page)))
       → train-place t page ≡ i

@@ -5,6 +5,5 @@ pub mod FoundLaws
 pub mod RecordsPut
 pub mod ChangeLaws
 pub mod AnewLaws
-pub mod LossLaws
 pub mod PageLaws
 pub mod EntryLaws

@@ -1,6 +1,5 @@
 // A station's page: finding a visit or a relation, and changing the page by one record. What is no page of 512 bytes,
 // or counts more records than there is room for, is left as it was.
-pub mod loss; // a train taken out of a relation
 pub mod entries; // the entries of a page one by one
 
 ghost use mathlib.Core.List.{map};
@@ -10,18 +9,18 @@ ghost use lib.Dec.{eqb, ltb};
 ghost use lib.ListN.{length, getD};
 ghost use Rattle.railway.specs.Relations.{precedes, same-relation};
 ghost use Rattle.timetable.specs.Tables.{visit-of, has-relation, lose-all};
-ghost use Rattle.records.specs.Bytes.{zeros, word};
+ghost use Rattle.records.specs.Bytes.{zeros, word, splice};
 ghost use Rattle.records.specs.Records.{encode-relation, decode-relation};
 ghost use Rattle.page.specs.Pages.{slots, records-of};
 ghost use Rattle.page.specs.between.Changes.{table-in, index-of, with-record, without-record, train-found, visit-answer, page-add-visit, moved-by-visit};
 ghost use Rattle.page.specs.between.Changes.{page-write-visit, page-remove-visit, page-add-relation, page-remove-relation};
 ghost use Rattle.page.specs.between.Changes.{slotted, slotted-count, slotted-left, left-count, page-lose-train};
-use crate::loss::Left;
 use railway::relation::Relation;
 use railway::sorts::Train;
 use railway::visit::Visit;
 use records::bytes;
 use records::record;
+use relation_loss::Left;
 
 // Where something stands, or that it does not.
 pub enum Found {
@@ -190,6 +189,16 @@ fn take_out(page: &mut [u8], head: usize, from: usize, i: usize)
     page[head] = (n - 1) as u8;
 }
 
+// Writes a record over the visit record with this index.
+fn write_over(page: &mut [u8], i: usize, new: [u8; 16])
+    requires { ⌜ (length (now page) ≡ 512) × (i < 24) ⌝ }
+    ensures { λ _. ⌜ now (page .exit) ≡ splice (32 + 16 * i) new (now (page .entry)) ⌝ }
+{
+    let at = 32 + 16 * i;
+    let end = at + 16;
+    bytes::copy(&mut page[at..end], &new);
+}
+
 // Puts the train's visit in its place, and answers how many records it moved: those after the new one.
 pub fn add_visit(page: &mut [u8], train: Train, visit: Visit) -> usize
     ensures { λ r. ⌜ (r ≡ moved-by-visit train (now (page .entry))) × (now (page .exit) ≡ page-add-visit train visit (now (page .entry))) ⌝ }
@@ -218,9 +227,7 @@ pub fn write_visit(page: &mut [u8], train: Train, visit: Visit)
     }
     let i = train_index(&page[32..512], n, train);
     if i < n {
-        let at = 32 + 16 * i;
-        let new = record::visit_record(train, visit);
-        bytes::copy(&mut page[at..at + 16], &new);
+        write_over(page, i, record::visit_record(train, visit));
     }
 }
 
@@ -311,7 +318,7 @@ fn slot_rest(part: &mut [u8], from: &[u8], n: usize, train: Train) -> usize
     let mut k = n;
     while 0 < k {
         let r = record::relation_in(bytes::record_at(from, 16 * (k - 1)));
-        let rest = loss::lose(r, train);
+        let rest = relation_loss::lose(r, train);
         m = slot_left(part, m, rest);
         k -= 1;
     }

@@ -1,15 +1,13 @@
--- `sheet::page::remove_visit` meets its contract: the record is taken out where it is found, else nothing changes.
+-- `page::remove_visit` meets its contract: the record is taken out where it is found, else nothing changes.
 -- Assumes nothing.
 use native.Mathlib.Omega.{arith}
 use borrow.Author.Needs.{needs}
-use Prim.Native.Nat.{min}
-use mathlib.Core.Path.{_≡_, sym, _∙_}
-use lib.ListN.{getD}
+use mathlib.Core.Path.{sym, _∙_}
 use denote.Ref.{now}
 use borrow.Author.Tests.{lt-ltb, le-ltb}
 use Rattle.page.specs.between.Changes.{page-remove-visit}
-use Rattle.page.proofs.FindLaws.{train-index-is}
-use Rattle.page.proofs.RecordsPut.{counts-short, counts-over, counts-few}
+use Rattle.page.proofs.FindLaws.{train-sought}
+use Rattle.page.proofs.RecordsPut.{counts-short, counts-over}
 use Rattle.page.proofs.remove_visit.Statement.{statement}
 use Rattle.page.proofs.remove_visit.Tie as tie
 
@@ -55,12 +53,9 @@ returns-3 c =
     let z = u .before .size in
     let s = u .before .before .before .before .before in
     let p = now (s .args .page) in
-    let whole = u .before .before .before .if1 .left in
-    let few = counts-few 0 24 p (z .result) whole (z .ensures .0) (omega arith) in
-    let many : z .result ≡ min (getD p 0 0) 24 = omega arith in
-    let there = train-index-is (s .args .train) p (found .result) (z .result) whole many (found .ensures) in
+    let there = train-sought (s .args .train) p (found .result) (z .result) (u .before .before .before .if1 .left) (z .ensures .0) (omega arith) (found .ensures) in
     let inside = lt-ltb (found .result) (z .result) (c .before .before .before .before .if3 .taken) in
-    c .before .before .take-out .ensures ∙ sym (rw (few, there, ← z .ensures .0, inside))
+    c .before .before .take-out .ensures ∙ sym (rw (there .0, there .1, ← z .ensures .0, inside))
 
 same-length-2 : tie.Need-same-length-2
 same-length-2 c = search needs
@@ -73,12 +68,9 @@ returns-4 c =
     let z = u .before .size in
     let s = u .before .before .before .before .before in
     let p = now (s .args .page) in
-    let whole = u .before .before .before .if1 .left in
-    let few = counts-few 0 24 p (z .result) whole (z .ensures .0) (omega arith) in
-    let many : z .result ≡ min (getD p 0 0) 24 = omega arith in
-    let there = train-index-is (s .args .train) p (found .result) (z .result) whole many (found .ensures) in
+    let there = train-sought (s .args .train) p (found .result) (z .result) (u .before .before .before .if1 .left) (z .ensures .0) (omega arith) (found .ensures) in
     let outside = le-ltb (found .result) (z .result) (c .if3 .left) in
-    rw (few, there, ← z .ensures .0, outside)
+    rw (there .0, there .1, ← z .ensures .0, outside)
 
 pub remove-visit-spec : {M : Type 1} → statement M
 remove-visit-spec =

@@ -10,7 +10,7 @@ use Rattle.timetable.specs.Tables.{lose}
 use Rattle.records.specs.Records.{encode-relation, decode-relation}
 use Rattle.page.specs.Types.{Relation}
 use Rattle.page.specs.Pages.{slots}
-use Rattle.page.specs.between.Changes.{left}
+use Rattle.relation_loss.specs.between.Left.{left}
 use Rattle.page.proofs.AnewLaws.{rest-from, rest-few, rest-none, anew-list, anew-many, empty-slots}
 use Rattle.page.proofs.slot_rest.Statement.{statement}
 use Rattle.page.proofs.slot_rest.Tie as tie

@@ -1,18 +1,16 @@
--- `sheet::page::write_visit` meets its contract: the record is written over where the train's is found, else nothing
--- changes. Assumes nothing.
+-- `page::write_visit` meets its contract: the record is written over where the train's is found, else nothing changes.
+-- Assumes nothing.
 use native.Mathlib.Omega.{arith}
 use borrow.Author.Needs.{needs}
-use Prim.Native.Nat.{ℕ, _+_, _*_, min}
-use mathlib.Core.Path.{_≡_, sym, ap, _∙_}
+use Prim.Native.Nat.{ℕ, _+_, _*_}
+use mathlib.Core.Path.{sym, ap, _∙_}
 use mathlib.Core.List.{List}
-use lib.ListN.{length, getD}
 use denote.Ref.{now}
 use borrow.Author.Tests.{lt-ltb, le-ltb}
 use Rattle.records.specs.Bytes.{splice}
-use Rattle.records.proofs.RecordLaws.{visit-length}
 use Rattle.page.specs.between.Changes.{page-write-visit}
-use Rattle.page.proofs.FindLaws.{train-index-is}
-use Rattle.page.proofs.RecordsPut.{written-over, counts-short, counts-over, counts-few}
+use Rattle.page.proofs.FindLaws.{train-sought}
+use Rattle.page.proofs.RecordsPut.{counts-short, counts-over}
 use Rattle.page.proofs.write_visit.Statement.{statement}
 use Rattle.page.proofs.write_visit.Tie as tie
 
@@ -44,32 +42,11 @@ part-train-index-end c = search needs
 train-index-requires : tie.Need-train-index-requires
 train-index-requires c κs = search needs
 
-mul-at : tie.Need-mul-at
-mul-at c = search needs
-
-add-at : tie.Need-add-at
-add-at c = search needs
-
 visit-record-requires : tie.Need-visit-record-requires
 visit-record-requires c κs = search needs
 
-add-copy : tie.Need-add-copy
-add-copy c = search needs
-
-sub-copy : tie.Need-sub-copy
-sub-copy c = search needs
-
-part-copy-start : tie.Need-part-copy-start
-part-copy-start c = search needs
-
-part-copy-end : tie.Need-part-copy-end
-part-copy-end c = search needs
-
-slice-aggregate-copy : tie.Need-slice-aggregate-copy
-slice-aggregate-copy c = search needs
-
-copy-requires : tie.Need-copy-requires
-copy-requires c κs = search needs
+write-over-requires : tie.Need-write-over-requires
+write-over-requires c κs = search needs
 
 same-length : tie.Need-same-length
 same-length c = search needs
@@ -77,22 +54,16 @@ same-length c = search needs
 returns-3 : tie.Need-returns-3
 unfolding page-write-visit
 returns-3 c =
-    let copied = c .before .before .copy in
-    let new = c .before .before .before .before .before .visit-record in
-    let found = c .before .before .before .before .before .before .before .train-index in
-    let u = c .before .before .before .before .before .before .before .before .before .before in
+    let new = c .before .before .before .visit-record in
+    let found = c .before .before .before .before .before .before .train-index in
+    let u = c .before .before .before .before .before .before .before .before .before in
     let z = u .before .size in
     let s = u .before .before .before .before .before in
     let p = now (s .args .page) in
-    let whole = u .before .before .before .if1 .left in
-    let few = counts-few 0 24 p (z .result) whole (z .ensures .0) (omega arith) in
-    let many : z .result ≡ min (getD p 0 0) 24 = omega arith in
-    let there = train-index-is (s .args .train) p (found .result) (z .result) whole many (found .ensures) in
-    let inside = lt-ltb (found .result) (z .result) (c .before .before .before .before .before .before .if3 .taken) in
-    let sixteen : length (new .result) ≡ 16 = ap length (new .ensures) ∙ visit-length (s .args .train) (s .args .visit) in
-    written-over p (new .result) (copied .last .0) (32 + 16 * found .result) sixteen (omega arith) (copied .ensures)
-    ∙ ap (λ (r : List ℕ). splice (32 + 16 * found .result) r p) (new .ensures)
-    ∙ sym (rw (few, there, ← z .ensures .0, inside))
+    let there = train-sought (s .args .train) p (found .result) (z .result) (u .before .before .before .if1 .left) (z .ensures .0) (omega arith) (found .ensures) in
+    let inside = lt-ltb (found .result) (z .result) (c .before .before .before .before .before .if3 .taken) in
+    c .before .before .write-over .ensures ∙ ap (λ (r : List ℕ). splice (32 + 16 * found .result) r p) (new .ensures)
+    ∙ sym (rw (there .0, there .1, ← z .ensures .0, inside))
 
 same-length-2 : tie.Need-same-length-2
 same-length-2 c = search needs
@@ -105,16 +76,13 @@ returns-4 c =
     let z = u .before .size in
     let s = u .before .before .before .before .before in
     let p = now (s .args .page) in
-    let whole = u .before .before .before .if1 .left in
-    let few = counts-few 0 24 p (z .result) whole (z .ensures .0) (omega arith) in
-    let many : z .result ≡ min (getD p 0 0) 24 = omega arith in
-    let there = train-index-is (s .args .train) p (found .result) (z .result) whole many (found .ensures) in
+    let there = train-sought (s .args .train) p (found .result) (z .result) (u .before .before .before .if1 .left) (z .ensures .0) (omega arith) (found .ensures) in
     let outside = le-ltb (found .result) (z .result) (c .if3 .left) in
-    rw (few, there, ← z .ensures .0, outside)
+    rw (there .0, there .1, ← z .ensures .0, outside)
 
 pub write-visit-spec : {M : Type 1} → statement M
 write-visit-spec =
     tie.close
     (tie.spec returns slice-read-size size-requires returns-2 sub-train-index part-train-index-start
-    part-train-index-end train-index-requires mul-at add-at visit-record-requires add-copy sub-copy part-copy-start
-    part-copy-end slice-aggregate-copy copy-requires same-length returns-3 same-length-2 returns-4)
+    part-train-index-end train-index-requires visit-record-requires write-over-requires same-length returns-3
+    same-length-2 returns-4)

@@ -3,20 +3,18 @@
 -- What is no page of 512 bytes, or counts more records than there is room for, is left as it was. On the page of a good
 -- table they do what the functions on tables do (proofs/ChangeLaws.antt). Assumes nothing.
 use Prim.Native.Nat.{ℕ, suc, _+_, _*_, _-_, min}
-use mathlib.Core.Bool.{Bool, not, _&&_}
+use mathlib.Core.Bool.{Bool, _&&_}
 use mathlib.Core.List.{List, [], _∷_, _++_}
 use mathlib.Core.Option.{Option, none, some}
 use lib.Dec.{ltb, leb, eqb}
 use lib.ListN.{length, getD, set, take, drop}
 use Rattle.base.specs.Choice.{if_then_else_}
-use Rattle.railway.specs.Ranges.{same-train}
-use Rattle.railway.specs.Relations.{present, precedes, same-relation}
+use Rattle.railway.specs.Relations.{precedes, same-relation}
 use Rattle.timetable.specs.Tables.{Table, empty, lose-all}
 use Rattle.records.specs.Bytes.{word, splice, closed}
 use Rattle.records.specs.Records.{visit-bytes, encode-relation, decode-relation}
 use Rattle.page.specs.Types.{Train, Visit, Relation}
-use Rattle.railway.specs.declared.relation.Trains.{Trains}
-use Rattle.page.specs.declared.loss.Left.{Left}
+use Rattle.relation_loss.specs.declared.Left.{Left}
 use Rattle.page.specs.declared.Found.{Found}
 use Rattle.page.specs.declared.VisitFound.{VisitFound}
 use Rattle.page.specs.Pages.{slots, records-of, visit-records, relation-records, relations-of, decode-page}
@@ -110,15 +108,6 @@ page-remove-relation q page =
     then without-record 1 416 (relation-index q page) page
     else page
 
--- the trains of four places, one more place put before them: not where it holds no train, or the one that is taken out
-unfoldable pub shifted : Train → Train → Trains → Trains
-shifted t x ts = if present x && not (same-train t x) then record { a = x; b = ts .a; c = ts .b; d = ts .c } else ts
-
--- what is left of a relation, as an answer
-unfoldable pub left : Option Relation → Left
-left none = Left.Nothing
-left (some r) = Left.Is r
-
 -- on a part with n relation records in order: the relation put in its place, where one that is there already stays one,
 -- and how many there are then
 
@@ -152,5 +141,5 @@ page-lose-train t page =
 -- The key ring of this module: `unfolding opened` opens every definition above.
 unfoldable pub opened : Unit {0}
 unfolding table-in index-of found train-found visit-answer put-in take-out with-record without-record counts-to train-index train-place page-add-visit moved-by-visit page-write-visit
-    page-remove-visit relation-index relation-place page-add-relation page-remove-relation shifted left is-slotted slotted slotted-count slotted-left left-count page-lose-train
+    page-remove-visit relation-index relation-place page-add-relation page-remove-relation is-slotted slotted slotted-count slotted-left left-count page-lose-train
 opened = tt

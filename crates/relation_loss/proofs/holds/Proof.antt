@@ -1,7 +1,7 @@
--- `sheet::loss::holds` meets its contract: each return rewrites with the test that led there. Assumes nothing.
+-- `relation_loss::holds` meets its contract: each return rewrites with the test that led there. Assumes nothing.
 use borrow.Author.Tests.{lt-ltb, le-ltb}
-use Rattle.page.proofs.loss.holds.Statement.{statement}
-use Rattle.page.proofs.loss.holds.Tie as tie
+use Rattle.relation_loss.proofs.holds.Statement.{statement}
+use Rattle.relation_loss.proofs.holds.Tie as tie
 
 returns : tie.Need-returns
 returns c = simp (lt-ltb _ _ (c .before .before .if1 .taken))

@@ -1,10 +1,10 @@
--- `sheet::loss::others` meets its contract: each place is put before those behind it. Assumes nothing.
+-- `relation_loss::others` meets its contract: each place is put before those behind it. Assumes nothing.
 use borrow.Author.Needs.{needs}
 use mathlib.Core.Path.{sym, ap, _∙_}
-use Rattle.page.specs.between.Changes.{shifted}
-use Rattle.page.proofs.LossLaws.{packed-used}
-use Rattle.page.proofs.loss.others.Statement.{statement}
-use Rattle.page.proofs.loss.others.Tie as tie
+use Rattle.relation_loss.specs.between.Left.{shifted}
+use Rattle.relation_loss.proofs.TrainsLeft.{packed-used}
+use Rattle.relation_loss.proofs.others.Statement.{statement}
+use Rattle.relation_loss.proofs.others.Tie as tie
 
 put-before-requires : tie.Need-put-before-requires
 put-before-requires c κs = search needs

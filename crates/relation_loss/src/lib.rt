@@ -6,7 +6,7 @@ ghost use Rattle.base.specs.Lists.{any, keep};
 ghost use Rattle.railway.specs.Ranges.{same-train};
 ghost use Rattle.railway.specs.Relations.{present, used};
 ghost use Rattle.timetable.specs.Tables.{packed, lose};
-ghost use Rattle.page.specs.between.Changes.{shifted, left};
+ghost use Rattle.relation_loss.specs.between.Left.{shifted, left};
 use railway::relation::Relation;
 use railway::relation::Trains;
 use railway::sorts::Train;

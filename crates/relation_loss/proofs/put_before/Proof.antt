@@ -1,8 +1,8 @@
--- `sheet::loss::put_before` meets its contract: each return rewrites with the tests that led there. Assumes nothing.
+-- `relation_loss::put_before` meets its contract: each return rewrites with the tests that led there. Assumes nothing.
 use borrow.Author.Tests.{lt-ltb, le-ltb, eq-eqb, ne-eqb}
-use Rattle.page.specs.between.Changes.{shifted}
-use Rattle.page.proofs.loss.put_before.Statement.{statement}
-use Rattle.page.proofs.loss.put_before.Tie as tie
+use Rattle.relation_loss.specs.between.Left.{shifted}
+use Rattle.relation_loss.proofs.put_before.Statement.{statement}
+use Rattle.relation_loss.proofs.put_before.Tie as tie
 
 returns : tie.Need-returns
 unfolding shifted

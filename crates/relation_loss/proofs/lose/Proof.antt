@@ -1,14 +1,14 @@
--- `sheet::loss::lose` meets its contract, case by case: each return rewrites with the tests that led there. Assumes
+-- `relation_loss::lose` meets its contract, case by case: each return rewrites with the tests that led there. Assumes
 -- nothing.
 use borrow.Author.Needs.{needs}
 use mathlib.Core.Path.{sym, _∙_}
 use borrow.Author.Tests.{eq-eqb, ne-eqb}
 use Rattle.timetable.specs.Tables.{lose}
-use Rattle.page.specs.Types.{Connection, Disconnection}
-use Rattle.page.specs.between.Changes.{left}
-use Rattle.page.proofs.LossLaws.{fewer-rest}
-use Rattle.page.proofs.loss.lose.Statement.{statement}
-use Rattle.page.proofs.loss.lose.Tie as tie
+use Rattle.relation_loss.specs.Types.{Connection, Disconnection}
+use Rattle.relation_loss.specs.between.Left.{left}
+use Rattle.relation_loss.proofs.TrainsLeft.{fewer-rest}
+use Rattle.relation_loss.proofs.lose.Statement.{statement}
+use Rattle.relation_loss.proofs.lose.Tie as tie
 
 enum-known-relation : tie.Need-enum-known-relation
 enum-known-relation c = search needs

@@ -16,8 +16,8 @@ use Rattle.railway.specs.Ranges.{same-train}
 use Rattle.railway.specs.Relations.{present, used}
 use Rattle.railway.specs.declared.relation.Trains.{Trains}
 use Rattle.timetable.specs.Tables.{packed, fewer}
-use Rattle.page.specs.Types.{Train, Relation}
-use Rattle.page.specs.between.Changes.{shifted}
+use Rattle.relation_loss.specs.Types.{Train, Relation}
+use Rattle.relation_loss.specs.between.Left.{shifted}
 
 pub or-false : (b : Bool) → (b || false) ≡ b
 or-false true = refl

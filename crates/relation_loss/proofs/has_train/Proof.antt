@@ -1,10 +1,10 @@
--- `sheet::loss::has_train` meets its contract: a train is used where a place holds it. Assumes nothing.
+-- `relation_loss::has_train` meets its contract: a train is used where a place holds it. Assumes nothing.
 use borrow.Author.Needs.{needs}
 use mathlib.Core.Path.{_≡_, sym, _∙_}
 use mathlib.Core.Bool.{true, false}
-use Rattle.page.proofs.LossLaws.{any-used, here}
-use Rattle.page.proofs.loss.has_train.Statement.{statement}
-use Rattle.page.proofs.loss.has_train.Tie as tie
+use Rattle.relation_loss.proofs.TrainsLeft.{any-used, here}
+use Rattle.relation_loss.proofs.has_train.Statement.{statement}
+use Rattle.relation_loss.proofs.has_train.Tie as tie
 
 holds-requires : tie.Need-holds-requires
 holds-requires c κs = search needs

@@ -1,0 +1,2 @@
+-- Between code and definition: what the functions answer.
+pub mod Left
