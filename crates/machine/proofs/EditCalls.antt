@@ -40,7 +40,7 @@ use Rattle.machine.specs.Calls.{refused-with, sheet-refusal, sheet-answe
 use Rattle.machine.specs.Calls.{named-good, parts, division-refusal, division-answer, division-after}
 use Rattle.page_edits.specs.between.PageEdits.{place-of, frames-answer, frames-after}
 use Rattle.sheet.specs.between.Frames.{frame}
-use Rattle.machine.specs.between.Named.{touches-at, touches-area, area-passes, named-pass}
+use Rattle.named_sheets.specs.between.Named.{touches-at, touches-area, area-passes, named-pass}
 use Rattle.sheet.proofs.FrameLaws.{sheet-frame, division-frame}
 use Rattle.machine.proofs.FrameEdits.{Holds, Step, frames-answers, frames-step}
 use Rattle.machine.proofs.ByteEdits.{call-good, in-listed, whole-of, page-of, whole-later, later-size}
@@ -352,10 +352,10 @@ module _ (n : Network) (e : Edit) (early : Early n e) where
 
   pub named-same : (division : List ℕ) → length division ≡ 49152 → named-pass n e division ≡ named-good n e division
   unfolding named-pass named-good area-passes sheet-passes
-  named-same division size = every-agree
+  named-same division size = rw (eq-eqb (length division) 49152 size) (every-agree
       (λ a. if touches-area n e a then eqb (length (sheet-at division a)) 8192 && good-sheet n (covers n (Extent.Of (record { 0 = a }))) (sheet-at division a) else true)
       (λ a. not (names-group n (area-of n) e a) || good-sheet n (λ k. listed n k && in-group (area-of n) a k) (sheet-at division a))
-      area-number each six all-areas
+      area-number each six all-areas)
     where
       each : (a : ℕ) → T (area-number a)
           → (if touches-area n e a then eqb (length (sheet-at division a)) 8192 && good-sheet n (covers n (Extent.Of (record { 0 = a }))) (sheet-at division a) else true)

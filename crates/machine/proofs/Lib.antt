@@ -1,6 +1,5 @@
 pub mod ByteEdits
 pub mod PageSteps
-pub mod NamedSteps
 pub mod ListEdits
 pub mod CentralEdits
 pub mod WholeSheets

@@ -2,7 +2,6 @@
 // 4, 7, 6, then 8 to 12.
 ghost use mathlib.Core.Path.{_≡_};
 ghost use Rattle.machine.specs.Calls.{refused-with, sheet-answer, sheet-after, division-answer, division-after};
-use crate::named;
 use crate::pages;
 use actions::early;
 use network::Network;
@@ -46,7 +45,7 @@ pub fn edit_division(division: &mut [u8], n: Network, e: Edit) -> Answer
     if first != 0 {
         return refused(first);
     }
-    if named::named_good(division, n, e) {
+    if named_sheets::named_good(division, n, e) {
         return pages::edit_pages(division, true, n, e);
     }
     refused(6)

@@ -4,6 +4,7 @@ use Prim.Native.Nat.{ℕ}
 use mathlib.Core.Bool.{Bool, true, _&&_}
 use mathlib.Core.List.{List}
 use lib.Dec.{eqb}
+use lib.ListN.{length}
 use Rattle.base.specs.Choice.{if_then_else_}
 use Rattle.base.specs.Lists.{any, every}
 use Rattle.network.specs.Networks.{area-of, stations-of}
@@ -13,7 +14,7 @@ use Rattle.actions.specs.between.Shapes.{touches}
 use Rattle.sheet.specs.Sheets.{sheet-at}
 use Rattle.sheet.specs.declared.test.Extent.{Extent}
 use Rattle.sheet.specs.between.Passes.{sheet-passes}
-use Rattle.machine.specs.Types.{Station, Edit, Network}
+use Rattle.named_sheets.specs.Types.{Station, Edit, Network}
 
 -- an area of a station that the edit names
 unfoldable pub touches-at : Network → Edit → ℕ → Station → Bool
@@ -26,7 +27,7 @@ unfoldable pub area-passes : Network → Edit → ℕ → List ℕ → Bool
 area-passes n e a part = if touches-area n e a then sheet-passes n (Extent.Of (record { 0 = a })) part else true
 
 unfoldable pub named-pass : Network → Edit → List ℕ → Bool
-named-pass n e division = every (λ a. area-passes n e a (sheet-at division a)) six
+named-pass n e division = eqb (length division) 49152 && every (λ a. area-passes n e a (sheet-at division a)) six
 
 -- The key ring of this module: `unfolding opened` opens every definition above.
 unfoldable pub opened : Unit {0}

@@ -1,4 +1,4 @@
--- `machine::named::names_area` meets its contract: the loop goes on as long as no station was named: what is asked of
+-- `named_sheets::names_area` meets its contract: the loop goes on as long as no station was named: what is asked of
 -- all rows is asked of those from i on. Assumes nothing.
 use borrow.Author.Needs.{needs}
 use Prim.Native.Nat.{_-_, _≤_}
@@ -6,10 +6,10 @@ use mathlib.Core.Path.{_≡_, refl, sym, _∙_}
 use native.Mathlib.Omega.{arith}
 use lib.ListN.{length, length-map, take, drop}
 use Rattle.base.specs.Lists.{any}
-use Rattle.machine.specs.between.Named.{touches-at}
-use Rattle.machine.proofs.NamedSteps.{areas-are, any-yes, any-on, any-over}
-use Rattle.machine.proofs.named.names_area.Statement.{statement}
-use Rattle.machine.proofs.named.names_area.Tie as tie
+use Rattle.named_sheets.specs.between.Named.{touches-at}
+use Rattle.named_sheets.proofs.NamedSteps.{areas-are, any-yes, any-on, any-over}
+use Rattle.named_sheets.proofs.names_area.Statement.{statement}
+use Rattle.named_sheets.proofs.names_area.Tie as tie
 
 abbrev Inv-loop : tie.InvT-loop
 Inv-loop n e a rows k i₀ i =

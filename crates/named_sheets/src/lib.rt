@@ -1,7 +1,6 @@
 // Which sheets of a division are to be good: those of the areas that an edit names.
 ghost use mathlib.Core.Path.{_≡_};
-ghost use lib.ListN.{length};
-ghost use Rattle.machine.specs.between.Named.{touches-at, touches-area, area-passes, named-pass};
+ghost use Rattle.named_sheets.specs.between.Named.{touches-at, touches-area, area-passes, named-pass};
 use actions::shape;
 use network::Network;
 use railway::edit::Edit;
@@ -46,10 +45,13 @@ fn area_good(part: &[u8], n: Network, e: Edit, a: u8) -> bool
     true
 }
 
+// They are, in a division of the right length.
 pub fn named_good(division: &[u8], n: Network, e: Edit) -> bool
-    requires { ⌜ length (now division) ≡ 49152 ⌝ }
     ensures { λ r. ⌜ r ≡ named-pass n e (now (division .entry)) ⌝ }
 {
+    if division.len() != 49152 {
+        return false;
+    }
     let mut i: usize = 0;
     let mut a: u8 = 1;
     while i < 6 {

@@ -1,9 +1,9 @@
--- `machine::named::is_named` meets its contract: the tests that led to each return decide it. Assumes nothing.
+-- `named_sheets::is_named` meets its contract: the tests that led to each return decide it. Assumes nothing.
 use borrow.Author.Tests.{eq-eqb, ne-eqb}
-use Rattle.machine.specs.between.Named.{touches-at}
+use Rattle.named_sheets.specs.between.Named.{touches-at}
 use borrow.Author.Needs.{needs}
-use Rattle.machine.proofs.named.is_named.Statement.{statement}
-use Rattle.machine.proofs.named.is_named.Tie as tie
+use Rattle.named_sheets.proofs.is_named.Statement.{statement}
+use Rattle.named_sheets.proofs.is_named.Tie as tie
 
 group-of-requires : tie.Need-group-of-requires
 group-of-requires c κs = search needs

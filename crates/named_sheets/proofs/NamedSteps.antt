@@ -15,8 +15,8 @@ use Rattle.timetable.specs.Groups.{six}
 use Rattle.sheet.specs.Sheets.{sheet-at}
 use Rattle.sheet.proofs.SheetLaws.{area-at}
 use Rattle.page_edits.proofs.RowSteps.{in-use, row-on, rows-over}
-use Rattle.machine.specs.Types.{Edit, Network}
-use Rattle.machine.specs.between.Named.{touches-at, touches-area, area-passes}
+use Rattle.named_sheets.specs.Types.{Edit, Network}
+use Rattle.named_sheets.specs.between.Named.{touches-at, touches-area, area-passes}
 
 any-map : {A B : Type 0} (f : B → Bool) (g : A → B) (xs : List A) → any f (map g xs) ≡ any (λ x. f (g x)) xs
 unfolding any

@@ -1,9 +1,9 @@
--- `machine::named::area_good` meets its contract: the test of the area decides. Assumes nothing.
+-- `named_sheets::area_good` meets its contract: the test of the area decides. Assumes nothing.
 use mathlib.Core.Path.{sym, _∙_}
-use Rattle.machine.specs.between.Named.{area-passes}
+use Rattle.named_sheets.specs.between.Named.{area-passes}
 use borrow.Author.Needs.{needs}
-use Rattle.machine.proofs.named.area_good.Statement.{statement}
-use Rattle.machine.proofs.named.area_good.Tie as tie
+use Rattle.named_sheets.proofs.area_good.Statement.{statement}
+use Rattle.named_sheets.proofs.area_good.Tie as tie
 
 names-area-requires : tie.Need-names-area-requires
 names-area-requires c κs = search needs
