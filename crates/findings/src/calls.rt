@@ -1,7 +1,8 @@
 // The calls that list findings. Refusals in document 01's order: 5, 3, 4, 6, 13.
 ghost use mathlib.Core.Path.{_≡_};
 ghost use mathlib.Core.Bool.{_&&_};
-ghost use lib.ListN.{length};
+ghost use Prim.Native.Nat.{_≤_};
+ghost use lib.ListN.{length, take};
 ghost use Rattle.railway.specs.Ranges.{area-ok};
 ghost use Rattle.sheet.specs.between.Passes.{sheet-passes};
 ghost use Rattle.sheet.specs.declared.test.Extent.{Extent};
@@ -19,8 +20,49 @@ use sheet::test;
 use sheet::test::Extent;
 use timetable::Output;
 
-// Counts first, so that a buffer that is too short is left as it was; one that has room for any list is written at
-// once.
+// How many numbers a draft has room for.
+const DRAFT: usize = 8192;
+
+// The first k numbers of a draft, into a buffer that may be too short for them.
+fn hand_over(out: &mut [u16], draft: &[u16], k: usize) -> Output
+    requires { ⌜ k ≤ length (now draft) ⌝ }
+    ensures { λ r. ⌜ Answers 0 (take k (now (draft .entry))) (now (out .entry)) r (now (out .exit)) ⌝ }
+{
+    if out.len() < k {
+        return Output::TooShort(k);
+    }
+    let mut i: usize = 0;
+    while i < k {
+        out[i] = draft[i];
+        i += 1;
+    }
+    Output::Written(k)
+}
+
+// The list is formed in a lent draft first, so that a buffer that is too short is left as it was; one that the draft
+// has no room for is then formed again.
+fn write_drafted(
+    out: &mut [u16],
+    sheet: &[u8],
+    n: Network,
+    scope: Scope,
+    draft: &mut [u16],
+) -> Output
+    requires { ⌜ length (now sheet) ≡ 8192 ⌝ }
+    ensures { λ r. ⌜ Answers 0 (all-numbers n scope (decode-sheet (now (sheet .entry)))) (now (out .entry)) r (now (out .exit)) ⌝ }
+{
+    let needed = builder::list_all(draft, sheet, n, scope);
+    if needed <= draft.len() {
+        return hand_over(out, draft, needed);
+    }
+    if out.len() < needed {
+        return Output::TooShort(needed);
+    }
+    builder::list_all(out, sheet, n, scope);
+    Output::Written(needed)
+}
+
+// A buffer that has room for any list is written at once.
 fn write_list(out: &mut [u16], sheet: &[u8], n: Network, scope: Scope) -> Output
     requires { ⌜ length (now sheet) ≡ 8192 ⌝ }
     ensures { λ r. ⌜ Answers 0 (all-numbers n scope (decode-sheet (now (sheet .entry)))) (now (out .entry)) r (now (out .exit)) ⌝ }
@@ -29,13 +71,8 @@ fn write_list(out: &mut [u16], sheet: &[u8], n: Network, scope: Scope) -> Output
         let count = builder::list_all(out, sheet, n, scope);
         return Output::Written(count);
     }
-    let mut none = [0u16; 1];
-    let needed = builder::list_all(&mut none, sheet, n, scope);
-    if out.len() < needed {
-        return Output::TooShort(needed);
-    }
-    builder::list_all(out, sheet, n, scope);
-    Output::Written(needed)
+    let mut draft = [0u16; DRAFT];
+    write_drafted(out, sheet, n, scope, &mut draft)
 }
 
 // What refuses the list of findings of a sheet: 5, 3, 4, 6, or 0.

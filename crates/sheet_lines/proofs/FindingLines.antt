@@ -20,9 +20,10 @@ use Rattle.listings.specs.Inspect.{listed-text, whole-text}
 use Rattle.builder.specs.between.Builder.{list-most, findings-most}
 use Rattle.sheet_lines.specs.Types.{Network, Finding, Output}
 use Rattle.text.specs.between.Lines.{far, findings-text}
-use Rattle.text.proofs.OutputLaws as output-laws
-use Rattle.text.proofs.OutputLaws.{written-unrefused, short-unrefused, refused-not, written-whole, written-many}
-use Rattle.sheet_lines.specs.between.Sheets.{is-listed, whole-at, whole-count}
+use Rattle.text.proofs.OutputLaws.{written-unrefused, short-unrefused, refused-not, written-fits, short-lacks, written-whole, written-many}
+use Rattle.sheet_lines.specs.declared.whole.Whole.{Whole}
+use Rattle.sheet_lines.specs.declared.whole.Listed.{Listed}
+use Rattle.sheet_lines.specs.between.Sheets.{is-listed, whole-at, whole-count, PutsWhole, Lists}
 
 -- digits
 
@@ -149,8 +150,8 @@ module _ (at : ℕ) (near : at ≤ far) (n : Network) (sheet : List ℕ) (good :
   unfolding whole-count
   count-there = rw is-so
 
--- the list of a sheet, in a buffer that has room for any, as the call answers it
-module _ (n : Network) (sheet buffer : List ℕ) (many : length buffer ≡ list-most) (at : ℕ) (near : at ≤ far)
+-- the list of a sheet, as the call that lists it in a buffer answers it
+module _ (n : Network) (sheet buffer : List ℕ) (at : ℕ) (near : at ≤ far)
     (r : Output) (told : reply r ≡ output (sheet-list-refusal n sheet) (sheet-list n sheet) buffer) where
   abbrev xs : List ℕ
   xs = sheet-list n sheet
@@ -164,20 +165,20 @@ module _ (n : Network) (sheet buffer : List ℕ) (many : length buffer ≡ list-
       let no = ne-eqb (sheet-list-refusal n sheet) 0 (refused-not (sheet-list-refusal n sheet) xs buffer r told k e) in
       (rw (le-leb at far near, no), rw (le-leb at far near, no))
 
-  fits : sheet-list-refusal n sheet ≡ 0 → length xs ≤ length buffer
-  fits good = omega (arith, many, sheet-list-most n sheet good)
-
-  pub never-short {ℓ} : {P : Type ℓ} (k : ℕ) → r ≡ Output.TooShort k → P
-  never-short k e =
+  pub short-left : (k : ℕ) → r ≡ Output.TooShort k → (sheet-list-refusal n sheet ≡ 0) × (length buffer < length (sheet-list n sheet))
+  short-left k e =
       let good = short-unrefused (sheet-list-refusal n sheet) xs buffer r told k e in
-      output-laws.never-short (sheet-list-refusal n sheet) xs buffer good (fits good) r told k e
+      (good, short-lacks (sheet-list-refusal n sheet) xs buffer r told good k e)
 
   module _ (k : ℕ) (e : r ≡ Output.Written k) where
     good : sheet-list-refusal n sheet ≡ 0
     good = written-unrefused (sheet-list-refusal n sheet) xs buffer r told k e
 
+    fits : length xs ≤ length buffer
+    fits = written-fits (sheet-list-refusal n sheet) xs buffer r told good k e
+
     length-is : k ≡ length xs
-    length-is = written-many (sheet-list-refusal n sheet) xs buffer good (fits good) r told k e
+    length-is = written-many (sheet-list-refusal n sheet) xs buffer good fits r told k e
 
     pub counted : k / 4 ≡ whole-count at n sheet
     unfolding sheet-list
@@ -189,9 +190,23 @@ module _ (n : Network) (sheet buffer : List ℕ) (many : length buffer ≡ list-
     module _ (after : List ℕ) (left : after ≡ output-after (sheet-list-refusal n sheet) xs buffer) where
       pub found-fit : 4 * (k / 4) ≤ length after
       unfolding sheet-list
-      found-fit = omega (arith, list-there 70 [] fs (sheet-list-refusal n sheet) xs buffer refl good (fits good) k length-is after left)
+      found-fit = omega (arith, list-there 70 [] fs (sheet-list-refusal n sheet) xs buffer refl good fits k length-is after left)
 
       pub found-text : findings-text 70 [] (take (4 * (k / 4)) after) ≡ whole-at at n sheet
       unfolding whole-text sheet-list
       found-text =
-          list-printed 70 [] fs (sheet-list-refusal n sheet) xs buffer refl good (fits good) k length-is after left ∙ sym (whole-there at near n sheet good)
+          list-printed 70 [] fs (sheet-list-refusal n sheet) xs buffer refl good fits k length-is after left ∙ sym (whole-there at near n sheet good)
+
+-- an array with room for any list has room for this one
+pub room-for-any : (n : Network) (sheet : List ℕ) (room : ℕ) → room ≡ list-most → sheet-list-refusal n sheet ≡ 0 → room < length (sheet-list n sheet) → ⊥
+room-for-any n sheet room e good h = absurd (omega (arith, e, h, sheet-list-most n sheet good))
+
+-- what listing in an array came to, by its case
+module _ (at : ℕ) (n : Network) (sheet : List ℕ) (room : ℕ) (before after : List ℕ) (r : Listed) (came : Lists at n sheet room before after r) where
+  pub lines-put : (w : Whole) → r ≡ Listed.Lines w → PutsWhole at n sheet before w after
+  unfolding Lists
+  lines-put w e = rw e at came
+
+  pub none-put : r ≡ Listed.TooShort → (sheet-list-refusal n sheet ≡ 0) × (room < length (sheet-list n sheet)) × (after ≡ before)
+  unfolding Lists
+  none-put e = rw e at came

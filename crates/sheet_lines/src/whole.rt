@@ -4,9 +4,9 @@ ghost use mathlib.Core.List.{[]};
 ghost use Prim.Native.Nat.{_*_, _≤_};
 ghost use lib.ListN.{length, take};
 ghost use Rattle.timetable.specs.Outputs.{Puts};
-ghost use Rattle.builder.specs.between.Builder.{list-most, findings-most};
 ghost use Rattle.text.specs.between.Lines.{far, findings-text};
-ghost use Rattle.sheet_lines.specs.between.Sheets.{whole-at, whole-count};
+ghost use Rattle.sheet_lines.specs.declared.whole.Listed.{Listed};
+ghost use Rattle.sheet_lines.specs.between.Sheets.{PutsWhole, Lists};
 use findings::calls;
 use network::Network;
 use text::FAR;
@@ -33,37 +33,74 @@ fn put_lines(out: &mut [u8], at: usize, numbers: &[u16], count: usize) -> usize
     found::put_findings(out, at, heading, numbers, count)
 }
 
+// What listing a sheet in a lent array comes to.
+enum Listed {
+    // The lines are put, or there are none to put.
+    Lines(Whole),
+    // The array has no room for the list.
+    TooShort,
+}
+
+// So many lines, up to this place.
+fn lines_to(at: usize, count: u32) -> Listed
+    ensures { λ r. ⌜ r ≡ Listed.Lines (record { at = at; count = count }) ⌝ }
+{
+    let whole = Whole {
+        at: at,
+        count: count,
+    };
+    Listed::Lines(whole)
+}
+
 // All findings of a sheet, listed in a lent array.
-fn put_listed(out: &mut [u8], at: usize, sheet: &[u8], n: Network, numbers: &mut [u16]) -> Whole
-    requires { ⌜ (at ≤ far) × (length (now numbers) ≡ list-most) ⌝ }
-    ensures { λ r. ⌜
-        Puts at (whole-at at n (now (sheet .entry))) (now (out .entry)) (r .at) (now (out .exit)) (26 * findings-most)
-        × (r .count ≡ whole-count at n (now (sheet .entry))) ⌝ }
+fn put_listed(out: &mut [u8], at: usize, sheet: &[u8], n: Network, numbers: &mut [u16]) -> Listed
+    requires { ⌜ at ≤ far ⌝ }
+    ensures { λ r. ⌜ Lists at n (now (sheet .entry)) (length (now (numbers .entry))) (now (out .entry)) (now (out .exit)) r ⌝ }
 {
     let listed = calls::sheet_findings(sheet, n, numbers);
     match listed {
         Output::Written(k) => {
             let count = k / 4;
             let next = put_lines(out, at, numbers, count);
-            Whole {
-                at: next,
-                count: count as u32,
-            }
+            lines_to(next, count as u32)
         }
-        Output::Refused(_k) => Whole { at: at, count: 0 },
-        Output::TooShort(_k) => Whole { at: at, count: 0 },
+        Output::Refused(_k) => lines_to(at, 0),
+        Output::TooShort(_k) => Listed::TooShort,
     }
 }
 
-// The same with an array of its own; nothing where the place is too far.
+// In an array that has room for any list.
+fn put_any(out: &mut [u8], at: usize, sheet: &[u8], n: Network) -> Whole
+    requires { ⌜ at ≤ far ⌝ }
+    ensures { λ r. ⌜ PutsWhole at n (now (sheet .entry)) (now (out .entry)) r (now (out .exit)) ⌝ }
+{
+    let mut numbers = [0u16; findings::MOST];
+    let listed = put_listed(out, at, sheet, n, &mut numbers);
+    match listed {
+        Listed::Lines(w) => w,
+        Listed::TooShort => Whole { at: at, count: 0 },
+    }
+}
+
+// In a short array, which most lists fit, and else in one that has room for any.
+fn put_near(out: &mut [u8], at: usize, sheet: &[u8], n: Network) -> Whole
+    requires { ⌜ at ≤ far ⌝ }
+    ensures { λ r. ⌜ PutsWhole at n (now (sheet .entry)) (now (out .entry)) r (now (out .exit)) ⌝ }
+{
+    let mut numbers = [0u16; 8192];
+    let listed = put_listed(out, at, sheet, n, &mut numbers);
+    match listed {
+        Listed::Lines(w) => w,
+        Listed::TooShort => put_any(out, at, sheet, n),
+    }
+}
+
+// Nothing where the place is too far.
 pub fn put_whole(out: &mut [u8], at: usize, sheet: &[u8], n: Network) -> Whole
-    ensures { λ r. ⌜
-        Puts at (whole-at at n (now (sheet .entry))) (now (out .entry)) (r .at) (now (out .exit)) (26 * findings-most)
-        × (r .count ≡ whole-count at n (now (sheet .entry))) ⌝ }
+    ensures { λ r. ⌜ PutsWhole at n (now (sheet .entry)) (now (out .entry)) r (now (out .exit)) ⌝ }
 {
     if FAR < at {
         return Whole { at: at, count: 0 };
     }
-    let mut numbers = [0u16; findings::MOST];
-    put_listed(out, at, sheet, n, &mut numbers)
+    put_near(out, at, sheet, n)
 }

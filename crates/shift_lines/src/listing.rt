@@ -20,6 +20,7 @@ use machine::list;
 use network::Network;
 use sheet_lines::totals;
 use sheet_lines::whole;
+use text::draft;
 use text::line;
 use text::refusal;
 use timetable::Output;
@@ -27,6 +28,9 @@ use timetable::Tally;
 
 // As many bytes as are printed at most: shift-most of specs/between/Listing.antt.
 pub const MOST: usize = 68 * 1000 + (26 * (findings::MOST / 4) + 136);
+
+// A short text, as most are, has at most as many.
+pub const SHORT: usize = 98304;
 
 // "A: the tally."
 fn put_tally(out: &mut [u8], at: usize, y: Tally) -> usize
@@ -120,8 +124,25 @@ fn put_listing(out: &mut [u8], input: &[u8]) -> usize
     put_run(out, &input[at..], r.network, width, count as u32)
 }
 
-// All lines, into a buffer that has room for any; one that is shorter is first counted for, so that one that is too
-// short is left as it was.
+// The text is made in a lent draft first, so that a buffer that is too short is left as it was; one that the draft has no
+// room for is then made again.
+fn write_drafted(input: &[u8], out: &mut [u8], draft: &mut [u8]) -> Output
+    ensures { λ r. ⌜
+        (reply r ≡ output 0 (shift-text (now (input .entry))) (now (out .entry)))
+        × (now (out .exit) ≡ output-after 0 (shift-text (now (input .entry))) (now (out .entry))) ⌝ }
+{
+    let needed = put_listing(draft, input);
+    if needed <= draft.len() {
+        return draft::hand_over(out, draft, needed);
+    }
+    if out.len() < needed {
+        return Output::TooShort(needed);
+    }
+    put_listing(out, input);
+    Output::Written(needed)
+}
+
+// All lines; a buffer that has room for any text is written at once.
 pub fn write_listing(input: &[u8], out: &mut [u8]) -> Output
     ensures { λ r. ⌜
         (reply r ≡ output 0 (shift-text (now (input .entry))) (now (out .entry)))
@@ -131,11 +152,6 @@ pub fn write_listing(input: &[u8], out: &mut [u8]) -> Output
         let length = put_listing(out, input);
         return Output::Written(length);
     }
-    let mut none = [0u8; 1];
-    let needed = put_listing(&mut none, input);
-    if out.len() < needed {
-        return Output::TooShort(needed);
-    }
-    put_listing(out, input);
-    Output::Written(needed)
+    let mut draft = [0u8; SHORT];
+    write_drafted(input, out, &mut draft)
 }

@@ -11,11 +11,13 @@ use native.Mathlib.Omega.{arith}
 use lib.Dec.{leb}
 use lib.ListN.{length, take, drop}
 use lib.Seq.{take-append-seam}
+use borrow.Author.Tests.{leb-true, leb-false}
 use Rattle.base.specs.Choice.{if_then_else_}
 use Rattle.timetable.specs.declared.Output.{Output}
 use Rattle.timetable.specs.Outputs.{Puts, Reply, written, needed, refused, reply, output, output-after}
 use Rattle.timetable.proofs.BuffersFilled.{put-whole, too-short, fits-in, refused-so}
 use Rattle.timetable.proofs.ReplyLaws.{written-alone, clash}
+use Rattle.timetable.proofs.DraftsHandedOver.{draft-holds}
 
 -- what an answer says of its call: written, it was not refused; refused, it was; and too short, it was not, and had no
 -- room
@@ -42,6 +44,28 @@ module _ {X : Type 0} (refusal : ℕ) (xs b : List X) (r : Output) (answered : r
       go : (c : Bool) → refused k ≡ (if c then written (length xs) else needed (length xs)) → ⊥
       go true q = clash (length xs) (ap (λ (x : Reply). x .size) q)
       go false q = clash (length xs) (ap (λ (x : Reply). x .size) q)
+
+  -- whether there was room, by the answer to a call that is not refused
+  module _ (free : refusal ≡ 0) where
+    by-room : (c : Bool) → leb (length xs) (length b) ≡ c → reply r ≡ (if c then written (length xs) else needed (length xs))
+    unfolding output
+    by-room c e = answered ∙ rw (free, e)
+
+    pub written-fits : (k : ℕ) → r ≡ Output.Written k → length xs ≤ length b
+    unfolding reply
+    written-fits k e = go (leb (length xs) (length b)) refl
+      where
+        go : (c : Bool) → leb (length xs) (length b) ≡ c → length xs ≤ length b
+        go true f = leb-true (length xs) (length b) f
+        go false f = let q : _≡_ {A = ℕ} 0 13 = ap (λ (x : Reply). x .number) (ap reply (sym e) ∙ by-room false f) in absurd (omega (arith, q))
+
+    pub short-lacks : (k : ℕ) → r ≡ Output.TooShort k → length b < length xs
+    unfolding reply
+    short-lacks k e = go (leb (length xs) (length b)) refl
+      where
+        go : (c : Bool) → leb (length xs) (length b) ≡ c → length b < length xs
+        go true f = let q : _≡_ {A = ℕ} 13 0 = ap (λ (x : Reply). x .number) (ap reply (sym e) ∙ by-room true f) in absurd (omega (arith, q))
+        go false f = leb-false (length xs) (length b) f
 
 -- a call that is not refused, of numbers that there is room for
 module _ {X : Type 0} (refusal : ℕ) (xs b : List X) (free : refusal ≡ 0) (fits : length xs ≤ length b) where
@@ -77,3 +101,10 @@ module _ (xs b : List ℕ) (most : ℕ) where
 
     pub put-counted : (r : ℕ) (later : List ℕ) → needed ≤ length b → Puts 0 xs b r later most → Answers (Output.Written needed) later
     put-counted r later h w = let x = fits-in xs b needed (omega (arith, counted .0)) h in (x .0, w .1 ∙ x .1)
+
+    -- the other buffer is a draft that has room for the text
+    pub handed : needed ≤ length c → (r : Output) (later : List ℕ) → (reply r ≡ output 0 (take needed d) b) × (later ≡ output-after 0 (take needed d) b)
+        → Answers r later
+    handed h r later a =
+        let e : take needed d ≡ xs = ap (take needed) (counted .1) ∙ draft-holds xs c needed (counted .0) h in
+        rw (← e) a
