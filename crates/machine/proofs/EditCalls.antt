@@ -344,7 +344,7 @@ module _ (n : Network) (e : Edit) (early : Early n e) where
   unfolding names
   names-touched k l = rw (T-true (sound e) (early .ok)) (touched-reached n k l (meaning e) (early .fits))
 
-  area-named : (a : ℕ) → touches-area n e a ≡ names-group n (area-of n) e a
+  pub area-named : (a : ℕ) → touches-area n e a ≡ names-group n (area-of n) e a
   unfolding touches-area touches-at names-group
   area-named a =
       any-among (λ s. eqb a (area-of n s) && touches (meaning e) s) (λ s. eqb a (area-of n s) && names n e s) (stations-of n)

@@ -1,0 +1,3 @@
+pub mod FileLaws
+pub mod NameLaws
+pub mod RaiseLaws

@@ -1,0 +1,108 @@
+// What a centre asks before it lends a sheet: whether a network can be read, and which areas an edit names.
+ghost use mathlib.Core.Path.{_≡_};
+ghost use Prim.Native.Nat.{_≤_};
+ghost use Rattle.base.specs.Choice.{_if_else_};
+ghost use Rattle.machine.specs.between.Named.{touches-at, touches-area};
+ghost use Rattle.strakewhip.specs.Replies.{bits};
+ghost use Rattle.strakewhip.specs.Calls.{network-reply, named, named-under, names-reply};
+use crate::input;
+use crate::reply;
+use crate::reply::Reply;
+use actions::early;
+use actions::shape;
+use edit_files::edit::EditRead;
+use network::Network;
+use network_files::reading::read_network;
+use railway::edit::Edit;
+use railway::sorts::Station;
+
+// Refusal and place of a network's file; `length` is what was read.
+#[no_mangle]
+pub extern "C" fn strakewhip_network(network: &[u8]) -> Reply
+    ensures { λ r. ⌜ r ≡ network-reply (now (network .entry)) ⌝ }
+{
+    let read = read_network(network);
+    if read.refusal != 0 {
+        return reply::placed(1, read.refusal, read.place);
+    }
+    reply::sized(0, read.place)
+}
+
+fn is_named(n: Network, e: Edit, a: u8, s: Station) -> bool
+    ensures { λ r. ⌜ r ≡ touches-at n e a s ⌝ }
+{
+    if a == n.group_of(s) {
+        return shape::touched(e, s);
+    }
+    false
+}
+
+// The edit names a station of the area.
+fn names_area(n: Network, e: Edit, a: u8) -> bool
+    ensures { λ r. ⌜ r ≡ touches-area n e a ⌝ }
+{
+    let rows = n.stations;
+    let k = network::in_use(n.stationcount, 16);
+    let mut i: usize = 0;
+    while i < k {
+        let row = rows[i];
+        if is_named(n, e, a, row.station) {
+            return true;
+        }
+        i += 1;
+    }
+    false
+}
+
+// The area's bit where the edit names it, else 0.
+fn bit_of(n: Network, e: Edit, a: u8, bit: usize) -> usize
+    ensures { λ r. ⌜ (r ≡ (bit if touches-area n e a else 0)) × (r ≤ bit) ⌝ }
+{
+    if names_area(n, e, a) {
+        return bit;
+    }
+    0
+}
+
+// Area a as the bit 1 << (a - 1).
+fn named_areas(n: Network, e: Edit) -> usize
+    ensures { λ r. ⌜ r ≡ bits (touches-area n e) ⌝ }
+{
+    let low = bit_of(n, e, 1, 1) + bit_of(n, e, 2, 2) + bit_of(n, e, 3, 4);
+    let high = bit_of(n, e, 4, 8) + bit_of(n, e, 5, 16) + bit_of(n, e, 6, 32);
+    low + high
+}
+
+// Under a network that is read. "one refused with 3 or 7 names none"
+fn names_of(n: Network, e: Edit) -> Reply
+    ensures { λ r. ⌜ r ≡ named n e ⌝ }
+{
+    let refused = early::early_refusal(n, e);
+    if refused != 0 {
+        return reply::plain(refused);
+    }
+    reply::sized(0, named_areas(n, e))
+}
+
+fn names_under(n: Network, edit: &[u8]) -> Reply
+    ensures { λ r. ⌜ r ≡ named-under n (now (edit .entry)) ⌝ }
+{
+    let found = input::one_edit(edit);
+    match found {
+        EditRead::Refused(k, p) => reply::placed(2, k, p),
+        EditRead::Entry(e, _) => names_of(n, e),
+    }
+}
+
+// What refuses the edit before any sheet is looked at, and the areas that it names, as bits in `length`.
+#[no_mangle]
+pub extern "C" fn strakewhip_names(network: &[u8], edit: &[u8]) -> Reply
+    ensures { λ r. ⌜ r ≡ names-reply (now (network .entry)) (now (edit .entry)) ⌝ }
+{
+    let read = read_network(network);
+    if read.refusal != 0 {
+        return reply::placed(1, read.refusal, read.place);
+    }
+    let n = read.network;
+    names_under(n, edit)
+}
