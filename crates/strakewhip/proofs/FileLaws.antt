@@ -11,12 +11,13 @@ use borrow.Author.Tests.{le-leb, lt-leb, eq-eqb, ne-eqb}
 use Rattle.base.specs.Choice.{if_then_else_}
 use Rattle.timetable.specs.Formats.{Outcome, accepted, refused, number, place-of, value-or, read, read-file, ended}
 use Rattle.timetable.specs.declared.Fault.{Fault}
-use Rattle.timetable.specs.NetworkFile.{network-format, network-of, network-fault, unless-fault, read-network}
+use Rattle.timetable.specs.NetworkFile.{blank-network, network-format, network-of, network-fault, unless-fault, read-network}
 use Rattle.timetable.specs.EditsFile.{edit-entry}
 use Rattle.network_files.specs.Answers.{network-answer}
 use Rattle.machine.proofs.FileRefusals.{Told, behind-told, read-told, ended-told}
-use Rattle.strakewhip.specs.Types.{Edit, Network, NetworkRead, Reply}
+use Rattle.strakewhip.specs.Types.{Edit, Network, NetworkRead, OneEdit, Reply}
 use Rattle.strakewhip.specs.Replies.{sized, plain, placed, of-outcome, read-one, by-file, told, left}
+use Rattle.strakewhip.specs.between.OneEdit.{no-edit, edit-answer}
 
 -- a network file is never refused with 0
 
@@ -38,24 +39,46 @@ network-told file =
     behind-told (ended file (read network-format file 0)) (λ x next. unless-fault (network-fault x) (accepted (network-of x) next))
     (ended-told file (read network-format file 0) (read-told network-format file 0)) (λ x next. fault-told (network-fault x) (network-of x) next)
 
-module _ {X : Type 0} (file : List ℕ) (r : NetworkRead) (e : r ≡ network-answer (read-network file)) (bad : ℕ → ℕ → X) (good : Network → X) where
-  pub network-refused : ¬ (r .refusal ≡ 0) → bad (r .refusal) (r .place) ≡ by-file (read-network file) bad good
-  unfolding network-answer number place-of value-or by-file
-  network-refused z = go (read-network file) e
-    where
-      go : (o : Outcome Network) → r ≡ network-answer o → bad (r .refusal) (r .place) ≡ by-file o bad good
-      go (accepted n next) q = absurd (z (ap (λ (x : NetworkRead). x .refusal) q))
-      go (refused k p) q = ap (λ (x : NetworkRead). bad (x .refusal) (x .place)) q
+edit-told : (file : List ℕ) → Told (read-one file)
+unfolding read-one read-file
+edit-told file = ended-told file (read edit-entry file 0) (read-told edit-entry file 0)
 
-  pub network-read : r .refusal ≡ 0 → good (r .network) ≡ by-file (read-network file) bad good
-  unfolding network-answer number place-of value-or by-file
-  network-read z = go (read-network file) refl e
-    where
-      go : (o : Outcome Network) → read-network file ≡ o → r ≡ network-answer o → good (r .network) ≡ by-file o bad good
-      go (accepted n next) f q = ap (λ (x : NetworkRead). good (x .network)) q
-      go (refused k p) f q = absurd (network-told file k p f (sym (ap (λ (x : NetworkRead). x .refusal) q) ∙ z))
+-- what an answer of number, place and value says of an outcome that is never refused with 0
+module _ {A : Type 0} (o : Outcome A) (some : Told o) (blank : A) (k p : ℕ) (a : A) where
+  abbrev pub Tells : Type 0
+  Tells = (k ≡ number o) × (p ≡ place-of o) × (a ≡ value-or blank o)
+
+  module _ {X : Type 0} (bad : ℕ → ℕ → X) (good : A → X) where
+    file-refused : Tells → ¬ (k ≡ 0) → bad k p ≡ by-file o bad good
+    unfolding number place-of by-file
+    file-refused t z = go o (t .0) (t .1)
+      where
+        go : (o : Outcome A) → k ≡ number o → p ≡ place-of o → bad k p ≡ by-file o bad good
+        go (accepted b next) q w = absurd (z q)
+        go (refused j u) q w = rw (q, w)
+
+    file-held : Tells → k ≡ 0 → good a ≡ by-file o bad good
+    unfolding number value-or by-file
+    file-held t z = go o refl (t .0) (t .2)
+      where
+        go : (v : Outcome A) → o ≡ v → k ≡ number v → a ≡ value-or blank v → good a ≡ by-file v bad good
+        go (accepted b next) f q w = ap good w
+        go (refused j u) f q w = absurd (some j u f (sym q ∙ z))
+
+-- a network
 
 module _ (file : List ℕ) (r : NetworkRead) (e : r ≡ network-answer (read-network file)) where
+  network-tells : Tells (read-network file) (network-told file) blank-network (r .refusal) (r .place) (r .network)
+  unfolding network-answer
+  network-tells = (ap (λ (x : NetworkRead). x .refusal) e, ap (λ (x : NetworkRead). x .place) e, ap (λ (x : NetworkRead). x .network) e)
+
+  module _ {X : Type 0} (bad : ℕ → ℕ → X) (good : Network → X) where
+    pub network-refused : ¬ (r .refusal ≡ 0) → bad (r .refusal) (r .place) ≡ by-file (read-network file) bad good
+    network-refused z = file-refused (read-network file) (network-told file) blank-network (r .refusal) (r .place) (r .network) bad good network-tells z
+
+    pub network-read : r .refusal ≡ 0 → good (r .network) ≡ by-file (read-network file) bad good
+    network-read z = file-held (read-network file) (network-told file) blank-network (r .refusal) (r .place) (r .network) bad good network-tells z
+
   pub network-stopped : ¬ (r .refusal ≡ 0) → placed 1 (r .refusal) (r .place) ≡ of-outcome 1 (read-network file)
   unfolding network-answer number place-of value-or of-outcome
   network-stopped z = go (read-network file) e
@@ -74,27 +97,33 @@ module _ (file : List ℕ) (r : NetworkRead) (e : r ≡ network-answer (read-net
 
 -- one edit and nothing behind it
 
-module _ (file : List ℕ) (e : Edit) (next : ℕ) (q : accepted e next ≡ read edit-entry file 0) where
-  pub edit-goes-on : next < length file → refused 1 next ≡ read-one file
-  unfolding read-one read-file ended
-  edit-goes-on h = sym (rw (lt-leb (length file) next h)) ∙ ap (ended file) q
+module _ (file : List ℕ) (e : Edit) (next : ℕ) where
+  pub edit-goes-on : next < length file → edit-answer (refused 1 next) ≡ edit-answer (ended file (accepted e next))
+  unfolding ended
+  edit-goes-on h = sym (rw (lt-leb (length file) next h))
 
-  pub edit-stands : length file ≤ next → accepted e next ≡ read-one file
-  unfolding read-one read-file ended
-  edit-stands h = sym (rw (le-leb (length file) next h)) ∙ ap (ended file) q
+  pub edit-stands : length file ≤ next → edit-answer (accepted e next) ≡ edit-answer (ended file (accepted e next))
+  unfolding ended
+  edit-stands h = sym (rw (le-leb (length file) next h))
 
-pub edit-faulty : (file : List ℕ) (k p : ℕ) → refused k p ≡ read edit-entry file 0 → refused k p ≡ read-one file
+  pub edit-read : accepted e next ≡ read edit-entry file 0 → edit-answer (ended file (accepted e next)) ≡ edit-answer (read-one file)
+  unfolding read-one read-file
+  edit-read q = ap (λ (o : Outcome Edit). edit-answer (ended file o)) q
+
+pub edit-faulty : (file : List ℕ) (k p : ℕ) → refused k p ≡ read edit-entry file 0 → edit-answer (refused k p) ≡ edit-answer (read-one file)
 unfolding read-one read-file ended
-edit-faulty file k p q = ap (ended file) q
+edit-faulty file k p q = ap (λ (o : Outcome Edit). edit-answer (ended file o)) q
 
-module _ {X : Type 0} (o : Outcome Edit) (bad : ℕ → ℕ → X) (good : Edit → X) where
-  pub edit-refused : (k p : ℕ) → refused k p ≡ o → bad k p ≡ by-file o bad good
-  unfolding by-file
-  edit-refused k p q = ap (λ (x : Outcome Edit). by-file x bad good) q
+module _ {X : Type 0} (file : List ℕ) (r : OneEdit) (e : r ≡ edit-answer (read-one file)) (bad : ℕ → ℕ → X) (good : Edit → X) where
+  edit-tells : Tells (read-one file) (edit-told file) no-edit (r .refusal) (r .place) (r .edit)
+  unfolding edit-answer
+  edit-tells = (ap (λ (x : OneEdit). x .refusal) e, ap (λ (x : OneEdit). x .place) e, ap (λ (x : OneEdit). x .edit) e)
 
-  pub edit-held : (e : Edit) (next : ℕ) → accepted e next ≡ o → good e ≡ by-file o bad good
-  unfolding by-file
-  edit-held e next q = ap (λ (x : Outcome Edit). by-file x bad good) q
+  pub edit-refused : ¬ (r .refusal ≡ 0) → bad (r .refusal) (r .place) ≡ by-file (read-one file) bad good
+  edit-refused z = file-refused (read-one file) (edit-told file) no-edit (r .refusal) (r .place) (r .edit) bad good edit-tells z
+
+  pub edit-held : r .refusal ≡ 0 → good (r .edit) ≡ by-file (read-one file) bad good
+  edit-held z = file-held (read-one file) (edit-told file) no-edit (r .refusal) (r .place) (r .edit) bad good edit-tells z
 
 -- a call's ways to end
 

@@ -4,9 +4,9 @@ use mathlib.Core.Path.{_≡_, sym, _∙_, ap}
 use mathlib.Core.Bool.{true, false}
 use mathlib.Core.List.{List}
 use Rattle.timetable.specs.Count.{overfull, raise-refusal, raise}
-use Rattle.timetable.specs.Formats.{accepted, refused}
-use Rattle.strakewhip.specs.Types.{Edit, Tally, Reply}
+use Rattle.strakewhip.specs.Types.{Edit, Tally, OneEdit, Reply}
 use Rattle.strakewhip.specs.Replies.{plain, placed, read-one}
+use Rattle.strakewhip.specs.between.OneEdit.{edit-answer}
 use Rattle.strakewhip.specs.Calls.{tally-of, numbers-of, raise-reply, raise-left}
 use Rattle.strakewhip.proofs.FileLaws.{edit-refused, edit-held}
 
@@ -18,16 +18,16 @@ module _ (edit : List ℕ) (k removed : ℕ) (counts : List ℕ) (y : Tally) (is
   unfolding raise-reply raise-left
   raise-overfull f = let g : overfull (tally-of counts) ≡ true = ap overfull (sym is) ∙ f in (sym (rw g), sym (rw g))
 
-  module _ (f : overfull y ≡ false) where
-    pub raise-faulty : (j p : ℕ) → refused j p ≡ read-one edit → Ends (placed 2 j p) counts
+  module _ (f : overfull y ≡ false) (x : OneEdit) (q : x ≡ edit-answer (read-one edit)) where
+    pub raise-faulty : ¬ (x .refusal ≡ 0) → Ends (placed 2 (x .refusal) (x .place)) counts
     unfolding raise-reply raise-left
-    raise-faulty j p e =
+    raise-faulty z =
         let g : overfull (tally-of counts) ≡ false = ap overfull (sym is) ∙ f in
-        rw g (edit-refused (read-one edit) _ _ j p e, edit-refused (read-one edit) _ _ j p e)
+        rw g (edit-refused edit x q _ _ z, edit-refused edit x q _ _ z)
 
-    pub raise-done : (e : Edit) (next : ℕ) → accepted e next ≡ read-one edit
-        → Ends (plain (raise-refusal y (record { refusal = k; removed = removed }))) (numbers-of (raise y e (record { refusal = k; removed = removed })))
+    pub raise-done : x .refusal ≡ 0
+        → Ends (plain (raise-refusal y (record { refusal = k; removed = removed }))) (numbers-of (raise y (x .edit) (record { refusal = k; removed = removed })))
     unfolding raise-reply raise-left
-    raise-done e next q =
+    raise-done z =
         let g : overfull (tally-of counts) ≡ false = ap overfull (sym is) ∙ f in
-        rw (g, is) (edit-held (read-one edit) _ _ e next q, edit-held (read-one edit) _ _ e next q)
+        rw (g, is) (edit-held edit x q _ _ z, edit-held edit x q _ _ z)

@@ -10,7 +10,6 @@ use crate::reply;
 use crate::reply::Reply;
 use actions::early;
 use actions::shape;
-use edit_files::edit::EditRead;
 use network::Network;
 use network_files::reading::read_network;
 use railway::edit::Edit;
@@ -88,10 +87,11 @@ fn names_under(n: Network, edit: &[u8]) -> Reply
     ensures { λ r. ⌜ r ≡ named-under n (now (edit .entry)) ⌝ }
 {
     let found = input::one_edit(edit);
-    match found {
-        EditRead::Refused(k, p) => reply::placed(2, k, p),
-        EditRead::Entry(e, _) => names_of(n, e),
+    if found.refusal != 0 {
+        return reply::placed(2, found.refusal, found.place);
     }
+    let e = found.edit;
+    names_of(n, e)
 }
 
 // What refuses the edit before any sheet is looked at, and the areas that it names, as bits in `length`.

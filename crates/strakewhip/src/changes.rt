@@ -4,7 +4,6 @@ ghost use Rattle.strakewhip.specs.Calls.{one-reply, one-left, sheet-one-
 use crate::input;
 use crate::reply;
 use crate::reply::Reply;
-use edit_files::edit::EditRead;
 use machine::calls;
 use machine::list;
 use network::Network;
@@ -15,20 +14,22 @@ fn one_on_division(n: Network, edit: &[u8], division: &mut [u8]) -> Reply
     ensures { λ r. ⌜ (r ≡ one-reply n (now (edit .entry)) (now (division .entry))) × (now (division .exit) ≡ one-left n (now (edit .entry)) (now (division .entry))) ⌝ }
 {
     let found = input::one_edit(edit);
-    match found {
-        EditRead::Refused(k, p) => reply::placed(2, k, p),
-        EditRead::Entry(e, _) => reply::of_answer(calls::edit_division(division, n, e)),
+    if found.refusal != 0 {
+        return reply::placed(2, found.refusal, found.place);
     }
+    let e = found.edit;
+    reply::of_answer(calls::edit_division(division, n, e))
 }
 
 fn one_on_sheet(n: Network, edit: &[u8], sheet: &mut [u8]) -> Reply
     ensures { λ r. ⌜ (r ≡ sheet-one-reply n (now (edit .entry)) (now (sheet .entry))) × (now (sheet .exit) ≡ sheet-one-left n (now (edit .entry)) (now (sheet .entry))) ⌝ }
 {
     let found = input::one_edit(edit);
-    match found {
-        EditRead::Refused(k, p) => reply::placed(2, k, p),
-        EditRead::Entry(e, _) => reply::of_answer(calls::edit_sheet(sheet, n, e)),
+    if found.refusal != 0 {
+        return reply::placed(2, found.refusal, found.place);
     }
+    let e = found.edit;
+    reply::of_answer(calls::edit_sheet(sheet, n, e))
 }
 
 // One edit, by the bytes that it has in a file.

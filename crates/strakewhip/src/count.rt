@@ -4,7 +4,6 @@ ghost use Rattle.strakewhip.specs.Calls.{tally-of, numbers-of, raise-rep
 use crate::input;
 use crate::reply;
 use crate::reply::Reply;
-use edit_files::edit::EditRead;
 use timetable::Answer;
 use timetable::Tally;
 
@@ -40,17 +39,16 @@ pub extern "C" fn strakewhip_raise(
         return reply::plain(5);
     }
     let found = input::one_edit(edit);
-    match found {
-        EditRead::Refused(k, p) => reply::placed(2, k, p),
-        EditRead::Entry(e, _) => {
-            let a = Answer {
-                refusal: refusal,
-                removed: removed,
-            };
-            let end = tally::raised(y, e, a);
-            let next = end.tally;
-            put_tally(counts, next);
-            reply::plain(end.refusal)
-        }
+    if found.refusal != 0 {
+        return reply::placed(2, found.refusal, found.place);
     }
+    let e = found.edit;
+    let a = Answer {
+        refusal: refusal,
+        removed: removed,
+    };
+    let end = tally::raised(y, e, a);
+    let next = end.tally;
+    put_tally(counts, next);
+    reply::plain(end.refusal)
 }

@@ -3,10 +3,18 @@
 use mathlib.Core.Path.{sym, _∙_, ap}
 use denote.Ref.{now}
 use borrow.Author.Needs.{needs}
-use Rattle.edit_files.specs.Answers.{edit-outcome}
 use Rattle.strakewhip.specs.Replies.{plain}
 use Rattle.strakewhip.specs.Calls.{numbers-of}
 use Rattle.strakewhip.proofs.RaiseLaws.{raise-overfull, raise-faulty, raise-done}
+use Rattle.strakewhip.proofs.count.strakewhip_raise.Reads as reads
+use Rattle.strakewhip.proofs.count.strakewhip_raise.Lts as lts
+use Rattle.strakewhip.proofs.count.put_tally.Reads as put-tally-reads
+use Rattle.strakewhip.proofs.count.tally_in.Reads as tally-in-reads
+use Rattle.strakewhip.proofs.input.one_edit.Reads as one-edit-reads
+use Rattle.strakewhip.proofs.reply.placed.Reads as placed-reads
+use Rattle.strakewhip.proofs.reply.plain.Reads as plain-reads
+use Rattle.tally.proofs.is_overfull.Reads as is-overfull-reads
+use Rattle.tally.proofs.raised.Reads as raised-reads
 use Rattle.strakewhip.proofs.count.strakewhip_raise.Statement.{statement}
 use Rattle.strakewhip.proofs.count.strakewhip_raise.Tie as tie
 
@@ -30,14 +38,17 @@ returns c =
 one-edit-requires : tie.Need-one-edit-requires
 one-edit-requires c κs = search needs
 
-enum-known-found : tie.Need-enum-known-found
-enum-known-found c = search needs
-
 placed-requires : tie.Need-placed-requires
 placed-requires c κs = search needs
 
-enum-known-found-2 : tie.Need-enum-known-found-2
-enum-known-found-2 c = search needs
+returns-2 : tie.Need-returns-2
+returns-2 c =
+    let s = c .before .before .before .before .before .before .before .before .before .args in
+    let y = c .before .before .before .before .before .before .tally-in in
+    let f = sym (c .before .before .before .before .before .is-overfull .ensures) ∙ c .before .before .before .before .if1 .left in
+    let r = c .before .before .before .one-edit in
+    let x = raise-faulty (now (s .edit)) (s .refusal) (s .removed) (now (s .counts)) (y .result) (y .ensures) f (r .result) (r .ensures) (c .before .if2 .taken) in
+    (c .placed .ensures ∙ x .0, x .1)
 
 raised-requires : tie.Need-raised-requires
 raised-requires c κs = search needs
@@ -48,26 +59,15 @@ put-tally-requires c κs = search needs
 plain-requires-2 : tie.Need-plain-requires-2
 plain-requires-2 c κs = search needs
 
-returns-2 : tie.Need-returns-2
-unfolding edit-outcome
-returns-2 c =
-    let s = c .before .before .before .before .before .before .before .before .before .before .args in
-    let y = c .before .before .before .before .before .before .before .tally-in in
-    let f = sym (c .before .before .before .before .before .before .is-overfull .ensures) ∙ c .before .before .before .before .before .if1 .left in
-    let g = c .before .before .found .given in
-    let x = raise-faulty (now (s .edit)) (s .refusal) (s .removed) (now (s .counts)) (y .result) (y .ensures) f (g .0 .0) (g .0 .1 .0) (ap edit-outcome (sym (g .1)) ∙ c .before .before .before .before .one-edit .ensures) in
-    (c .placed .ensures ∙ x .0, x .1)
-
 returns-3 : tie.Need-returns-3
-unfolding edit-outcome
 returns-3 c =
-    let s = c .before .before .before .before .before .before .before .before .before .before .before .before .before .before .args in
-    let y = c .before .before .before .before .before .before .before .before .before .before .before .tally-in in
-    let f = sym (c .before .before .before .before .before .before .before .before .before .before .is-overfull .ensures) ∙ c .before .before .before .before .before .before .before .before .before .if1 .left in
-    let g = c .before .before .before .before .before .before .found2 .given in
-    let r = c .before .before .before .before .raised .ensures in
-    let x = raise-done (now (s .edit)) (s .refusal) (s .removed) (now (s .counts)) (y .result) (y .ensures) f (g .0 .0) (g .0 .1 .0) (ap edit-outcome (sym (g .1)) ∙ c .before .before .before .before .before .before .before .before .one-edit .ensures) in
-    (c .plain2 .ensures ∙ ap (λ k. plain k) (r .0) ∙ x .0, c .before .put-tally .ensures ∙ ap numbers-of (r .1) ∙ x .1)
+    let s = c .before .before .before .before .before .before .before .before .before .before .before .before .before .args in
+    let y = c .before .before .before .before .before .before .before .before .before .before .tally-in in
+    let f = sym (c .before .before .before .before .before .before .before .before .before .is-overfull .ensures) ∙ c .before .before .before .before .before .before .before .before .if1 .left in
+    let r = c .before .before .before .before .before .before .before .one-edit in
+    let end = c .before .before .before .before .raised .ensures in
+    let x = raise-done (now (s .edit)) (s .refusal) (s .removed) (now (s .counts)) (y .result) (y .ensures) f (r .result) (r .ensures) (c .before .before .before .before .before .if2 .left) in
+    (c .plain2 .ensures ∙ ap (λ k. plain k) (end .0) ∙ x .0, c .before .put-tally .ensures ∙ ap numbers-of (end .1) ∙ x .1)
 
 pub strakewhip-raise-spec : {M : Type 1} → statement M
 strakewhip-raise-spec =
@@ -78,11 +78,9 @@ strakewhip-raise-spec =
     plain-requires
     returns
     one-edit-requires
-    enum-known-found
     placed-requires
-    enum-known-found-2
+    returns-2
     raised-requires
     put-tally-requires
     plain-requires-2
-    returns-2
     returns-3)

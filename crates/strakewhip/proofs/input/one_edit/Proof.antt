@@ -3,7 +3,12 @@ use mathlib.Core.Path.{sym, _∙_, ap}
 use denote.Ref.{now}
 use borrow.Author.Needs.{needs}
 use Rattle.edit_files.specs.Answers.{edit-outcome}
-use Rattle.strakewhip.proofs.FileLaws.{edit-goes-on, edit-stands, edit-faulty}
+use Rattle.strakewhip.proofs.FileLaws.{edit-read, edit-faulty}
+use Rattle.strakewhip.proofs.input.one_edit.Reads as reads
+use Rattle.strakewhip.proofs.input.one_edit.Lts as lts
+use Rattle.edit_files.proofs.edit.read_edit.Reads as read-edit-reads
+use Rattle.strakewhip.proofs.input.ended_edit.Reads as ended-edit-reads
+use Rattle.strakewhip.proofs.input.refused_edit.Reads as refused-edit-reads
 use Rattle.strakewhip.proofs.input.one_edit.Statement.{statement}
 use Rattle.strakewhip.proofs.input.one_edit.Tie as tie
 
@@ -13,31 +18,37 @@ read-edit-requires c κs = search needs
 enum-known-read : tie.Need-enum-known-read
 enum-known-read c = search needs
 
+refused-edit-requires : tie.Need-refused-edit-requires
+refused-edit-requires c κs = search needs
+
 enum-known-read-2 : tie.Need-enum-known-read-2
 enum-known-read-2 c = search needs
+
+ended-edit-requires : tie.Need-ended-edit-requires
+ended-edit-requires c κs = search needs
 
 returns : tie.Need-returns
 unfolding edit-outcome
 returns c =
     let s = c .before .before .before .before .before .before .args in
-    let g = c .before .before .read2 .given in
-    edit-goes-on (now (s .file)) (g .0 .0) (g .0 .1 .0) (ap edit-outcome (sym (g .1)) ∙ c .before .before .before .before .read-edit .ensures) (c .if1 .taken)
+    let g = c .before .before .read .given in
+    c .refused-edit .ensures ∙ edit-faulty (now (s .file)) (g .0 .0) (g .0 .1 .0) (ap edit-outcome (sym (g .1)) ∙ c .before .before .before .before .read-edit .ensures)
 
 returns-2 : tie.Need-returns-2
 unfolding edit-outcome
 returns-2 c =
-    let s = c .before .before .before .before .before .args in
-    let g = c .before .read .given in
-    edit-faulty (now (s .file)) (g .0 .0) (g .0 .1 .0) (ap edit-outcome (sym (g .1)) ∙ c .before .before .before .read-edit .ensures)
-
-returns-3 : tie.Need-returns-3
-unfolding edit-outcome
-returns-3 c =
     let s = c .before .before .before .before .before .before .args in
     let g = c .before .before .read2 .given in
-    edit-stands (now (s .file)) (g .0 .0) (g .0 .1 .0) (ap edit-outcome (sym (g .1)) ∙ c .before .before .before .before .read-edit .ensures) (c .if1 .left)
+    c .ended-edit .ensures ∙ edit-read (now (s .file)) (g .0 .0) (g .0 .1 .0) (ap edit-outcome (sym (g .1)) ∙ c .before .before .before .before .read-edit .ensures)
 
 pub one-edit-spec : {M : Type 1} → statement M
 one-edit-spec =
     tie.close
-    (tie.spec read-edit-requires enum-known-read enum-known-read-2 returns returns-2 returns-3)
+    (tie.spec
+    read-edit-requires
+    enum-known-read
+    refused-edit-requires
+    enum-known-read-2
+    ended-edit-requires
+    returns
+    returns-2)
