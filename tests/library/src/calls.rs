@@ -1,0 +1,210 @@
+//! Each call made twice, as C makes it and by the wrapper, and both compared with what the second implementation says.
+
+use crate::model;
+use std::collections::{BTreeMap, BTreeSet};
+use strakewhip::raw::{self, Reply};
+use strakewhip::{Error, File};
+
+/// Counts what was compared, and tells what differs.
+#[derive(Default)]
+pub struct Report {
+    pub compared: u64,
+    pub refusals: [u64; 14],
+    pub differing: u64,
+    pub place: String,
+    /// Each call with the refusals that it answered, and the file that each was of.
+    pub answered: BTreeSet<(&'static str, u8, u8)>,
+    /// What was to come about by chance, and how often it did.
+    pub met: BTreeMap<&'static str, u64>,
+}
+
+/// What the wrapper makes of a reply: the counts that a function answers, or the error.
+type Wrapped = Result<(u8, usize), Error>;
+
+impl Report {
+    pub fn meets(&mut self, what: &'static str, met: bool) {
+        *self.met.entry(what).or_default() += u64::from(met);
+    }
+
+    fn differs(&mut self, call: &str, what: String) {
+        self.differing += 1;
+        if self.differing <= 20 {
+            println!("library: {call} differs, {}: {what}", self.place);
+        }
+    }
+
+    fn replies(&mut self, call: &'static str, reply: Reply, expected: Reply, wrapped: Wrapped) {
+        self.compared += 1;
+        self.answered.insert((call, reply.refusal, reply.file));
+        self.refusals[usize::from(reply.refusal.min(13))] += 1;
+        if reply != expected {
+            self.differs(call, format!("{reply:?}, expected {expected:?}"));
+        }
+        let same = match wrapped {
+            Ok(counts) => reply.refusal == 0 && counts == (reply.removed, reply.length),
+            Err(error) => {
+                let place = match error.place {
+                    None => (0, 0),
+                    Some((File::Network, place)) => (1, place),
+                    Some((File::Other, place)) => (2, place),
+                };
+                (error.refusal.number(), place, error.needed)
+                    == (reply.refusal, (reply.file, reply.place), reply.length)
+            }
+        };
+        if !same {
+            self.differs(call, format!("{reply:?}, wrapped {wrapped:?}"));
+        }
+    }
+
+    fn buffers<T: PartialEq>(&mut self, call: &str, found: &[T], wrapped: &[T], expected: &[T]) {
+        for (who, later) in [("C", found), ("the wrapper", wrapped)] {
+            if later != expected {
+                let at = later.iter().zip(expected).position(|(one, other)| one != other);
+                self.differs(call, format!("from {who} the buffer is another one at {at:?}"));
+            }
+        }
+    }
+
+    pub fn network(&mut self, network: &[u8]) {
+        let reply = unsafe { raw::strakewhip_network(network.as_ptr(), network.len()) };
+        let wrapped = strakewhip::network(network).map(|length| (0, length));
+        self.replies("network", reply, model::network(network), wrapped);
+    }
+
+    pub fn names(&mut self, network: &[u8], edit: &[u8]) {
+        let reply = unsafe { raw::strakewhip_names(network.as_ptr(), network.len(), edit.as_ptr(), edit.len()) };
+        let wrapped = strakewhip::names(network, edit).map(|areas| (0, areas.iter().map(|area| 1 << (area - 1)).sum()));
+        self.replies("names", reply, model::names(network, edit), wrapped);
+    }
+
+    pub fn edit(&mut self, network: &[u8], edit: &[u8], division: &mut [u8]) -> Reply {
+        let (mut own, mut expected) = (division.to_vec(), division.to_vec());
+        let (n, e, d) = (network, edit, &mut *division);
+        let reply = unsafe { raw::strakewhip_edit(n.as_ptr(), n.len(), e.as_ptr(), e.len(), d.as_mut_ptr(), d.len()) };
+        let wrapped = strakewhip::edit(network, edit, &mut own).map(|removed| (removed, 0));
+        self.replies("edit", reply, model::edit(network, edit, &mut expected), wrapped);
+        self.buffers("edit", division, &own, &expected);
+        reply
+    }
+
+    pub fn edit_sheet(&mut self, network: &[u8], edit: &[u8], sheet: &mut [u8]) -> Reply {
+        let (mut own, mut expected) = (sheet.to_vec(), sheet.to_vec());
+        let (n, e, d) = (network, edit, &mut *sheet);
+        let reply =
+            unsafe { raw::strakewhip_edit_sheet(n.as_ptr(), n.len(), e.as_ptr(), e.len(), d.as_mut_ptr(), d.len()) };
+        let wrapped = strakewhip::edit_sheet(network, edit, &mut own).map(|removed| (removed, 0));
+        self.replies("edit_sheet", reply, model::edit_sheet(network, edit, &mut expected), wrapped);
+        self.buffers("edit_sheet", sheet, &own, &expected);
+        reply
+    }
+
+    pub fn run(&mut self, network: &[u8], edits: &[u8], division: &mut [u8], answers: &mut [u8]) -> Reply {
+        let (mut own, mut told) = (division.to_vec(), answers.to_vec());
+        let (mut expected, mut due) = (division.to_vec(), answers.to_vec());
+        let (n, e, d, a) = (network, edits, &mut *division, &mut *answers);
+        let reply = unsafe {
+            let (to, room) = (a.as_mut_ptr(), a.len());
+            raw::strakewhip_run(n.as_ptr(), n.len(), e.as_ptr(), e.len(), d.as_mut_ptr(), d.len(), to, room)
+        };
+        let wrapped = strakewhip::run(network, edits, &mut own, &mut told).map(|length| (0, length));
+        self.replies("run", reply, model::run(network, edits, &mut expected, &mut due), wrapped);
+        self.buffers("run", division, &own, &expected);
+        self.buffers("run", answers, &told, &due);
+        reply
+    }
+
+    pub fn divide(&mut self, network: &[u8], sheet: &[u8], division: &mut [u8]) {
+        let (mut own, mut expected) = (division.to_vec(), division.to_vec());
+        let (n, s, d) = (network, sheet, &mut *division);
+        let reply =
+            unsafe { raw::strakewhip_divide(n.as_ptr(), n.len(), s.as_ptr(), s.len(), d.as_mut_ptr(), d.len()) };
+        let wrapped = strakewhip::divide(network, sheet, &mut own).map(|()| (0, 0));
+        self.replies("divide", reply, model::divide(network, sheet, &mut expected), wrapped);
+        self.buffers("divide", division, &own, &expected);
+    }
+
+    pub fn merge(&mut self, network: &[u8], division: &[u8], sheet: &mut [u8]) {
+        let (mut own, mut expected) = (sheet.to_vec(), sheet.to_vec());
+        let (n, s, d) = (network, division, &mut *sheet);
+        let reply = unsafe { raw::strakewhip_merge(n.as_ptr(), n.len(), s.as_ptr(), s.len(), d.as_mut_ptr(), d.len()) };
+        let wrapped = strakewhip::merge(network, division, &mut own).map(|()| (0, 0));
+        self.replies("merge", reply, model::merge(network, division, &mut expected), wrapped);
+        self.buffers("merge", sheet, &own, &expected);
+    }
+
+    pub fn findings(&mut self, network: &[u8], sheet: &[u8], out: &mut [u16]) -> Reply {
+        let (mut own, mut expected) = (out.to_vec(), out.to_vec());
+        let (n, s, o) = (network, sheet, &mut *out);
+        let reply =
+            unsafe { raw::strakewhip_findings(n.as_ptr(), n.len(), s.as_ptr(), s.len(), o.as_mut_ptr(), o.len()) };
+        let wrapped = strakewhip::findings(network, sheet, &mut own).map(|length| (0, length));
+        self.replies("findings", reply, model::findings(network, sheet, &mut expected), wrapped);
+        self.buffers("findings", out, &own, &expected);
+        reply
+    }
+
+    pub fn area_findings(&mut self, network: &[u8], sheet: &[u8], area: u8, out: &mut [u16]) -> Reply {
+        let (mut own, mut expected) = (out.to_vec(), out.to_vec());
+        let (n, s, o) = (network, sheet, &mut *out);
+        let reply = unsafe {
+            raw::strakewhip_area_findings(n.as_ptr(), n.len(), s.as_ptr(), s.len(), area, o.as_mut_ptr(), o.len())
+        };
+        let wrapped = strakewhip::area_findings(network, sheet, area, &mut own).map(|length| (0, length));
+        self.replies("area_findings", reply, model::area_findings(network, sheet, area, &mut expected), wrapped);
+        self.buffers("area_findings", out, &own, &expected);
+        reply
+    }
+
+    pub fn pair_findings(&mut self, network: &[u8], sheets: [&[u8]; 2], areas: [u8; 2], out: &mut [u16]) -> Reply {
+        let (mut own, mut expected) = (out.to_vec(), out.to_vec());
+        let (n, [s, t], [a, b], o) = (network, sheets, areas, &mut *out);
+        let reply = unsafe {
+            let (to, room) = (o.as_mut_ptr(), o.len());
+            raw::strakewhip_pair_findings(n.as_ptr(), n.len(), s.as_ptr(), s.len(), t.as_ptr(), t.len(), a, b, to, room)
+        };
+        let wrapped = strakewhip::pair_findings(network, s, t, a, b, &mut own).map(|length| (0, length));
+        self.replies("pair_findings", reply, model::pair_findings(network, s, t, a, b, &mut expected), wrapped);
+        self.buffers("pair_findings", out, &own, &expected);
+        reply
+    }
+
+    pub fn read(&mut self, network: &[u8], timetable: &[u8], sheet: &mut [u8]) {
+        let (mut own, mut expected) = (sheet.to_vec(), sheet.to_vec());
+        let (n, t, s) = (network, timetable, &mut *sheet);
+        let reply = unsafe { raw::strakewhip_read(n.as_ptr(), n.len(), t.as_ptr(), t.len(), s.as_mut_ptr(), s.len()) };
+        let wrapped = strakewhip::read(network, timetable, &mut own).map(|length| (0, length));
+        self.replies("read", reply, model::read(network, timetable, &mut expected), wrapped);
+        self.buffers("read", sheet, &own, &expected);
+    }
+
+    pub fn write(&mut self, network: &[u8], sheet: &[u8], out: &mut [u8]) -> Reply {
+        let (mut own, mut expected) = (out.to_vec(), out.to_vec());
+        let (n, s, o) = (network, sheet, &mut *out);
+        let reply = unsafe { raw::strakewhip_write(n.as_ptr(), n.len(), s.as_ptr(), s.len(), o.as_mut_ptr(), o.len()) };
+        let wrapped = strakewhip::write(network, sheet, &mut own).map(|length| (0, length));
+        self.replies("write", reply, model::write(network, sheet, &mut expected), wrapped);
+        self.buffers("write", out, &own, &expected);
+        reply
+    }
+
+    pub fn project(&mut self, network: &[u8], sheet: &[u8], from: (u8, u16, u16), out: &mut [i32]) {
+        let (mut own, mut expected) = (out.to_vec(), out.to_vec());
+        let (n, s, (at, train, time), o) = (network, sheet, from, &mut *out);
+        let reply = unsafe {
+            let (to, room) = (o.as_mut_ptr(), o.len());
+            raw::strakewhip_project(n.as_ptr(), n.len(), s.as_ptr(), s.len(), at, train, time, to, room)
+        };
+        let wrapped = strakewhip::project(network, sheet, at, train, time, &mut own).map(|length| (0, length));
+        self.replies("project", reply, model::project(network, sheet, at, train, time, &mut expected), wrapped);
+        self.buffers("project", out, &own, &expected);
+    }
+
+    pub fn raise(&mut self, edit: &[u8], refusal: u8, removed: u8, counts: &mut [u32; 4]) {
+        let (mut own, mut expected) = (*counts, *counts);
+        let reply = unsafe { raw::strakewhip_raise(edit.as_ptr(), edit.len(), refusal, removed, counts) };
+        let wrapped = strakewhip::raise(edit, refusal, removed, &mut own).map(|()| (0, 0));
+        self.replies("raise", reply, model::raise(edit, refusal, removed, &mut expected), wrapped);
+        self.buffers("raise", &counts[..], &own, &expected);
+    }
+}

@@ -1,0 +1,211 @@
+//! Files made by chance: mostly coherent traffic, so that deep states are reached, mixed with mistakes. Nothing here
+//! decides what is right.
+
+use crate::files::bytes_of;
+use crate::random::Random;
+use reference::network::{Direction, Network};
+use reference::railway::{Line, Relation, Station, Timetable, Train, Visit};
+
+/// The numbers of a network with some stations and lines.
+pub fn network(r: &mut Random) -> Vec<u32> {
+    // Few stations, so that their limits are reached, or many.
+    let mut stations: Vec<u32> = if r.one_in(3) {
+        (1..=16).filter(|_| r.one_in(8)).collect()
+    } else {
+        (1..=16).filter(|_| !r.one_in(3)).collect()
+    };
+    if stations.is_empty() {
+        stations.push(r.from(1, 16));
+    }
+    let areas = r.from(1, 6);
+    let mut numbers = vec![stations.len() as u32];
+    for station in &stations {
+        numbers.extend([*station, r.from(1, areas), r.from(1, 8)]);
+    }
+    numbers.push(r.from(1, 12));
+    let lines: Vec<u32> = if stations.len() < 2 { Vec::new() } else { (1..=32).filter(|_| r.one_in(2)).collect() };
+    numbers.push(lines.len() as u32);
+    for line in lines {
+        let first = r.below(stations.len());
+        let second = (first + 1 + r.below(stations.len() - 1)) % stations.len();
+        let kind = [3, 3, 1, 2][r.below(4)];
+        numbers.extend([line, stations[first], stations[second], kind, r.from(1, 20), r.from(1, 3)]);
+    }
+    numbers
+}
+
+/// The lines out of a station: line, station at the far end.
+fn ways(network: &Network, from: Station, out: bool) -> Vec<(Line, Station)> {
+    let mut found = Vec::new();
+    for (line, facts) in &network.lines {
+        let forth = matches!(facts.direction, Direction::FirstToSecond | Direction::EitherWay);
+        let back = matches!(facts.direction, Direction::SecondToFirst | Direction::EitherWay);
+        if facts.first == from && (if out { forth } else { back }) {
+            found.push((*line, facts.second));
+        }
+        if facts.second == from && (if out { back } else { forth }) {
+            found.push((*line, facts.first));
+        }
+    }
+    found
+}
+
+/// Chooses edits by the timetable that they will meet.
+pub struct Dispatcher<'a> {
+    pub network: &'a Network,
+    pub timetable: &'a Timetable,
+    pub trains: u32,
+}
+
+impl Dispatcher<'_> {
+    /// The numbers of an edit.
+    pub fn edit(&self, r: &mut Random) -> Vec<u32> {
+        if r.one_in(15) {
+            return self.anything(r);
+        }
+        let chosen = match r.from(1, 24) {
+            1..=5 => None,
+            6..=9 => self.extend(r, 3),
+            10..=12 => self.extend(r, 2),
+            13 => self.shorten(r, 4),
+            14 => self.shorten(r, 5),
+            15..=16 => self.amend(r),
+            17..=19 => self.report(r),
+            20..=22 => self.relate(r),
+            23 => self.forget(r),
+            _ => r.one_in(3).then(|| vec![11, r.from(1, self.trains)]),
+        };
+        chosen.unwrap_or_else(|| self.place(r))
+    }
+
+    fn station(&self, r: &mut Random) -> Station {
+        let listed: Vec<Station> = self.network.stations.keys().copied().collect();
+        listed[r.below(listed.len())]
+    }
+
+    fn visit(&self, r: &mut Random) -> Option<(Station, Train, Visit)> {
+        let all: Vec<_> = self.timetable.visits.iter().map(|((s, t), visit)| (*s, *t, *visit)).collect();
+        r.pick(&all)
+    }
+
+    fn track(&self, r: &mut Random, station: Station) -> u32 {
+        let tracks = self.network.stations.get(&station).map_or(8, |facts| facts.tracks);
+        r.from(1, tracks.min(2))
+    }
+
+    fn place(&self, r: &mut Random) -> Vec<u32> {
+        let station = self.station(r);
+        let arrival = r.from(100, 140);
+        vec![1, station.0, r.from(1, self.trains), self.track(r, station), arrival, arrival + r.from(0, 5)]
+    }
+
+    fn extend(&self, r: &mut Random, kind: u32) -> Option<Vec<u32>> {
+        let (from, train, visit) = self.visit(r)?;
+        let (line, to) = r.pick(&ways(self.network, from, kind == 3))?;
+        let run = r.from(1, 20);
+        let near = (if kind == 3 { visit.departure.time + i64::from(run) } else { visit.arrival.time - i64::from(run) })
+            .clamp(0, 2870) as u32;
+        let track = self.track(r, to);
+        Some(vec![kind, to.0, train.0, track, near, near + r.from(0, 3), from.0, line.0, run])
+    }
+
+    fn shorten(&self, r: &mut Random, kind: u32) -> Option<Vec<u32>> {
+        let (station, train, visit) = self.visit(r)?;
+        let far = if kind == 4 { visit.out_link.map(|l| l.next) } else { visit.in_link.map(|l| l.previous) };
+        Some(vec![kind, station.0, train.0, far.unwrap_or(station).0])
+    }
+
+    fn amend(&self, r: &mut Random) -> Option<Vec<u32>> {
+        let (station, train, visit) = self.visit(r)?;
+        let arrival = if visit.arrival.occurred && !r.one_in(4) { visit.arrival.time as u32 } else { r.from(90, 150) };
+        let departure = if r.one_in(2) { visit.departure.time as u32 } else { arrival + r.from(0, 9) };
+        let track = if r.one_in(3) { self.track(r, station) } else { visit.track.0 };
+        Some(vec![6, station.0, train.0, track, arrival, departure])
+    }
+
+    fn report(&self, r: &mut Random) -> Option<Vec<u32>> {
+        let (station, train, visit) = self.visit(r)?;
+        Some(vec![r.from(7, 8), station.0, train.0, visit.arrival.time as u32 + r.from(0, 9)])
+    }
+
+    fn relate(&self, r: &mut Random) -> Option<Vec<u32>> {
+        let station = self.station(r);
+        let mut trains: Vec<u32> = self.timetable.visits_at(station).iter().map(|(train, _)| train.0).collect();
+        trains.extend([r.from(1, self.trains), r.from(1, self.trains)]);
+        let mut numbers = vec![9, station.0, r.from(1, 3), r.from(0, 8)];
+        if numbers[2] == 3 {
+            numbers.extend([2, trains[r.below(trains.len())], trains[r.below(trains.len())]]);
+            return Some(numbers);
+        }
+        trains.sort_unstable();
+        trains.dedup();
+        while trains.len() > 4 || (trains.len() > 2 && r.one_in(2)) {
+            trains.remove(r.below(trains.len()));
+        }
+        numbers.push(trains.len() as u32);
+        numbers.extend(&trains);
+        (trains.len() > 1).then_some(numbers)
+    }
+
+    fn forget(&self, r: &mut Random) -> Option<Vec<u32>> {
+        let station = r.pick(&self.timetable.stations_with_relations())?;
+        let there: Vec<Relation> = self.timetable.relations_at(station).into_iter().collect();
+        let (kind, interval, count, trains) = r.pick(&there)?.key();
+        let mut numbers = vec![10, station.0, kind, interval as u32, count as u32];
+        numbers.extend(trains.iter().map(|train| train.0));
+        Some(numbers)
+    }
+
+    /// Any values within the ranges, of any kind but relations.
+    fn anything(&self, r: &mut Random) -> Vec<u32> {
+        let plan = |r: &mut Random| [r.from(1, 16), r.from(1, 9999), r.from(1, 8), r.from(0, 2879), r.from(0, 2879)];
+        let kind = [1, 2, 3, 4, 5, 6, 7, 8, 11][r.below(9)];
+        let mut numbers = vec![kind];
+        match kind {
+            1 | 6 => numbers.extend(plan(r)),
+            2 | 3 => {
+                numbers.extend(plan(r));
+                numbers.extend([r.from(1, 16), r.from(1, 32), r.from(1, 240)]);
+            }
+            4 | 5 => numbers.extend([r.from(1, 16), r.from(1, 9999), r.from(1, 16)]),
+            7 | 8 => numbers.extend([r.from(1, 16), r.from(1, 9999), r.from(0, 2879)]),
+            _ => numbers.push(r.from(1, 9999)),
+        }
+        numbers
+    }
+}
+
+/// A file with one fault or another: a byte changed, taken away, put in, the end cut off or lengthened.
+pub fn damaged(r: &mut Random, file: &[u8]) -> Vec<u8> {
+    let mut file = file.to_vec();
+    for _ in 0..r.from(1, 2) {
+        let at = r.below(file.len() + 1);
+        match r.from(1, 6) {
+            1 => file.truncate(at),
+            2 => file.push(r.byte()),
+            3 => file.insert(at, [0, 1, 2, 0x80, 0xFF, 17, 127][r.below(7)]),
+            // A number that isn't shortest.
+            4 if at < file.len() && r.one_in(2) => {
+                file[at] |= 0x80;
+                file.insert(at + 1, 0);
+            }
+            4 if at < file.len() => {
+                file.remove(at);
+            }
+            5 if at < file.len() => file[at] = [0, 1, 2, 3, 17, 33, 0x80, 0xFF][r.below(8)],
+            _ if at < file.len() => file[at] = r.byte(),
+            _ => {}
+        }
+    }
+    file
+}
+
+/// A file of numbers, of which one has another value.
+pub fn displaced(r: &mut Random, numbers: &[u32]) -> Vec<u8> {
+    let mut numbers = numbers.to_vec();
+    if !numbers.is_empty() {
+        let at = r.below(numbers.len());
+        numbers[at] = [0, 1, 2, 7, 17, 33, 241, 385, 1001, 2880, 10_000, 16_384, 2_097_151][r.below(13)];
+    }
+    bytes_of(&numbers)
+}
