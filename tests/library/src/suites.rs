@@ -83,12 +83,12 @@ pub fn lengths(report: &mut Report, r: &mut Random, railway: &Railway) {
         report.divide(file, &other, &mut division.clone());
         report.merge(file, division, &mut other.clone());
         report.findings(file, &other, &mut [7; 8]);
-        report.area_findings(file, &other, 1, &mut [7; 8]);
-        report.pair_findings(file, [&other, sheet], [1, 2], &mut [7; 8]);
-        report.pair_findings(file, [sheet, &other], [1, 2], &mut [7; 8]);
+        report.area_findings(file, &other, r.from(0, 1) as u8, &mut [7; 8]);
+        report.pair_findings(file, [&other, sheet], [1, r.from(1, 2) as u8], &mut [7; 8]);
+        report.pair_findings(file, [sheet, &other], [1, r.from(1, 2) as u8], &mut [7; 8]);
         report.read(file, &[0, 0], &mut other.clone());
         report.write(file, &other, &mut [7; 8]);
-        report.project(file, &other, (1, 1, 1), &mut [7; 8]);
+        report.project(file, &other, (r.from(0, 1) as u8, 1, 1), &mut [7; 8]);
     }
     for length in [0, SHEET, DIVISION - 1, DIVISION + 1] {
         let other = resized(division, length);
@@ -194,21 +194,22 @@ pub fn damaged_sheets(report: &mut Report, r: &mut Random, railway: &Railway) {
         report.run(file, &list_of(&fresh), &mut division.clone(), &mut [7; 20]);
         report.divide(file, &sheet, &mut vec![7; DIVISION]);
         report.merge(file, &division, &mut vec![7; SHEET]);
-        report.findings(file, &sheet, &mut vec![7; 4000]);
+        let room = if r.one_in(4) { 0 } else { 4000 };
+        report.findings(file, &sheet, &mut vec![7; room]);
         for area in 1..=6 {
-            report.area_findings(file, part(&division, area.into()), area, &mut vec![7; 2000]);
+            report.area_findings(file, part(&division, area.into()), area, &mut vec![7; room]);
             let other = area % 6 + 1;
             let sheets = [part(&division, area.into()), part(&division, other.into())];
-            report.pair_findings(file, sheets, [area, other], &mut vec![7; 2000]);
+            report.pair_findings(file, sheets, [area, other], &mut vec![7; room]);
         }
-        report.write(file, &sheet, &mut [7; MOST_TIMETABLE]);
+        report.write(file, &sheet, &mut vec![7; room]);
         if let Some((station, train)) = timetable.visits.keys().next() {
             report.project(file, &sheet, (station.0 as u8, train.0 as u16, 100), &mut [7; MOST_ROWS]);
         }
     }
 }
 
-/// Files with faults, each told by its number and place, whatever else is wrong.
+/// Files with faults, each told by its number and place, whatever else is wrong; a wrong length comes before them.
 pub fn damaged_files(report: &mut Report, r: &mut Random, railway: &Railway) {
     let Railway { numbers, file, sheet, division, edits, timetable, .. } = railway;
     let edit = r.pick(edits).unwrap_or(vec![11, 1]);
@@ -218,12 +219,14 @@ pub fn damaged_files(report: &mut Report, r: &mut Random, railway: &Railway) {
         let other = if r.one_in(2) { damaged(r, file) } else { displaced(r, numbers) };
         network_faults(report, r, railway, &other, &edit);
         let edit = damaged(r, &edit);
+        let short = usize::from(r.one_in(4));
         report.names(file, &edit);
-        report.edit(file, &edit, &mut division.clone());
-        report.edit_sheet(file, &edit, &mut sheet.clone());
+        report.edit(file, &edit, &mut division[short..].to_vec());
+        report.edit_sheet(file, &edit, &mut sheet[short..].to_vec());
         report.raise(&edit, 0, 0, &mut [1; 4]);
-        report.run(file, &damaged(r, &list), &mut division.clone(), &mut [7; 40]);
-        report.read(file, &damaged(r, &own), &mut vec![7; SHEET]);
+        let room = r.from(0, 40) as usize;
+        report.run(file, &damaged(r, &list), &mut division[short..].to_vec(), &mut vec![7; room]);
+        report.read(file, &damaged(r, &own), &mut vec![7; SHEET - short]);
         report.read(file, &displaced(r, &numbers_in(&own)), &mut vec![7; SHEET]);
     }
     report.read(&[], &[], &mut sheet.clone());
@@ -265,6 +268,9 @@ fn network_faults(report: &mut Report, r: &mut Random, railway: &Railway, networ
     }
     let edit = if r.one_in(3) { damaged(r, edit) } else { edit.to_vec() };
     let one = r.from(0, 6) as u8;
+    let short = usize::from(r.one_in(4));
+    let [own, far] = [1, 2].map(|area| part(&division, area)[short..].to_vec());
+    let (sheet, division) = (sheet.split_off(short), division.split_off(short));
     report.network(network);
     report.names(network, &edit);
     report.edit(network, &edit, &mut division.clone());
@@ -273,8 +279,8 @@ fn network_faults(report: &mut Report, r: &mut Random, railway: &Railway, networ
     report.divide(network, &sheet, &mut vec![7; DIVISION]);
     report.merge(network, &division, &mut vec![7; SHEET]);
     report.findings(network, &sheet, &mut vec![7; 4000]);
-    report.area_findings(network, part(&division, 1), one, &mut [7; 400]);
-    report.pair_findings(network, [part(&division, 1), part(&division, 2)], [1, one], &mut [7; 400]);
+    report.area_findings(network, &own, one, &mut [7; 400]);
+    report.pair_findings(network, [&own, &far], [1, one], &mut [7; 400]);
     report.read(network, &damaged(r, &timetable::write(&railway.timetable)), &mut sheet.clone());
     report.write(network, &sheet, &mut [7; MOST_TIMETABLE]);
     report.project(network, &sheet, (r.from(0, 17) as u8, r.from(0, 40) as u16, 100), &mut [7; MOST_ROWS]);
