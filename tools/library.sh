@@ -56,6 +56,8 @@ rust() {
 python() {
     shared
     python3 bindings/python/listing.py | same Python crates/shift/stdout
+    python3 bindings/python/rooms.py | same "the same in Python" tests/library/rooms.txt
+    python3 tests/library/wrapped.py
 }
 agree() {
     shared

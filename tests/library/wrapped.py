@@ -1,0 +1,62 @@
+"""Every function of the Python wrapper on the railway of two rooms: what one does another undoes or shares out."""
+
+import os
+import sys
+
+sys.path.insert(0, os.path.join(os.path.dirname(os.path.abspath(__file__)), "..", "..", "bindings", "python"))
+import strakewhip as library
+
+NETWORK = bytes([2, 1, 1, 2, 2, 2, 1, 3, 1, 1, 1, 2, 3, 10, 1])
+EDITS = [bytes([1, 1, 7, 1, 100, 102]), bytes([1, 2, 9, 1, 110, 111]), bytes([3, 2, 7, 1, 115, 115, 1, 1, 12]),
+         bytes([9, 1, 1, 5, 2, 7, 9]), bytes([11, 9])]
+
+
+def refused(number, file, place, call, *arguments):
+    """The call is refused with this number, of this file at this place."""
+    try:
+        call(*arguments)
+    except library.Refused as found:
+        assert (found.refusal, found.file, found.place) == (number, file, place), found
+        return
+    raise AssertionError(f"{call.__name__} is not refused")
+
+
+def main():
+    division, sheet, later = bytearray(library.DIVISION), bytearray(library.SHEET), bytearray(library.DIVISION)
+    assert library.network(NETWORK) == len(NETWORK)
+    assert [library.names(NETWORK, edit) for edit in EDITS] == [[1], [2], [1, 2], [1], [1, 2]]
+    removed = [library.edit(NETWORK, edit, division) for edit in EDITS]
+    assert removed == [library.edit_sheet(NETWORK, edit, sheet) for edit in EDITS] == [0, 0, 0, 0, 1]
+    answers = library.run(NETWORK, bytes([len(EDITS)]) + b"".join(EDITS), later)
+    assert answers == [(0, count) for count in removed] and later == division
+    tally = [0, 0, 0, 0]
+    for edit, (refusal, count) in zip(EDITS, answers):
+        tally = library.raise_tally(edit, refusal, count, tally)
+    assert tally == [5, 0, 3, 1], tally
+
+    merged, divided = bytearray(library.SHEET), bytearray(library.DIVISION)
+    library.merge(NETWORK, division, merged)
+    library.divide(NETWORK, sheet, divided)
+    assert merged == sheet and divided == division
+    one, other = library.area_sheet(division, 1), library.area_sheet(division, 2)
+    shared = (library.area_findings(NETWORK, one, 1) + library.area_findings(NETWORK, other, 2)
+              + library.pair_findings(NETWORK, one, other, 1, 2))
+    assert sorted(shared) == library.findings(NETWORK, sheet) != []
+    file, back = library.write(NETWORK, sheet), bytearray(library.SHEET)
+    assert library.read(NETWORK, file, back) == len(file) and back == sheet
+    assert library.project(NETWORK, sheet, 1, 7, 104) == [(1, 104, 105, 4), (2, 117, 118, 2)]
+
+    refused(2, 1, 0, library.network, bytes([128, 0]))
+    refused(3, 2, 0, library.names, NETWORK, bytes([12]))
+    refused(1, 2, 0, library.edit, NETWORK, b"", division)
+    refused(5, 0, 0, library.edit, NETWORK, EDITS[0], bytearray())
+    refused(6, 0, 0, library.findings, NETWORK, b"\1" * library.SHEET)
+    refused(8, 0, 0, library.edit, NETWORK, EDITS[0], division)
+    refused(3, 0, 0, library.pair_findings, NETWORK, one, one, 1, 1)
+    refused(9, 0, 0, library.project, NETWORK, sheet, 1, 8, 104)
+    assert later == division
+    print("library: the Python wrapper's functions agree with each other")
+
+
+if __name__ == "__main__":
+    main()
