@@ -103,6 +103,5 @@ pub extern "C" fn strakewhip_names(network: &[u8], edit: &[u8]) -> Reply
     if read.refusal != 0 {
         return reply::placed(1, read.refusal, read.place);
     }
-    let n = read.network;
-    names_under(n, edit)
+    names_under(read.network, edit)
 }

@@ -44,8 +44,7 @@ pub extern "C" fn strakewhip_edit(network: &[u8], edit: &[u8], division: &mut [u
     if read.refusal != 0 {
         return reply::placed(1, read.refusal, read.place);
     }
-    let n = read.network;
-    one_on_division(n, edit, division)
+    one_on_division(read.network, edit, division)
 }
 
 // The same on one sheet of all stations.
@@ -60,8 +59,7 @@ pub extern "C" fn strakewhip_edit_sheet(network: &[u8], edit: &[u8], sheet: &mut
     if read.refusal != 0 {
         return reply::placed(1, read.refusal, read.place);
     }
-    let n = read.network;
-    one_on_sheet(n, edit, sheet)
+    one_on_sheet(read.network, edit, sheet)
 }
 
 // The edits of a file, one after another: two bytes each into `answers`, refusal and removed.
@@ -81,6 +79,5 @@ pub extern "C" fn strakewhip_run(
     if read.refusal != 0 {
         return reply::placed(1, read.refusal, read.place);
     }
-    let n = read.network;
-    reply::of_run(list::run_list(division, n, edits, answers))
+    reply::of_run(list::run_list(division, read.network, edits, answers))
 }

@@ -48,7 +48,6 @@ pub extern "C" fn strakewhip_raise(
         removed: removed,
     };
     let end = tally::raised(y, e, a);
-    let next = end.tally;
-    put_tally(counts, next);
+    put_tally(counts, end.tally);
     reply::plain(end.refusal)
 }

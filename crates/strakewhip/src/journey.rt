@@ -27,10 +27,9 @@ pub extern "C" fn strakewhip_project(
     if read.refusal != 0 {
         return reply::placed(1, read.refusal, read.place);
     }
-    let n = read.network;
     reply::of_output(calls::project(
         sheet,
-        n,
+        read.network,
         Station(station),
         Train(train),
         Minute(arrival),

@@ -18,8 +18,7 @@ pub extern "C" fn strakewhip_findings(network: &[u8], sheet: &[u8], out: &mut [u
     if read.refusal != 0 {
         return reply::placed(1, read.refusal, read.place);
     }
-    let n = read.network;
-    reply::of_output(calls::sheet_findings(sheet, n, out))
+    reply::of_output(calls::sheet_findings(sheet, read.network, out))
 }
 
 #[no_mangle]
@@ -38,8 +37,7 @@ pub extern "C" fn strakewhip_area_findings(
     if read.refusal != 0 {
         return reply::placed(1, read.refusal, read.place);
     }
-    let n = read.network;
-    reply::of_output(calls::area_findings(sheet, n, Area(area), out))
+    reply::of_output(calls::area_findings(sheet, read.network, Area(area), out))
 }
 
 #[no_mangle]
@@ -63,6 +61,5 @@ pub extern "C" fn strakewhip_pair_findings(
     if read.refusal != 0 {
         return reply::placed(1, read.refusal, read.place);
     }
-    let n = read.network;
-    reply::of_output(calls::pair_findings(first, second, n, Area(one), Area(other), out))
+    reply::of_output(calls::pair_findings(first, second, read.network, Area(one), Area(other), out))
 }

@@ -19,8 +19,7 @@ pub extern "C" fn strakewhip_divide(network: &[u8], sheet: &[u8], division: &mut
     if read.refusal != 0 {
         return reply::placed(1, read.refusal, read.place);
     }
-    let n = read.network;
-    reply::plain(division::divide(sheet, division, n))
+    reply::plain(division::divide(sheet, division, read.network))
 }
 
 #[no_mangle]
@@ -37,6 +36,5 @@ pub extern "C" fn strakewhip_merge(network: &[u8], division: &[u8], sheet: &mut 
     if read.refusal != 0 {
         return reply::placed(1, read.refusal, read.place);
     }
-    let n = read.network;
-    reply::plain(division::merge(division, sheet, n))
+    reply::plain(division::merge(division, sheet, read.network))
 }

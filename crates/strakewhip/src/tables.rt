@@ -18,8 +18,7 @@ pub extern "C" fn strakewhip_read(network: &[u8], timetable: &[u8], sheet: &mut 
     if read.refusal != 0 {
         return reply::placed(1, read.refusal, read.place);
     }
-    let n = read.network;
-    reply::of_read(calls::read_timetable(timetable, n, sheet))
+    reply::of_read(calls::read_timetable(timetable, read.network, sheet))
 }
 
 #[no_mangle]
@@ -33,6 +32,5 @@ pub extern "C" fn strakewhip_write(network: &[u8], sheet: &[u8], out: &mut [u8])
     if read.refusal != 0 {
         return reply::placed(1, read.refusal, read.place);
     }
-    let n = read.network;
-    reply::of_output(writing::write_timetable(sheet, n, out))
+    reply::of_output(writing::write_timetable(sheet, read.network, out))
 }

@@ -25,8 +25,8 @@ names-under-requires c κs = search needs
 returns-2 : tie.Need-returns-2
 unfolding names-reply
 returns-2 c =
-    let r = c .before .before .before .before .read-network in
-    c .names-under .ensures ∙ network-read _ (r .result) (r .ensures) _ _ (c .before .before .if1 .left)
+    let r = c .before .before .before .read-network in
+    c .names-under .ensures ∙ network-read _ (r .result) (r .ensures) _ _ (c .before .if1 .left)
 
 pub strakewhip-names-spec : {M : Type 1} → statement M
 strakewhip-names-spec =

@@ -53,11 +53,11 @@ same-length-2 c = search needs
 returns-3 : tie.Need-returns-3
 unfolding run-reply run-left answers-left
 returns-3 c =
-    let s = c .before .before .before .before .before .before .before .before .before .before .before .before .before .before .before .before .before .args in
-    let r = c .before .before .before .before .before .before .before .before .before .before .before .read-network in
+    let s = c .before .before .before .before .before .before .before .before .before .before .before .before .before .before .before .before .args in
+    let r = c .before .before .before .before .before .before .before .before .before .before .read-network in
     let x = c .before .before .before .before .before .run-list .ensures in
-    let one = reached _ (now (s .network)) (now (s .division)) (λ n. of-reply (run-answer n (now (s .edits)) (now (s .division)) (now (s .answers)))) (λ n. run-division n (now (s .edits)) (now (s .division)) (now (s .answers))) (eq-eqb (length (now (s .division))) 49152 (c .before .before .before .before .before .before .before .before .before .before .before .before .if1 .left)) (r .result) (r .ensures) (c .before .before .before .before .before .before .before .before .before .if2 .left) _ _ (c .of-run .ensures ∙ ap of-reply (x .0)) (x .1) in
-    let other = reached _ (now (s .network)) (now (s .answers)) (λ n. of-reply (run-answer n (now (s .edits)) (now (s .division)) (now (s .answers)))) (λ n. run-answers n (now (s .edits)) (now (s .division)) (now (s .answers))) (eq-eqb (length (now (s .division))) 49152 (c .before .before .before .before .before .before .before .before .before .before .before .before .if1 .left)) (r .result) (r .ensures) (c .before .before .before .before .before .before .before .before .before .if2 .left) _ _ (c .of-run .ensures ∙ ap of-reply (x .0)) (x .2) in
+    let one = reached _ (now (s .network)) (now (s .division)) (λ n. of-reply (run-answer n (now (s .edits)) (now (s .division)) (now (s .answers)))) (λ n. run-division n (now (s .edits)) (now (s .division)) (now (s .answers))) (eq-eqb (length (now (s .division))) 49152 (c .before .before .before .before .before .before .before .before .before .before .before .if1 .left)) (r .result) (r .ensures) (c .before .before .before .before .before .before .before .before .if2 .left) _ _ (c .of-run .ensures ∙ ap of-reply (x .0)) (x .1) in
+    let other = reached _ (now (s .network)) (now (s .answers)) (λ n. of-reply (run-answer n (now (s .edits)) (now (s .division)) (now (s .answers)))) (λ n. run-answers n (now (s .edits)) (now (s .division)) (now (s .answers))) (eq-eqb (length (now (s .division))) 49152 (c .before .before .before .before .before .before .before .before .before .before .before .if1 .left)) (r .result) (r .ensures) (c .before .before .before .before .before .before .before .before .if2 .left) _ _ (c .of-run .ensures ∙ ap of-reply (x .0)) (x .2) in
     (one .0, one .1, other .1)
 
 pub strakewhip-run-spec : {M : Type 1} → statement M

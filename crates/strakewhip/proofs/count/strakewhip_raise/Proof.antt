@@ -61,12 +61,12 @@ plain-requires-2 c κs = search needs
 
 returns-3 : tie.Need-returns-3
 returns-3 c =
-    let s = c .before .before .before .before .before .before .before .before .before .before .before .before .before .args in
-    let y = c .before .before .before .before .before .before .before .before .before .before .tally-in in
-    let f = sym (c .before .before .before .before .before .before .before .before .before .is-overfull .ensures) ∙ c .before .before .before .before .before .before .before .before .if1 .left in
-    let r = c .before .before .before .before .before .before .before .one-edit in
-    let end = c .before .before .before .before .raised .ensures in
-    let x = raise-done (now (s .edit)) (s .refusal) (s .removed) (now (s .counts)) (y .result) (y .ensures) f (r .result) (r .ensures) (c .before .before .before .before .before .if2 .left) in
+    let s = c .before .before .before .before .before .before .before .before .before .before .before .before .args in
+    let y = c .before .before .before .before .before .before .before .before .before .tally-in in
+    let f = sym (c .before .before .before .before .before .before .before .before .is-overfull .ensures) ∙ c .before .before .before .before .before .before .before .if1 .left in
+    let r = c .before .before .before .before .before .before .one-edit in
+    let end = c .before .before .before .raised .ensures in
+    let x = raise-done (now (s .edit)) (s .refusal) (s .removed) (now (s .counts)) (y .result) (y .ensures) f (r .result) (r .ensures) (c .before .before .before .before .if2 .left) in
     (c .plain2 .ensures ∙ ap (λ k. plain k) (end .0) ∙ x .0, c .before .put-tally .ensures ∙ ap numbers-of (end .1) ∙ x .1)
 
 pub strakewhip-raise-spec : {M : Type 1} → statement M

@@ -53,10 +53,10 @@ same-length c = search needs
 returns-4 : tie.Need-returns-4
 unfolding merge-reply merge-left
 returns-4 c =
-    let s = c .before .before .before .before .before .before .before .before .before .before .before .before .before .before .args in
-    let r = c .before .before .before .before .before .before .before .before .read-network in
+    let s = c .before .before .before .before .before .before .before .before .before .before .before .before .before .args in
+    let r = c .before .before .before .before .before .before .before .read-network in
     let x = c .before .before .before .merge .ensures in
-    reached _ _ _ _ _ (both-fit (length (now (s .division))) 49152 (length (now (s .sheet))) 8192 (c .before .before .before .before .before .before .before .before .before .before .if1 .left) (c .before .before .before .before .before .before .before .before .before .if2 .left)) (r .result) (r .ensures) (c .before .before .before .before .before .before .if3 .left) _ _ (c .plain3 .ensures ∙ ap (λ x. plain x) (x .0)) (x .1)
+    reached _ _ _ _ _ (both-fit (length (now (s .division))) 49152 (length (now (s .sheet))) 8192 (c .before .before .before .before .before .before .before .before .before .if1 .left) (c .before .before .before .before .before .before .before .before .if2 .left)) (r .result) (r .ensures) (c .before .before .before .before .before .if3 .left) _ _ (c .plain3 .ensures ∙ ap (λ x. plain x) (x .0)) (x .1)
 
 pub strakewhip-merge-spec : {M : Type 1} → statement M
 strakewhip-merge-spec =
