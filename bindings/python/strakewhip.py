@@ -202,5 +202,7 @@ def raise_tally(edit, refusal, removed, counts):
 
 
 def area_sheet(division, area):
-    """A copy of the part of a division that is one area's sheet."""
+    """A copy of the part of a division that is one area's sheet; empty for a wrong length or an area not 1 to 6."""
+    if len(division) != DIVISION or not 1 <= area <= 6:
+        return b""
     return bytes(division[SHEET * (area - 1):SHEET * area])

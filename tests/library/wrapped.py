@@ -39,6 +39,8 @@ def main():
     library.divide(NETWORK, sheet, divided)
     assert merged == sheet and divided == division
     one, other = library.area_sheet(division, 1), library.area_sheet(division, 2)
+    assert b"".join(library.area_sheet(division, area) for area in range(8)) == division
+    assert library.area_sheet(division[1:], 1) == b""
     shared = (library.area_findings(NETWORK, one, 1) + library.area_findings(NETWORK, other, 2)
               + library.pair_findings(NETWORK, one, other, 1, 2))
     assert sorted(shared) == library.findings(NETWORK, sheet) != []

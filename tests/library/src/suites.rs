@@ -57,6 +57,11 @@ pub fn outputs(report: &mut Report, r: &mut Random, railway: &Railway) {
     report.divide(file, sheet, &mut vec![7; DIVISION]);
     report.merge(file, division, &mut vec![7; SHEET]);
     report.findings(file, sheet, &mut vec![7; MOST_FINDINGS]);
+    for area in 0..=7 {
+        let own = (1..=6).contains(&area).then(|| part(division, area.into()));
+        assert_eq!(strakewhip::area_sheet(division, area), own, "{}: area {area}", report.place);
+        assert_eq!(strakewhip::area_sheet(&division[1..], area), None, "{}: area {area}", report.place);
+    }
     let (one, other) = (r.from(1, 6), r.from(1, 6));
     report.area_findings(file, part(division, one), one as u8, &mut vec![7; MOST_FINDINGS]);
     let sheets = [part(division, one), part(division, other)];
