@@ -71,61 +71,74 @@ def head(*cells):
     row(*['---'] * len(cells))
 
 
+def beside(own, other):
+    """What it takes, and its ratio to what the other takes."""
+    return short(own) if other is None else f'{short(own)} ({own / other:.2f})'
+
+
 def programs(folder):
-    head('Program', 'Size', 'proved', 'second', 'ratio')
+    head('Program', *SIZES)
     for program in ('shift', 'inspect'):
+        cells = []
         for size in SIZES:
             given = os.path.join(folder, f'{size}.{program}')
             own = instructions([os.path.join(FIRST, program)], given)
-            other = instructions([os.path.join(SECOND, program)], given)
-            row(f'`{program}`', size, short(own), short(other), f'{own / other:.2f}')
+            cells.append(beside(own, instructions([os.path.join(SECOND, program)], given)))
+        row(f'`{program}`', *cells)
 
 
 def calls():
-    head('Call', 'Size', 'library', 'second', 'ratio')
+    head('Call', *SIZES)
     second = {'edit', 'delete-train', 'run', 'findings', 'area', 'pair', 'read', 'write', 'project', 'network'}
     for name, what in (line.split(' ', 1) for line in lines('calls')):
+        cells = []
         for size in SIZES:
-            own = of_call(name, size, 'library')
-            if name in second:
-                other = of_call(name, size, 'reference')
-                row(f'`{name}`: {what}', size, short(own), short(other), f'{own / other:.2f}')
-            else:
-                row(f'`{name}`: {what}', size, short(own), '', '')
+            other = of_call(name, size, 'reference') if name in second else None
+            cells.append(beside(of_call(name, size, 'library'), other))
+        row(f'`{name}`: {what}', *cells)
 
 
 def tests():
-    """What the test of sheets takes within calls that need it, and by record of a full sheet."""
-    head('Call', 'Size', 'whole', 'test of its sheets', 'ratio')
-    for name in ('edit', 'divide', 'merge'):
+    """The test of the sheets within calls that need it: what it takes, and the call less its network's file by it."""
+    head('Call', *SIZES)
+    files = {size: of_call('network', size, 'library') for size in SIZES}
+    for name in ('edit', 'divide', 'merge', 'sheet-tested'):
+        cells = []
         for size in SIZES:
             words = [BUILT, 'turns', name, size, 'library']
             took, _ = instructions([*words, str(TURNS)], within='sheet::test::good_sheet')
             before, _ = instructions([*words, '0'], within='sheet::test::good_sheet')
-            tested, own = (took - before) / TURNS, of_call(name, size, 'library')
-            row(f'`{name}`', size, short(own), short(tested), f'{own / tested:.2f}' if tested else '')
+            tested = (took - before) / TURNS
+            own = of_call(name, size, 'library')
+            cells.append(f'{short(tested)} ({own / tested:.2f}, {(own - files[size]) / tested:.2f})')
+        row(f'`{name}`', *cells)
 
 
 def wall(folder):
-    head('Program', 'Size', 'proved, ms', 'second, ms')
+    head('Program, ms', *SIZES)
     for program in ('shift', 'inspect'):
+        cells = []
         for size in SIZES:
             given = os.path.join(folder, f'{size}.{program}')
-            took = {}
-            for side, where in (('proved', FIRST), ('second', SECOND)):
+            middle = []
+            for where in (FIRST, SECOND):
                 rounds = []
                 for _ in range(RUNS):
                     with open(given, 'rb') as source:
                         began = time.perf_counter()
                         subprocess.run([os.path.join(where, program)], stdin=source, stdout=subprocess.DEVNULL)
                         rounds.append(1000 * (time.perf_counter() - began))
-                took[side] = statistics.median(rounds)
-            row(f'`{program}`', size, f"{took['proved']:.2f}", f"{took['second']:.2f}")
+                middle.append(statistics.median(rounds))
+            cells.append(f'{middle[0]:.2f} / {middle[1]:.2f}')
+        row(f'`{program}`', *cells)
     print()
-    head('Call', 'Size', 'library, us', 'second, us')
+    head('Call, us', *SIZES)
+    found = {}
     for line in lines('times'):
         size, name, own, other = line.split()
-        row(f'`{name}`', size, own, other)
+        found.setdefault(name, {})[size] = f'{own} / {other}' if other != '-' else own
+    for name, cells in found.items():
+        row(f'`{name}`', *(cells[size] for size in SIZES))
 
 
 def main():

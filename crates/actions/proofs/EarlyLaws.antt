@@ -1,7 +1,7 @@
 -- What the network knows of an edit, by the tests that the code makes; and what an edit that is not refused early has
 -- passed. Assumes nothing.
-use mathlib.Core.Path.{_≡_, refl, sym, _∙_}
-use mathlib.Core.Bool.{Bool, true, false, _&&_}
+use mathlib.Core.Path.{_≡_, refl, sym}
+use mathlib.Core.Bool.{true, false, _&&_}
 use lib.Dec.{T}
 use borrow.Author.Tests.{eq-eqb}
 use Rattle.base.proofs.Tests.{true-T, held}

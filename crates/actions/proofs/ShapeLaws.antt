@@ -1,22 +1,14 @@
 -- What the fields of an edit's shape say. By the two sorts of meaning. Assumes nothing.
-use mathlib.Core.Path.{_≡_, refl, sym}
-use mathlib.Core.Bool.{Bool, true, false, _||_}
-use Rattle.base.proofs.Tests.{true-T}
-use Rattle.railway.specs.Ranges.{same-station}
+use mathlib.Core.Path.{_≡_, refl}
 use Rattle.timetable.specs.Machine.{Meaning, local, throughout, added-by}
 use Rattle.actions.specs.Types.{Station}
-use Rattle.actions.specs.between.Shapes.{shape-of, touches}
+use Rattle.actions.specs.between.Shapes.{shape-of, touches, shape-touches}
 
-module _ (s : Station) where
-  pub touches-all : (μ : Meaning) → shape-of μ .everywhere ≡ true → true ≡ touches μ s
-  unfolding shape-of touches
-  touches-all (local a) q = absurd (true-T false q)
-  touches-all (throughout t) q = refl
-
-  pub touches-ends : (μ : Meaning) → shape-of μ .everywhere ≡ false → touches μ s ≡ (same-station s (shape-of μ .home) || same-station s (shape-of μ .away))
-  unfolding shape-of touches
-  touches-ends (local a) q = refl
-  touches-ends (throughout t) q = absurd (true-T false (sym q))
+-- the stations of a shape are those that the edit names
+pub touches-by : (s : Station) (μ : Meaning) → shape-touches (shape-of μ) s ≡ touches μ s
+unfolding shape-of touches shape-touches
+touches-by s (local a) = refl
+touches-by s (throughout t) = refl
 
 -- the visits that an edit adds are those that the tally counts
 pub adds-as : (μ : Meaning) → shape-of μ .adds ≡ added-by μ

@@ -2,7 +2,7 @@
 // rest are its fields.
 ghost use mathlib.Core.Path.{_≡_};
 ghost use Rattle.timetable.specs.Machine.{meaning};
-ghost use Rattle.actions.specs.between.Shapes.{at-stations, at-all, shape-of, touches};
+ghost use Rattle.actions.specs.between.Shapes.{at-stations, at-all, shape-of, shape-touches, touches};
 use railway::edit::Edit;
 use railway::sorts::Station;
 use railway::sorts::Train;
@@ -65,16 +65,21 @@ pub fn shape_of(e: Edit) -> Shape
     }
 }
 
-// The station is s or p of the edit, or any of edit 11.
+// The station is s or p of an edit of this shape, or any of edit 11.
+pub fn is_at(x: Shape, s: Station) -> bool
+    ensures { λ r. ⌜ r ≡ shape-touches x s ⌝ }
+{
+    if x.everywhere {
+        return true;
+    }
+    if s.0 == x.home.0 {
+        return true;
+    }
+    s.0 == x.away.0
+}
+
 pub fn touched(e: Edit, s: Station) -> bool
     ensures { λ r. ⌜ r ≡ touches (meaning e) s ⌝ }
 {
-    let a = shape_of(e);
-    if a.everywhere {
-        return true;
-    }
-    if s.0 == a.home.0 {
-        return true;
-    }
-    s.0 == a.away.0
+    is_at(shape_of(e), s)
 }

@@ -4,7 +4,6 @@ use Prim.Native.Nat.{ℕ, suc, _+_, _-_, _<_, _≤_}
 use mathlib.Core.Path.{_≡_, refl, _∙_}
 use mathlib.Core.Bool.{Bool, true, false, _&&_, _||_}
 use mathlib.Core.List.{List, [], _∷_}
-use mathlib.Core.Option.{some}
 use native.Mathlib.Numerals.{add-one}
 use native.Mathlib.Omega.{arith}
 use lib.Dec.{ltb, eqb}
@@ -12,7 +11,7 @@ use lib.ListN.{length, getD, take, drop, drop-of-length-le, length-drop}
 use borrow.Author.Tests.{lt-ltb, le-ltb, eq-eqb, ne-eqb}
 use lib.Seq.{drop-cons, take-all}
 use Rattle.base.specs.Choice.{if_then_else_, _if_else_}
-use Rattle.base.specs.Lists.{every, keep, count, first, below, same}
+use Rattle.base.specs.Lists.{every, keep, count, below, same}
 
 module _ {A : Type 0} where
   pub length-keep : (f : A → Bool) (xs : List A) → length (keep f xs) ≡ count f xs

@@ -17,7 +17,7 @@ use Rattle.fields.specs.Outcomes.{end-of}
 use Rattle.fields.proofs.EndLaws.{end-accepted}
 use Rattle.sheet.specs.Sheets.{decode-sheet}
 use Rattle.machine.proofs.ByteEdits.{whole-of, sheet-of}
-use Rattle.roundtrips.specs.RoundTrips.{Bytes, TimetableRead}
+use Rattle.roundtrips.specs.RoundTrips.{Bytes}
 use Rattle.roundtrips.proofs.TimetableTrips.{timetable-trip}
 use Rattle.timetable_writing.specs.Writing.{timetable-bytes}
 use Rattle.timetable_entries.specs.Answers as rest

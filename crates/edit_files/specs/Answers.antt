@@ -1,16 +1,13 @@
 -- The outcome that each answer of an enum tells, and what the other calls on edits in files answer for each outcome of
 -- reading. Assumes nothing.
-use Prim.Native.Nat.{ℕ}
-use mathlib.Core.Bool.{Bool, true, false}
+use mathlib.Core.Bool.{true, false}
 use mathlib.Core.List.{List, []}
 use lib.ListN.{length}
-use Rattle.network.specs.declared.Network.{Network}
 use Rattle.railway.specs.declared.edit.Edit.{Edit}
 use Rattle.timetable.specs.Formats.{Outcome, accepted, refused, number, place-of, value-or, Placed}
 use Rattle.timetable.specs.NetworkFile.{blank-network}
 use Rattle.timetable.specs.EditsFile.{Shift}
 use Rattle.edit_files.specs.declared.edit.EditRead.{EditRead}
-use Rattle.edit_files.specs.declared.edit.Cursor.{Cursor}
 use Rattle.edit_files.specs.declared.edit.NextEdit.{NextEdit}
 use Rattle.edit_files.specs.declared.list.Scan.{Scan}
 use Rattle.edit_files.specs.declared.list.EditsPart.{EditsPart}

@@ -1,16 +1,12 @@
 -- An accepted edits file is the bytes of its edits' numbers (roundtrips EditTrips), and these are what the call writes.
 -- Assumes nothing.
-use Prim.Native.Nat.{ℕ, _≤_}
-use mathlib.Core.Path.{_≡_, refl, sym, _∙_, ap}
-use mathlib.Core.List.{List, _++_}
-use lib.ListN.{length, drop}
-use Rattle.railway.specs.declared.edit.Edit.{Edit}
-use Rattle.timetable.specs.Formats.{accepted, number, value-or, bytes-of, Placed}
-use Rattle.timetable.specs.EditsFile.{read-edits, edits-numbers}
+use mathlib.Core.Path.{_≡_, refl, sym, _∙_}
+use lib.ListN.{length}
+use Rattle.timetable.specs.Formats.{number, value-or, bytes-of}
+use Rattle.timetable.specs.EditsFile.{edits-numbers}
 use Rattle.timetable.specs.Outputs.{reply}
 use Rattle.timetable.proofs.BuffersFilled.{put-whole, fits-in}
 use Rattle.roundtrips.proofs.EditTrips.{edits-trip}
-use Rattle.edit_files.specs.Answers.{no-edits}
 use Rattle.edit_writing.specs.Writing.{edits-bytes, write-edits, edits-written}
 use Rattle.edit_writing.specs.RoundTrip.{EditsComeBack}
 

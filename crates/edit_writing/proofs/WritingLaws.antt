@@ -2,22 +2,20 @@
 -- file of them. Assumes nothing.
 use Prim.Native.Nat.{ℕ, _+_, _<_, _≤_}
 use mathlib.Core.Path.{_≡_, refl, sym, _∙_, ap, subst}
-use mathlib.Core.Bool.{Bool, true, false, not}
+use mathlib.Core.Bool.{true, false}
 use mathlib.Core.List.{List, [], _∷_, _++_, flatMap, append-nil, append-assoc}
 use native.Mathlib.Omega.{arith}
-use lib.Dec.{leb}
 use lib.ListN.{length}
-use Rattle.base.specs.Choice.{if_then_else_, _if_else_}
 use Rattle.railway.specs.declared.edit.Edit.{Edit}
 use Rattle.railway.specs.Edits.{edit-ok}
 use Rattle.numbers.specs.Numbers.{write-number}
 use Rattle.timetable.specs.declared.Output.{Output}
 use Rattle.timetable.specs.Machine.{edit-refusal}
-use Rattle.timetable.specs.Formats.{Outcome, accepted, refused, number, place-of, value-or, field-at, read, ended, read-file, entries, bytes-of, Placed, placed}
+use Rattle.timetable.specs.Formats.{Outcome, accepted, refused, number, value-or, field-at, read, read-file, entries, bytes-of, Placed, placed}
 use Rattle.timetable.specs.EditsFile.{edit-numbers, edits-on, edits-format, read-edits, edits-numbers}
 use Rattle.timetable.specs.Outputs.{reply, put}
 use Rattle.timetable.proofs.BuffersFilled.{put-two, refused-so, too-short, fits-in}
-use Rattle.timetable.proofs.OutcomeLaws.{clash, behind-taken, ended-taken}
+use Rattle.timetable.proofs.OutcomeLaws.{behind-taken, ended-taken}
 use Rattle.fields.proofs.EntryLaws.{placed-read}
 use Rattle.fields.proofs.NumbersPut.{bytes-two}
 use Rattle.edit_files.specs.declared.list.EditsRead.{EditsRead}

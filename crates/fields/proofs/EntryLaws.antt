@@ -5,14 +5,13 @@ use mathlib.Core.Path.{_≡_, refl, sym, _∙_, ap}
 use mathlib.Core.Bool.{Bool, true, false, false≢true, _&&_}
 use mathlib.Core.List.{List, [], _∷_, _++_, map}
 use native.Mathlib.Omega.{arith}
-use lib.Dec.{leb, leb→le}
+use lib.Dec.{leb}
 use lib.ListN.{length, getD, drop, replicate}
 use borrow.Author.Tests.{leb-true, le-leb, lt-leb}
 use Rattle.base.specs.Choice.{if_then_else_}
-use Rattle.base.specs.Lists.{within}
 use Rattle.numbers.specs.Numbers.{NumberRead, Value, Refused, read-number}
-use Rattle.timetable.specs.Formats.{Format, done, field, here, Outcome, accepted, refused, _and-then_, placed-field, field-at, behind, read, ended, Range, _to_, least, floor-after}
-use Rattle.timetable.specs.Formats.{compared, row, entries, Placed, placed}
+use Rattle.timetable.specs.Formats.{Format, done, field, Outcome, accepted, refused, _and-then_, placed-field, field-at, behind, read, ended, Range, _to_, least, floor-after}
+use Rattle.timetable.specs.Formats.{compared, row, entries, placed}
 use Rattle.timetable.proofs.OutcomeLaws.{clash, behind-taken}
 use Rattle.fields.specs.declared.field.RowRead.{RowRead}
 use Rattle.fields.specs.between.Answers.{padded, row-read}

@@ -1,17 +1,16 @@
 -- One field: what each outcome of reading its number makes of it. A number ends within the bytes. Assumes nothing.
 use Prim.Native.Nat.{ℕ, zero, suc, _+_, _*_, _-_, _<_, _≤_}
 use mathlib.Core.Path.{_≡_, refl, sym, _∙_, ap}
-use mathlib.Core.Bool.{Bool, true, false, _&&_}
+use mathlib.Core.Bool.{Bool, true, false}
 use mathlib.Core.List.{List, [], _∷_}
 use native.Mathlib.Omega.{arith}
-use lib.Dec.{ltb, leb, eqb}
+use lib.Dec.{ltb, eqb}
 use lib.ListN.{length, take, drop, drop-of-length-le, length-drop}
-use borrow.Author.Tests.{lt-ltb, le-leb, lt-leb, eq-eqb, ne-eqb, leb-true}
+use borrow.Author.Tests.{le-leb, lt-leb, ne-eqb}
 use Rattle.base.specs.Choice.{if_then_else_}
-use Rattle.base.specs.Lists.{within}
 use Rattle.base.proofs.Lengths.{rest-whole}
 use Rattle.numbers.specs.Numbers.{NumberRead, Value, Refused, group-before, read-groups, read-number}
-use Rattle.timetable.specs.Formats.{Outcome, accepted, refused, placed-field, field-at}
+use Rattle.timetable.specs.Formats.{accepted, refused, placed-field, field-at}
 
 -- a number takes bytes that are there
 groups-within : (k : ℕ) (b : List ℕ) (n w : ℕ) → read-groups k b ≡ Value n w → w ≤ length b

@@ -1,17 +1,14 @@
 -- An entry's numbers in use: none, one, or more from an index on; what the floor and the least value are then. Assumes
 -- nothing.
 use Prim.Native.Nat.{ℕ, _+_, _<_, _≤_, min, max}
-use mathlib.Core.Path.{_≡_, refl, sym, _∙_, ap}
-use mathlib.Core.Bool.{Bool, true, false, false≢true, _&&_}
+use mathlib.Core.Path.{_≡_, sym, _∙_, ap}
+use mathlib.Core.Bool.{true, false, false≢true}
 use mathlib.Core.List.{List, [], _∷_}
 use native.Mathlib.Omega.{arith}
-use lib.Dec.{leb, eqb}
 use lib.ListN.{length, getD, take, drop}
-use borrow.Author.Tests.{leb-true, leb-false, le-leb, lt-leb, eq-eqb, ne-eqb}
-use Rattle.base.specs.Choice.{if_then_else_}
-use Rattle.base.specs.Lists.{within}
+use borrow.Author.Tests.{eq-eqb, ne-eqb}
 use Rattle.network.proofs.RowsInUse.{used-rows}
-use Rattle.timetable.specs.Formats.{Outcome, accepted, refused, placed-field, field-at, least, floor-after}
+use Rattle.timetable.specs.Formats.{Outcome, accepted, refused, least, floor-after}
 use Rattle.fields.proofs.ReadLaws.{used-next, used-over}
 use Rattle.fields.specs.declared.field.Numbers.{Numbers}
 use Rattle.fields.specs.declared.floor.Number.{Number}

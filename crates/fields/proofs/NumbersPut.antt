@@ -4,16 +4,14 @@ use Prim.Native.Nat.{ℕ, _+_, _≤_, _<_, min}
 use mathlib.Core.Path.{_≡_, refl, sym, _∙_, ap}
 use mathlib.Core.List.{List, [], _∷_, _++_, flatMap, append-nil, append-assoc}
 use native.Mathlib.Omega.{arith}
-use lib.Dec.{leb}
 use lib.ListN.{length, getD, take, drop}
 use borrow.Author.Tests.{le-leb, lt-leb}
-use Rattle.base.specs.Choice.{if_then_else_}
 use Rattle.numbers.specs.Numbers.{write-number}
 use Rattle.network.proofs.RowsInUse.{used-rows}
 use Rattle.timetable.specs.Formats.{bytes-of}
 use Rattle.timetable.specs.Outputs.{put}
 use Rattle.timetable.proofs.BuffersFilled.{each-on, each-length, each-over}
-use Rattle.fields.specs.between.Putting.{last-place, place-behind, put-from, Puts, Places}
+use Rattle.fields.specs.between.Putting.{place-behind, put-from, Puts, Places}
 
 -- the bytes of one number, of two rows of numbers, and of a row for each element
 pub bytes-one : (x : ℕ) → bytes-of (x ∷ []) ≡ write-number x

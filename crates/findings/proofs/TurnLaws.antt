@@ -8,7 +8,7 @@ use lib.Dec.{eqb, ltb}
 use lib.ListN.{length}
 use borrow.Author.Tests.{eqb-true}
 use Rattle.base.specs.Choice.{if_then_else_}
-use Rattle.base.proofs.Tests.{eqb-turned}
+use Rattle.base.proofs.Tests.{eqb-turned, and-turned}
 use Rattle.railway.specs.Ranges.{area-ok}
 use Rattle.network.specs.Networks.{area-of}
 use Rattle.timetable.specs.Tables.{empty}
@@ -19,12 +19,6 @@ use Rattle.timetable.specs.Findings.{numbers-of, Spanning, picked, spanning, be
 use Rattle.sheet.specs.Sheets.{decode-sheet}
 use Rattle.findings.specs.Types.{Station, Area, Network}
 use Rattle.findings.specs.Lists.{two-parts, two-list, list-early, good-part, two-areas, two-list-refusal}
-
-and-turned : (x y : Bool) → (x && y) ≡ (y && x)
-and-turned true true = refl
-and-turned true false = refl
-and-turned false true = refl
-and-turned false false = refl
 
 or-turned : (x y : Bool) → (x || y) ≡ (y || x)
 or-turned true true = refl

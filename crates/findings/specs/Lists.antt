@@ -16,7 +16,7 @@ use Rattle.timetable.specs.Findings.{numbers-of, findings, group-findings, pair
 use Rattle.timetable.specs.Refusals.{early, call-refusal}
 use Rattle.timetable.specs.Outputs.{reply, output, output-after}
 use Rattle.sheet.specs.Sheets.{decode-sheet, good-sheet, whole-refusal}
-use Rattle.findings.specs.Types.{Station, Area, Network, Output}
+use Rattle.findings.specs.Types.{Area, Network, Output}
 
 -- the lists
 

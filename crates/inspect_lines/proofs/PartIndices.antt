@@ -4,19 +4,24 @@ use mathlib.Core.Path.{_≡_, refl, _∙_, ap}
 use mathlib.Core.Bool.{Bool, true}
 use mathlib.Core.List.{List, [], _∷_, _++_, map}
 use native.Mathlib.Omega.{arith}
-use lib.ListN.{getD, List·getD-eq-default, List·getD-append}
+use lib.ListN.{length, getD, List·getD-eq-default, List·getD-append}
 use lib.Seq.{getD-append-add}
 use borrow.Author.Tests.{le-leb}
 use Rattle.base.specs.Lists as Lists
 use Rattle.base.specs.Lists.{pairs}
-use Rattle.base.proofs.Tests.{T-true}
+use Rattle.base.proofs.Tests.{T-true, every-at}
 use Rattle.railway.specs.Ranges.{area-ok}
 use Rattle.timetable.specs.Machine.{Timetable}
 use Rattle.timetable.specs.Groups.{six}
 use Rattle.findings.specs.Lists.{two-areas}
 use Rattle.listings.specs.Inspect.{whole-text, area-text, pair-text, totals-text, journeys-text, written-text, parts-of}
 use Rattle.inspect_lines.specs.Types.{Area, Network}
-use Rattle.journey_lines.proofs.ElementAt.{every-at, map-at}
+
+-- the element at an index of a list that is made of another
+map-at : {A B : Type 0} (f : A → B) (xs : List A) (i : ℕ) (d : A) (e : B) → i < length xs → getD (map f xs) i e ≡ f (getD xs i d)
+map-at f [] i d e h = absurd (omega (arith, h))
+map-at f (x ∷ xs) zero d e h = refl
+map-at f (x ∷ xs) (suc i) d e h = map-at f xs i d e (omega (arith, h))
 
 -- two areas that are a pair are two
 

@@ -1,7 +1,7 @@
 // What `inspect` reads, and the parts of what it prints, each by its index: central findings, six areas, fifteen pairs,
 // totals, projections, and whether the timetable is written as it was read.
 ghost use mathlib.Core.Path.{_≡_};
-ghost use mathlib.Core.List.{[], _∷_};
+ghost use mathlib.Core.List.{[]};
 ghost use Prim.Native.Nat.{_<_, _≤_};
 ghost use lib.ListN.{length, getD};
 ghost use Rattle.base.specs.Lists.{pairs};

@@ -12,7 +12,7 @@ use lib.ListN.{length, getD, take, length-take}
 use lib.Seq.{getD-take}
 use borrow.Author.Tests.{le-leb, eq-eqb}
 use Rattle.base.specs.Lists.{every, first, is}
-use Rattle.base.proofs.Tests.{by-value, T-true, true-T, and-l, and-r, parts, every-map}
+use Rattle.base.proofs.Tests.{by-value, T-true, true-T, and-l, and-r, parts, every-map, every-at}
 use Rattle.railway.specs.Ranges.{station-ok, train-ok, same-train}
 use Rattle.network.specs.Networks.{blank-station, network-refusal, listed, station-rows, stations-of}
 use Rattle.network.proofs.NetworkLaws.{network-facts, stations-listed}
@@ -38,7 +38,6 @@ use Rattle.journey_lines.specs.between.Journeys.{journey-lines}
 use Rattle.journey_lines.specs.Types.{Station, Train, Minute, Visit, StationRow, Network, Row, Output}
 use Rattle.text.specs.between.Rows.{rows-text}
 use Rattle.text.proofs.OutputLaws.{written-whole, written-many, never-refused, never-short}
-use Rattle.journey_lines.proofs.ElementAt.{every-at}
 use Rattle.journey_lines.proofs.RowTexts.{rows-lines}
 use Rattle.journey_lines.proofs.RowRanges.{numbers-many, rows-few, rows-small}
 use Rattle.findings.proofs.ListedSheet.{parts-fine, fine-network, sheet-whole}

@@ -1,4 +1,3 @@
-pub mod ElementAt
 pub mod PutEach
 pub mod RowRanges
 pub mod RowTexts

@@ -14,7 +14,7 @@ use Rattle.base.proofs.Tests.{by-value, T-true, and-l, and-r, or-r, both, every
 use Rattle.railway.specs.Ranges.{station-ok}
 use Rattle.network.specs.Networks.{network-refusal, listed, area-of}
 use Rattle.timetable.specs.Tables.{empty}
-use Rattle.timetable.specs.Machine.{Timetable, answer, after}
+use Rattle.timetable.specs.Machine.{Timetable, after}
 use Rattle.timetable.specs.Groups.{six, Divided, in-group, names-group, divide, merge, gather, divided-answer, divided-after}
 use Rattle.timetable.specs.Good.{Whole}
 use Rattle.timetable.specs.Refusals.{call-refusal}

@@ -30,12 +30,6 @@ unfolding fits-network refused-as
 unknown-seven n (local a) m q = rw q
 unknown-seven n (throughout t) m q = absurd (true-T false (sym q))
 
--- what the edit's own values bring comes first, where the network brings nothing
-own-first : (own network both : ℕ) → network ≡ 0 → ¬ (own ≡ 0) → early own network both ≡ own
-own-first own network both e h = by-value (eqb own 3)
-    (λ p. let q = eqb-true own 3 p in early-own-range own network both q ∙ sym q)
-    (λ p. early-own own network both (eqb-false own 3 p) (λ q. omega (arith, e, q)) h)
-
 module _ (n : Network) (good : network-refusal n ≡ 0) where
   -- what refuses an edit before any sheet is looked at refuses it in the central machine too
   pub early-same : (e : Edit) (m : Timetable) → ¬ (early-refusal n e ≡ 0) → refusal n e m ≡ early-refusal n e

@@ -2,7 +2,7 @@
 -- 1. So an answer of 0 says that the file was accepted. By induction over the groups of a number and over the format.
 -- Assumes nothing.
 use Prim.Native.Nat.{ℕ, zero, suc, _+_, _*_, _-_}
-use mathlib.Core.Path.{_≡_, refl, sym, _∙_}
+use mathlib.Core.Path.{_≡_, refl, _∙_}
 use mathlib.Core.Bool.{Bool, true, false}
 use mathlib.Core.List.{List, [], _∷_}
 use native.Mathlib.Omega.{arith}
@@ -11,10 +11,8 @@ use lib.ListN.{length, drop}
 use Rattle.base.specs.Choice.{if_then_else_}
 use Rattle.base.specs.Lists.{within}
 use Rattle.numbers.specs.Numbers.{NumberRead, Value, Refused, group-before, read-groups, read-number}
-use Rattle.timetable.specs.Formats.{Format, done, field, here, Outcome, accepted, refused, placed-field, field-at, behind, read, ended, read-file, Placed}
+use Rattle.timetable.specs.Formats.{Format, done, field, here, Outcome, accepted, refused, placed-field, field-at, behind, read, ended, read-file}
 use Rattle.timetable.specs.EditsFile.{edits-format, read-edits}
-use Rattle.edit_files.specs.Answers.{edits-answer}
-use Rattle.machine.specs.Types.{Edit}
 
 -- the refusal of a number is not 0
 abbrev Some : NumberRead → Type 0

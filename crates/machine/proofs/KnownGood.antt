@@ -1,8 +1,8 @@
 -- A division that is known to be good: what that says, that an edit on it is the single call though no sheet is tested,
 -- and that it keeps it. Assumes nothing.
 use Prim.Native.Nat.{ℕ}
-use mathlib.Core.Path.{_≡_, refl, sym, _∙_}
-use mathlib.Core.Bool.{Bool, true, false, not, _&&_, _||_}
+use mathlib.Core.Path.{_≡_, sym, _∙_}
+use mathlib.Core.Bool.{true, not, _&&_, _||_}
 use mathlib.Core.List.{List}
 use lib.Dec.{T, eqb}
 use lib.ListN.{length}
@@ -20,7 +20,7 @@ use Rattle.machine.specs.Calls.{refused-with, named-good, division-answe
 use Rattle.page_edits.specs.between.PageEdits.{frames-answer, frames-after}
 use Rattle.machine.proofs.ListEdits.{GoodDivision, division-kept}
 use Rattle.machine.proofs.EditCalls.{named-same, division-not, division-early, division-call}
-use Rattle.machine.specs.Types.{Edit, Network, Answer}
+use Rattle.machine.specs.Types.{Edit, Network}
 use Rattle.machine.specs.Lists.{known-good}
 
 module _ (n : Network) (division : List ℕ) where

@@ -2,7 +2,7 @@
 -- others. A place comes along with a refusal alone, and a length with the two others, whose numbers differ. Assumes
 -- nothing.
 use Prim.Native.Nat.{ℕ}
-use mathlib.Core.Path.{_≡_, refl, sym, _∙_, ap}
+use mathlib.Core.Path.{_≡_, refl, ap}
 use mathlib.Core.Option.{some}
 use native.Mathlib.Omega.{arith}
 use Rattle.timetable.specs.Outputs.{Reply, written, needed}

@@ -1,26 +1,24 @@
 -- A list run as a whole, case by case. An accepted file gives its count and the place of its first edit, from which
 -- just its edits are taken; each has two numbers in its answer. Assumes nothing.
-use Prim.Native.Nat.{ℕ, _+_, _*_, _≤_, _<_}
+use Prim.Native.Nat.{ℕ, _*_, _≤_, _<_}
 use mathlib.Core.Path.{_≡_, refl, sym, _∙_, ap}
-use mathlib.Core.Bool.{Bool, true, false}
+use mathlib.Core.Bool.{true}
 use mathlib.Core.List.{List, [], _∷_, flatMap}
 use native.Mathlib.Omega.{arith}
-use lib.Dec.{eqb, leb}
-use lib.ListN.{length, length-append}
+use lib.ListN.{length}
 use borrow.Author.Tests.{eq-eqb, ne-eqb, le-leb, lt-leb}
-use Rattle.base.specs.Choice.{if_then_else_}
-use Rattle.base.specs.Runs.{run, answers}
-use Rattle.timetable.specs.Formats.{Format, Outcome, accepted, refused, field-at, behind, read, read-file, ended, Placed, placed, number, place-of, value-or}
+use Rattle.base.specs.Runs.{answers}
+use Rattle.timetable.specs.Formats.{Outcome, accepted, refused, field-at, behind, read, read-file, Placed, placed, number, place-of, value-or}
 use Rattle.timetable.specs.EditsFile.{edit-entry, edits-on, edits-format, read-edits}
 use Rattle.timetable.specs.Outputs as outputs
-use Rattle.timetable.specs.Outputs.{output, output-after, put}
+use Rattle.timetable.specs.Outputs.{put}
 use Rattle.timetable.proofs.BuffersFilled.{too-short, fits-in}
-use Rattle.machine.specs.Calls.{division-answer, division-after}
+use Rattle.machine.specs.Calls.{division-after}
 use Rattle.edit_files.specs.Answers.{edits-answer}
-use Rattle.timetable.proofs.OutcomeLaws.{clash, behind-taken, ended-taken}
+use Rattle.timetable.proofs.OutcomeLaws.{behind-taken, ended-taken}
 use Rattle.fields.proofs.EntryLaws.{field-bounded}
 use Rattle.fields.proofs.EntryLaws.{placed-read, entries-many}
-use Rattle.machine.specs.Types.{Edit, Network, Answer, Run, EditsRead}
+use Rattle.machine.specs.Types.{Edit, Network, Run, EditsRead}
 use Rattle.machine.specs.Lists.{answer-numbers, answers-of, division-of, reply, told-run, division-left, answers-left, run-answer, run-division, run-answers}
 use Rattle.machine.specs.between.Taken.{is-accepted, taken, edits-at, can-be-read}
 use Rattle.machine.proofs.FileRefusals.{edits-told}

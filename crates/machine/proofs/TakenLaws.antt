@@ -1,25 +1,21 @@
 -- Edits taken from a file one by one: where k + 1 edits can be read, the first is the entry at the place and k can be
 -- read behind it. What a run of all does is then the first edit and a run of the rest. Assumes nothing.
-use Prim.Native.Nat.{ℕ, suc, _+_, _-_, _*_, _<_, _≤_}
+use Prim.Native.Nat.{ℕ, suc, _+_, _*_}
 use mathlib.Core.Path.{_≡_, refl, sym, _∙_, ap, fun-ext}
-use mathlib.Core.Bool.{Bool, true, false, false≢true}
+use mathlib.Core.Bool.{true, false≢true}
 use mathlib.Core.List.{List, [], _∷_, _++_, flatMap}
 use native.Mathlib.Omega.{arith}
 use lib.ListN.{length}
 use Rattle.base.specs.Runs.{run, answers}
-use Rattle.timetable.specs.Formats.{Format, Outcome, accepted, refused, done, _and-then_, behind, read, entries}
+use Rattle.timetable.specs.Formats.{Outcome, accepted, refused, done, _and-then_, behind, read, entries}
 use Rattle.timetable.specs.EditsFile.{edit-entry, edits-on}
 use Rattle.timetable.specs.Outputs.{put}
 use Rattle.timetable.proofs.BuffersFilled.{put-append}
 use Rattle.machine.specs.Calls.{division-answer, division-after}
 use Rattle.fields.proofs.ReadLaws.{read-then}
-use Rattle.machine.specs.Types.{Edit, Network, Answer}
+use Rattle.machine.specs.Types.{Edit, Network}
 use Rattle.machine.specs.Lists.{answer-numbers, answers-of, division-of}
 use Rattle.machine.specs.between.Taken.{is-accepted, taken, edits-at, can-be-read}
-
--- the edits after the first, with the first before them
-first-before : Edit → Outcome (List Edit) → Outcome (List Edit)
-first-before e o = behind o (λ es next. accepted (e ∷ es) next)
 
 before-accepted : (e : Edit) (o : Outcome (List Edit)) → is-accepted (behind o (λ es next. accepted (e ∷ es) next)) ≡ is-accepted o
 unfolding behind is-accepted

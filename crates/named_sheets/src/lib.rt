@@ -1,7 +1,12 @@
 // Which sheets of a division are to be good: those of the areas that an edit names.
 ghost use mathlib.Core.Path.{_≡_};
-ghost use Rattle.named_sheets.specs.between.Named.{touches-at, touches-area, area-passes, named-pass};
+ghost use mathlib.Core.Bool.{_&&_};
+ghost use lib.Dec.{eqb};
+ghost use Rattle.network.specs.Networks.{area-of};
+ghost use Rattle.actions.specs.between.Shapes.{shape-touches};
+ghost use Rattle.named_sheets.specs.between.Named.{touches-area, area-passes, named-pass};
 use actions::shape;
+use actions::shape::Shape;
 use network::Network;
 use railway::edit::Edit;
 use railway::sorts::Area;
@@ -9,25 +14,26 @@ use railway::sorts::Station;
 use sheet::test;
 use sheet::test::Extent;
 
-fn is_named(n: Network, e: Edit, a: u8, s: Station) -> bool
-    ensures { λ r. ⌜ r ≡ touches-at n e a s ⌝ }
+fn is_named(n: Network, x: Shape, a: u8, s: Station) -> bool
+    ensures { λ r. ⌜ r ≡ (shape-touches x s && eqb a (area-of n s)) ⌝ }
 {
-    if a == n.group_of(s) {
-        return shape::touched(e, s);
+    if shape::is_at(x, s) {
+        return a == n.group_of(s);
     }
     false
 }
 
 // The edit names a station of the area.
-fn names_area(n: Network, e: Edit, a: u8) -> bool
+pub fn names_area(n: Network, e: Edit, a: u8) -> bool
     ensures { λ r. ⌜ r ≡ touches-area n e a ⌝ }
 {
+    let x = shape::shape_of(e);
     let rows = n.stations;
     let k = network::in_use(n.stationcount, 16);
     let mut i: usize = 0;
     while i < k {
         let row = rows[i];
-        if is_named(n, e, a, row.station) {
+        if is_named(n, x, a, row.station) {
             return true;
         }
         i += 1;

@@ -12,7 +12,7 @@ use lib.ListN.{length, getD, length-take}
 use lib.Seq.{getD-take}
 use borrow.Author.Tests.{eq-eqb, ne-eqb}
 use Rattle.base.specs.Lists.{every, first, is, each-two}
-use Rattle.base.proofs.Tests.{parts, or-cases, by-value, true-T, every-head, every-tail, every-both}
+use Rattle.base.proofs.Tests.{parts, or-cases, by-value, true-T, every-head, every-tail, every-both, every-at}
 use Rattle.base.proofs.Sorted.{smaller, two-head, two-tail}
 use Rattle.railway.specs.Ranges.{line-ok, same-station, same-line}
 use Rattle.network.specs.Types.{Station, Line, LineRow, Network}
@@ -20,13 +20,6 @@ use Rattle.network.specs.Networks.{network-refusal, line-rows, line-row,
 use Rattle.network.proofs.NetworkLaws.{line-number, network-facts}
 
 module _ {A : Type 0} where
-  -- each passes, so the one at an index does
-  pub every-at : (f : A → Bool) (xs : List A) (i : ℕ) (d : A) → T (every f xs) → i < length xs → T (f (getD xs i d))
-  unfolding every
-  every-at f [] i d t h = absurd (omega arith)
-  every-at f (x ∷ xs) zero d t h = every-head f x xs t
-  every-at f (x ∷ xs) (suc i) d t h = every-at f xs i d (every-tail f x xs t) (omega arith)
-
   -- among rising numbers, one that has the number is the first that has it
   first-at : (f : A → ℕ) (k : ℕ) (d : A) (xs : List A) (i : ℕ) → T (each-two (smaller f) xs) → i < length xs → f (getD xs i d) ≡ k
       → first (λ x. eqb (f x) k) xs ≡ some (getD xs i d)

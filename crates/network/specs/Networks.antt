@@ -1,14 +1,14 @@
 -- Networks: which are good, and what a network knows. Document 01, "The railway and its numbers", "Sheets and
 -- division", "Who brings on which number". Assumes nothing.
 use Prim.Native.Nat.{ℕ}
-use mathlib.Core.Bool.{Bool, true, false, not, _&&_, _||_}
-use mathlib.Core.List.{List, [], _∷_, map}
+use mathlib.Core.Bool.{Bool, not, _&&_, _||_}
+use mathlib.Core.List.{List, map}
 use mathlib.Core.Option.{Option, none, some}
 use lib.Dec.{leb, eqb}
 use lib.ListN.{take}
 use Rattle.base.specs.Choice.{_if_else_}
 use Rattle.base.specs.Lists.{any, every, first, is, within, rising}
-use Rattle.network.specs.Types.{Station, Track, Line, Area, StationRow, LineRow, Network, StationFound, LineFound, AreaFound}
+use Rattle.network.specs.Types.{Station, Track, Line, StationRow, LineRow, Network, StationFound, LineFound, AreaFound}
 use Rattle.railway.specs.Ranges.{station-ok, area-ok, line-ok, run-ok, same-station, same-line}
 
 -- a row that is not used

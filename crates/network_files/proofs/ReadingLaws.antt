@@ -1,13 +1,12 @@
 -- A network file by what its draft says: bytes too many are 1, then what only the whole shows refuses it, else the
 -- network stands. Assumes nothing.
 use Prim.Native.Nat.{ℕ, _<_, _≤_}
-use mathlib.Core.Path.{_≡_, refl, sym, _∙_, ap}
-use mathlib.Core.Bool.{Bool, true, false, false≢true}
+use mathlib.Core.Path.{_≡_, sym, _∙_, ap}
+use mathlib.Core.Bool.{true, false, false≢true}
 use mathlib.Core.List.{List}
 use lib.ListN.{length}
-use Rattle.network.specs.declared.LineRow.{LineRow}
 use Rattle.network.specs.declared.Network.{Network}
-use Rattle.timetable.specs.Formats.{Outcome, accepted, refused, behind, read, ended, read-file, Placed}
+use Rattle.timetable.specs.Formats.{Outcome, accepted, refused, behind, read, ended, read-file}
 use Rattle.timetable.specs.NetworkFile.{Listed, network-format, network-of, network-fault, unless-fault, read-network}
 use Rattle.timetable.specs.declared.Fault.{Fault}
 use Rattle.timetable.proofs.OutcomeLaws.{fault-free, fault-found}

@@ -1,7 +1,7 @@
 -- The outcome that the answers of the readers of rows tell, and what the calls on network files answer for each outcome
 -- of reading. Assumes nothing.
 use Prim.Native.Nat.{ℕ}
-use mathlib.Core.Bool.{Bool, true, false, not}
+use mathlib.Core.Bool.{true, false, not}
 use mathlib.Core.List.{List, [], map}
 use mathlib.Core.Option.{none}
 use lib.Dec.{eqb}

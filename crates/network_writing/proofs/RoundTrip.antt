@@ -1,9 +1,7 @@
 -- An accepted network file is the bytes of its network's numbers, and that network is good (roundtrips NetworkTrips);
 -- so the call writes them. Assumes nothing.
-use Prim.Native.Nat.{ℕ, _≤_}
 use mathlib.Core.Path.{_≡_, refl, sym, _∙_}
-use mathlib.Core.List.{List, _++_}
-use lib.ListN.{length, drop}
+use lib.ListN.{length}
 use Rattle.network.specs.Networks.{network-refusal}
 use Rattle.timetable.specs.Formats.{bytes-of}
 use Rattle.timetable.specs.NetworkFile.{network-numbers}

@@ -1,14 +1,13 @@
 -- A written number reads back, whatever stands behind it; an accepted number writes the same bytes. Both by induction
 -- on the groups permitted. Assumes nothing.
 use Prim.Native.Nat.{ℕ, zero, suc, _+_, _*_, _-_, _/_, _%_, _<_, _≤_}
-use mathlib.Core.Path.{_≡_, refl, sym, _∙_, ap, ap₂}
+use mathlib.Core.Path.{_≡_, refl, _∙_, ap, ap₂}
 use mathlib.Core.Bool.{Bool, true, false}
 use mathlib.Core.List.{List, [], _∷_, _++_}
 use native.Mathlib.Omega.{arith}
-use native.Mathlib.Numerals.{add-one}
 use lib.Dec.{ltb, eqb}
 use lib.ListN.{length, take}
-use borrow.Author.Tests.{ltb-true, ltb-false, lt-ltb, le-ltb, ne-eqb, eqb-false}
+use borrow.Author.Tests.{ltb-false, lt-ltb, le-ltb, eqb-false}
 use Rattle.base.specs.Choice.{if_then_else_}
 use Rattle.numbers.specs.Numbers.{NumberRead, Value, Refused, group-before, read-groups, read-number, write-groups, write-number, width}
 use Rattle.numbers.proofs.GroupLaws.{cap, Small, small-tail, before-value}

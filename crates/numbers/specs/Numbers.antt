@@ -1,7 +1,6 @@
 -- The numbers of files. Document 01, "Files": "A number is groups of seven bits, lowest first, top bit set on all but
 -- the last: its first group plus 128 times the number in the rest." Assumes nothing.
 use Prim.Native.Nat.{ℕ, zero, suc, _+_, _*_, _-_, _/_, _%_}
-use mathlib.Core.Bool.{Bool, true, false}
 use mathlib.Core.List.{List, [], _∷_, _++_}
 use lib.Dec.{ltb, leb, eqb}
 use lib.ListN.{length, drop}

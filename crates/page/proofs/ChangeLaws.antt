@@ -10,11 +10,11 @@ use lib.ListN.{length, getD, set, take, drop, length-append, length-drop, length
 use lib.Seq.{take-at, drop-at, length-take-le}
 use borrow.Author.Tests.{ltb-true, ltb-false, eqb-true, ne-eqb}
 use Rattle.base.specs.Choice.{if_then_else_, _if_else_}
-use Rattle.base.specs.Lists.{any, every, keep, count, each-two, same, below}
+use Rattle.base.specs.Lists.{any, every, keep, count, each-two, same}
 use Rattle.base.proofs.Counts.{keep-every}
 use Rattle.base.proofs.Lengths.{length-keep}
 use Rattle.base.proofs.Sorted.{two-head, two-tail, smaller, same-equal, below-itself}
-use Rattle.base.proofs.Tests.{T-false, true-T, by-value, T-true, every-head, every-tail, every-weaker}
+use Rattle.base.proofs.Tests.{T-false, true-T, by-value, every-head, every-tail, every-weaker}
 use Rattle.base.specs.Lists.{any, every, keep, count, each-two, same}
 use Rattle.railway.specs.Ranges.{same-train}
 use Rattle.railway.specs.Relations.{key, precedes, same-relation}

@@ -18,7 +18,6 @@ use Rattle.page.specs.between.Changes.{table-in}
 use Rattle.page.proofs.SlotLaws.{record-there, table-of-page, visits-many, relations-many, no-visits, no-relations}
 use Rattle.railway.specs.declared.sorts.Train.{Train}
 use Rattle.railway.specs.declared.visit.Visit.{Visit}
-use Rattle.railway.specs.declared.relation.Relation.{Relation}
 use Rattle.timetable.specs.Tables.{Entry}
 use Rattle.page.specs.between.Entries.{entry-bytes, relation-bytes, entry-at, relation-at}
 

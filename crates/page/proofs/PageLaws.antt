@@ -13,9 +13,7 @@ use lib.Seq.{drop-at, drop-drop}
 use borrow.Author.Tests.{lt-ltb}
 use Rattle.base.specs.Lists.{every, same}
 use Rattle.base.proofs.Sorted.{same-equal, same-refl}
-use Rattle.base.proofs.Tests.{true-T, and-l, and-r, both, every-true, parts, every-head, every-tail, every-cons, every-weaker}
-use Rattle.railway.specs.Ranges.{station-ok, line-ok, run-ok}
-use Rattle.network.specs.Networks.{listed, runs}
+use Rattle.base.proofs.Tests.{true-T, and-l, and-r, both, every-true, parts, every-head, every-tail, every-weaker}
 use Rattle.timetable.specs.Tables.{Entry, Table, empty}
 use Rattle.timetable.specs.Visits.{ins, outs}
 use Rattle.timetable.specs.Good.{in-good, out-good, entry-good, table-good}

@@ -15,7 +15,7 @@ use Rattle.timetable.specs.Good as Good
 use Rattle.timetable.specs.Tables.{Entry, Table}
 use Rattle.records.specs.Bytes.{zeros}
 use Rattle.records.specs.Records as Records
-use Rattle.page.specs.Types.{InLink, OutLink, Relation, Connection}
+use Rattle.page.specs.Types.{InLink, OutLink, Connection}
 use Rattle.page.specs.Pages as Pages
 use Rattle.page.specs.Pages.{encode-page, decode-page, good-page}
 

@@ -1,8 +1,8 @@
 -- A station's page of 512 bytes: 32 head, 24 visit records, 6 relation records of 16 bytes. Everything unused is zero,
 -- so equal tables are equal bytes. Document 01, "Sheets and division": "the team fixes its layout in docs/, so that
 -- equal timetables are equal bytes". Assumes nothing.
-use Prim.Native.Nat.{ℕ, zero, suc, _+_, _*_, _-_, min}
-use mathlib.Core.Bool.{Bool, true, false, _&&_}
+use Prim.Native.Nat.{ℕ, zero, suc, _*_, _-_, min}
+use mathlib.Core.Bool.{Bool, _&&_}
 use mathlib.Core.List.{List, [], _∷_, _++_, map, flatMap}
 use lib.ListN.{length, getD, take, drop}
 use Rattle.base.specs.Lists.{same}

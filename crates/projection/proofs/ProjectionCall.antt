@@ -1,20 +1,19 @@
 -- The call after each test of the code: what refuses it, what it answers, and what the buffer then holds. Assumes
 -- nothing.
-use Prim.Native.Nat.{ℕ, _<_, _≤_}
+use Prim.Native.Nat.{ℕ}
 use mathlib.Core.Path.{_≡_, sym, _∙_}
 use mathlib.Core.Bool.{true, false, not}
 use mathlib.Core.List.{List}
 use mathlib.Core.Option.{none, some}
-use native.Mathlib.Omega.{arith}
 use lib.Dec.{eqb}
 use lib.IntN.{ℤ}
 use lib.ListN.{length}
-use borrow.Author.Tests.{le-leb, lt-leb, eq-eqb, ne-eqb}
+use borrow.Author.Tests.{eq-eqb, ne-eqb}
 use Rattle.base.specs.Choice.{_if_else_}
 use Rattle.network.specs.Networks.{network-refusal, listed}
 use Rattle.timetable.specs.Tables.{visit-of, has-visit}
 use Rattle.timetable.specs.Projection.{projection}
-use Rattle.timetable.specs.Outputs.{reply, output, output-after, put}
+use Rattle.timetable.specs.Outputs.{reply, output, output-after}
 use Rattle.sheet.specs.Sheets.{decode-sheet, good-sheet}
 use Rattle.sheet.specs.declared.test.Extent.{Extent}
 use Rattle.sheet.specs.between.Passes.{sheet-passes}

@@ -1,6 +1,6 @@
 -- The ranges of edits: "3 a value or order is outside the ranges (edits too)". Assumes nothing.
-use mathlib.Core.Bool.{Bool, true, false, _&&_}
-use Rattle.railway.specs.Types.{Plan, Extension, Deletion, Report, StationRelation, Cancellation}
+use mathlib.Core.Bool.{Bool, _&&_}
+use Rattle.railway.specs.Types.{Plan, Extension, Deletion, Report, StationRelation}
 use Rattle.railway.specs.Types.{Edit, Place, Prepend, Append, DeleteFirst, DeleteLast, Amend}
 use Rattle.railway.specs.Types.{ReportArrival, ReportDeparture, AddRelation, RemoveRelation, DeleteTrain}
 use Rattle.railway.specs.Ranges.{station-ok, train-ok, track-ok, line-ok, minute-ok, run-ok}

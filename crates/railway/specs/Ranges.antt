@@ -1,7 +1,7 @@
 -- The ranges of the sorts, and when two of a sort are the same. Document 01, "The railway and its numbers". Assumes
 -- nothing.
 use Prim.Native.Nat.{ℕ}
-use mathlib.Core.Bool.{Bool, true, false}
+use mathlib.Core.Bool.{Bool}
 use lib.Dec.{leb, eqb}
 use lib.IntN.{ℤ, subℕ}
 use Rattle.base.specs.Lists.{within}

@@ -3,13 +3,11 @@ use Prim.Native.Nat.{ℕ, suc, _+_}
 use mathlib.Core.Path.{_≡_, refl, sym, _∙_, ap}
 use mathlib.Core.Bool.{Bool, not}
 use mathlib.Core.List.{List, [], _∷_, map}
-use native.Mathlib.Omega.{arith}
 use lib.Dec.{eqb}
 use lib.ListN.{getD, List·getD-map}
 use Rattle.base.specs.Choice.{if_then_else_}
 use Rattle.railway.specs.declared.sorts.Train.{Train}
-use Rattle.railway.specs.declared.edit.StationRelation.{StationRelation}
-use Rattle.timetable.specs.Formats.{Format, done, field, here, Outcome, accepted, refused, _and-then_, field-at, behind, read, least, floor-after, compared}
+use Rattle.timetable.specs.Formats.{done, field, accepted, refused, _and-then_, field-at, behind, read, least, floor-after, compared}
 use Rattle.timetable.specs.Tables.{packed}
 use Rattle.timetable.specs.EditsFile.{trains-format, pair-of, group-of, relation-of, most-trains, trains-part, train-count-part, interval-part, relation-entry, station-relation-entry}
 use Rattle.fields.specs.between.Answers.{padded}

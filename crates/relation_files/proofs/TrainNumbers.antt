@@ -12,7 +12,7 @@ use Rattle.railway.specs.Relations.{present, used}
 use Rattle.railway.specs.declared.sorts.Train.{Train}
 use Rattle.railway.specs.declared.relation.Trains.{Trains}
 use Rattle.fields.specs.declared.field.Numbers.{Numbers}
-use Rattle.fields.specs.between.Answers.{padded, row-of}
+use Rattle.fields.specs.between.Answers.{row-of}
 use Rattle.fields.proofs.ReadLaws.{padded-next}
 
 -- the train of a place, if it holds one

@@ -16,7 +16,7 @@ use Rattle.base.specs.Choice.{if_then_else_}
 use Rattle.base.specs.Lists.{is}
 use Rattle.base.proofs.Tests.{parts, and-l, and-r, both, true-T}
 use Rattle.railway.specs.Ranges.{track-ok, line-ok, run-ok, minute-ok}
-use Rattle.network.specs.Networks.{network-refusal, listed, station-row, blank-line, row-runs, line-row, runs, track-known}
+use Rattle.network.specs.Networks.{network-refusal, station-row, blank-line, row-runs, line-row, runs, track-known}
 use Rattle.network.proofs.NetworkLaws.{network-facts}
 use Rattle.network.proofs.AreaLaws.{listed-ok}
 use Rattle.network.proofs.RowsByNumber.{row-at, runs-joined}

@@ -14,10 +14,9 @@ use borrow.Author.Tests.{lt-ltb, le-ltb, le-leb, lt-leb, eq-eqb, ne-eqb, eqb-fal
 use Rattle.base.specs.Choice.{_if_else_}
 use Rattle.base.specs.Lists.{every, each-two, same}
 use Rattle.base.proofs.Lengths.{every-next}
-use Rattle.base.proofs.Sorted.{smaller-across, two-head, two-tail, two-cons, two-step, two-map, same-equal, same-refl, two-weaker}
-use Rattle.base.proofs.Tests.{by-value, T-true, true-T, and-l, and-r, both, or-l, or-r, or-cases, parts, every-head, every-tail, every-cons, every-weaker, every-map, every-true, every-both, T-false}
+use Rattle.base.proofs.Sorted.{smaller-across, two-head, two-tail, two-step, two-map, same-equal, same-refl, two-weaker}
+use Rattle.base.proofs.Tests.{by-value, T-true, true-T, and-l, and-r, both, or-r, or-cases, parts, every-head, every-tail, every-weaker, every-map, every-true, every-both, every-at, T-false}
 use Rattle.railway.specs.Ranges.{train-ok}
-use Rattle.network.proofs.RowsByNumber.{every-at}
 use Rattle.network.specs.Networks.{listed, area-of}
 use Rattle.railway.specs.Relations.{relation-ok, precedes}
 use Rattle.timetable.specs.Tables.{Entry, Table}

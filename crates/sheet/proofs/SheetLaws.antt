@@ -12,9 +12,8 @@ use lib.Seq.{take-at, take-add, take-all, drop-drop, drop-append-add, length-tak
 use borrow.Author.Tests.{ltb-true, eq-eqb}
 use Rattle.base.specs.Choice.{if_then_else_}
 use Rattle.base.specs.Lists.{every, within}
-use Rattle.base.proofs.Tests.{by-value, T-true, true-T, not-T-false, and-l, and-r, both, every-head, every-tail, every-cons, every-weaker, every-at}
+use Rattle.base.proofs.Tests.{by-value, T-true, true-T, not-T-false, and-l, and-r, both, every-head, every-tail, every-weaker, every-at}
 use Rattle.railway.specs.Ranges.{station-ok}
-use Rattle.network.proofs.RowsByNumber.{every-at}
 use Rattle.network.specs.Networks.{network-refusal, listed, area-of}
 use Rattle.timetable.specs.Tables.{empty}
 use Rattle.timetable.specs.Machine.{Timetable}

@@ -1,7 +1,7 @@
 -- A station's page of a sheet: the bytes that are cut out, by the tests that the code makes; and the table that they
 -- hold, which is the station's of the timetable that the sheet holds. Assumes nothing.
 use Prim.Native.Nat.{ℕ, _+_, _*_, _-_, _≤_}
-use mathlib.Core.Path.{_≡_, sym, ap, _∙_}
+use mathlib.Core.Path.{_≡_, sym, _∙_}
 use mathlib.Core.Bool.{true, false}
 use mathlib.Core.List.{List, []}
 use native.Mathlib.Nat.{add-sub-cancel-left}
@@ -9,7 +9,6 @@ use native.Mathlib.Omega.{arith}
 use lib.Dec.{leb, leb→le}
 use lib.ListN.{length, take, drop}
 use borrow.Author.Tests.{eq-eqb, ne-eqb}
-use Rattle.base.specs.Choice.{if_then_else_}
 use Rattle.base.proofs.Tests.{by-value, true-T, and-l, and-r}
 use Rattle.base.specs.Lists.{within}
 use Rattle.railway.specs.Ranges.{station-ok}

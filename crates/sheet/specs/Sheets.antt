@@ -1,8 +1,8 @@
 -- Sheets of 16 pages and divisions of six sheets. Document 01, "Sheets and division": "A sheet is 8,192 bytes and holds
 -- one timetable"; "A division is 49,152 bytes, six sheets by area." Assumes nothing.
-use Prim.Native.Nat.{ℕ, _+_, _*_, _-_}
-use mathlib.Core.Bool.{Bool, true, false, not, _&&_, _||_}
-use mathlib.Core.List.{List, [], _∷_, _++_, map, flatMap}
+use Prim.Native.Nat.{ℕ, _*_, _-_}
+use mathlib.Core.Bool.{Bool, _&&_}
+use mathlib.Core.List.{List, [], _∷_, map, flatMap}
 use lib.Dec.{ltb, eqb}
 use lib.ListN.{length, take, drop}
 use Rattle.base.specs.Choice.{if_then_else_, _if_else_}
@@ -10,7 +10,7 @@ use Rattle.base.specs.Lists.{every}
 use Rattle.railway.specs.Ranges.{station-ok, area-ok}
 use Rattle.network.specs.Networks.{network-refusal, listed, area-of}
 use Rattle.timetable.specs.Refusals.{call-refusal}
-use Rattle.timetable.specs.Tables.{Table, empty}
+use Rattle.timetable.specs.Tables.{empty}
 use Rattle.timetable.specs.Machine.{Timetable}
 use Rattle.timetable.specs.Groups.{six, in-group}
 use Rattle.records.specs.Bytes.{zeros, blank}

@@ -1,6 +1,6 @@
 -- What a list of edits leaves in the buffers that it is run with: the division that its edits leave, and two numbers an
 -- edit, which are read back as the edits' answers. Assumes nothing.
-use Prim.Native.Nat.{ℕ, suc, _+_, _*_, _≤_}
+use Prim.Native.Nat.{ℕ, suc, _+_, _*_}
 use mathlib.Core.Path.{_≡_, refl, sym, _∙_, ap, ap₂}
 use mathlib.Core.Bool.{true}
 use mathlib.Core.List.{List, [], _∷_, _++_, flatMap}
@@ -8,10 +8,9 @@ use native.Mathlib.Omega.{arith}
 use lib.Dec.{leb}
 use lib.ListN.{length, getD, drop}
 use borrow.Author.Tests.{eq-eqb, le-leb}
-use Rattle.base.specs.Choice.{if_then_else_}
 use Rattle.base.specs.Runs.{answers}
 use Rattle.timetable.specs.Outputs.{output-after}
-use Rattle.machine.specs.Calls.{division-answer, division-after}
+use Rattle.machine.specs.Calls.{division-after}
 use Rattle.machine.specs.Lists.{answer-numbers, answers-of, division-of, division-left, answers-left, run-division, run-answers}
 use Rattle.machine.specs.between.Taken.{edits-at}
 use Rattle.machine.proofs.RunLaws.{answers-length}

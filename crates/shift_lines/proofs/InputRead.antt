@@ -1,10 +1,9 @@
 -- What the answer of reading `shift`'s input says: refused, the number is not 0; accepted, the network is good, and the
 -- part behind it is an edits file with the same edits, as the input is the bytes of the network's numbers and of the
 -- edits' (formats). Assumes nothing.
-use Prim.Native.Nat.{ℕ, _+_, _-_, _≤_, _<_}
+use Prim.Native.Nat.{ℕ, _-_, _≤_, _<_}
 use mathlib.Core.Path.{_≡_, refl, sym, _∙_, ap, ap₂, subst}
-use mathlib.Core.Bool.{true}
-use mathlib.Core.List.{List, _++_, flatMap}
+use mathlib.Core.List.{List, _++_}
 use mathlib.Core.Option.{Option, none, some}
 use native.Mathlib.Omega.{arith}
 use lib.Dec.{T}

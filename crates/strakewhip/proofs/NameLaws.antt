@@ -6,7 +6,7 @@ use Rattle.network.specs.Networks.{area-of}
 use Rattle.timetable.specs.Groups.{names-group}
 use Rattle.actions.specs.Early.{early-refusal}
 use Rattle.actions.proofs.EarlyLaws.{Early, early-facts}
-use Rattle.machine.specs.between.Named.{touches-area}
+use Rattle.named_sheets.specs.between.Named.{touches-area}
 use Rattle.machine.proofs.EditCalls.{area-named}
 use Rattle.strakewhip.specs.Types.{Edit, Network}
 use Rattle.strakewhip.specs.Replies.{sized, plain, bits}

@@ -4,7 +4,7 @@ use mathlib.Core.Path.{_≡_, sym, _∙_, ap}
 use mathlib.Core.Bool.{true, false}
 use mathlib.Core.List.{List}
 use Rattle.timetable.specs.Count.{overfull, raise-refusal, raise}
-use Rattle.strakewhip.specs.Types.{Edit, Tally, OneEdit, Reply}
+use Rattle.strakewhip.specs.Types.{Tally, OneEdit, Reply}
 use Rattle.strakewhip.specs.Replies.{plain, placed, read-one}
 use Rattle.strakewhip.specs.between.OneEdit.{edit-answer}
 use Rattle.strakewhip.specs.Calls.{tally-of, numbers-of, raise-reply, raise-left}

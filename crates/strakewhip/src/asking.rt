@@ -2,18 +2,17 @@
 ghost use mathlib.Core.Path.{_≡_};
 ghost use Prim.Native.Nat.{_≤_};
 ghost use Rattle.base.specs.Choice.{_if_else_};
-ghost use Rattle.machine.specs.between.Named.{touches-at, touches-area};
+ghost use Rattle.named_sheets.specs.between.Named.{touches-area};
 ghost use Rattle.strakewhip.specs.Replies.{bits};
 ghost use Rattle.strakewhip.specs.Calls.{network-reply, named, named-under, names-reply};
 use crate::input;
 use crate::reply;
 use crate::reply::Reply;
 use actions::early;
-use actions::shape;
+use named_sheets::names_area;
 use network::Network;
 use network_files::reading::read_network;
 use railway::edit::Edit;
-use railway::sorts::Station;
 
 // Refusal and place of a network's file; `length` is what was read.
 #[no_mangle]
@@ -25,32 +24,6 @@ pub extern "C" fn strakewhip_network(network: &[u8]) -> Reply
         return reply::placed(1, read.refusal, read.place);
     }
     reply::sized(0, read.place)
-}
-
-fn is_named(n: Network, e: Edit, a: u8, s: Station) -> bool
-    ensures { λ r. ⌜ r ≡ touches-at n e a s ⌝ }
-{
-    if a == n.group_of(s) {
-        return shape::touched(e, s);
-    }
-    false
-}
-
-// The edit names a station of the area.
-fn names_area(n: Network, e: Edit, a: u8) -> bool
-    ensures { λ r. ⌜ r ≡ touches-area n e a ⌝ }
-{
-    let rows = n.stations;
-    let k = network::in_use(n.stationcount, 16);
-    let mut i: usize = 0;
-    while i < k {
-        let row = rows[i];
-        if is_named(n, e, a, row.station) {
-            return true;
-        }
-        i += 1;
-    }
-    false
 }
 
 // The area's bit where the edit names it, else 0.

@@ -11,7 +11,7 @@
 -- `divided-after` and `divided-answer` is the work on a division. A record collects what is promised together; of what
 -- it is promised stands at the end of the file. Assumes nothing.
 use mathlib.Core.Bool.{_||_}
-use mathlib.Core.List.{List, [], _++_, flatMap}
+use mathlib.Core.List.{List, _++_, flatMap}
 use mathlib.Core.Path.{_≡_}
 use Prim.Native.Nat.{ℕ, _+_}
 use lib.Dec.{T, eqb, ltb}

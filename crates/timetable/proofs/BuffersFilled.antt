@@ -1,15 +1,12 @@
 -- Numbers written from a place on, those past the end dropped: two lists one behind the other are written one after the
 -- other, and what fits from the start on is written whole, as the calls that fill a buffer promise. Assumes nothing.
-use Prim.Native.Nat.{ℕ, zero, suc, _+_, _≤_, _<_}
+use Prim.Native.Nat.{ℕ, suc, _+_, _≤_, _<_}
 use mathlib.Core.Path.{_≡_, refl, sym, _∙_, ap}
-use mathlib.Core.Bool.{true, false, _&&_}
 use mathlib.Core.List.{List, [], _∷_, _++_, flatMap}
 use native.Mathlib.Omega.{arith}
-use lib.Dec.{leb, eqb}
 use lib.ListN.{length, getD, set, take, drop, length-set, length-take, length-append, drop-of-length-le}
 use lib.Seq.{getD-take}
 use borrow.Author.Tests.{le-leb, lt-leb, ne-eqb}
-use Rattle.base.specs.Choice.{if_then_else_}
 use Rattle.base.proofs.Lengths.{drop-next}
 use Rattle.timetable.specs.Types.{Output}
 use Rattle.timetable.specs.Outputs.{reply, output, output-after, put, Puts}

@@ -1,7 +1,7 @@
 -- Outcomes of reading taken apart: accepted is not refused, what stands behind an accepted value or before the end of an
 -- accepted file, and what a fault that only the whole shows makes of an outcome. Assumes nothing.
 use Prim.Native.Nat.{ℕ}
-use mathlib.Core.Path.{_≡_, refl, sym, _∙_, ap}
+use mathlib.Core.Path.{_≡_, refl, ap}
 use mathlib.Core.Bool.{Bool, true, false}
 use mathlib.Core.List.{List}
 use mathlib.Core.Option.{Option, none, some}

@@ -1,10 +1,10 @@
 -- The kinds of cases of the examples' table, the test of a case, and short forms to write cases with. Assumes nothing.
 use Prim.Native.Nat.{ℕ, zero, suc, _+_, _-_}
-use mathlib.Core.Bool.{Bool, true, false, not, _&&_, Bool·beq}
-use mathlib.Core.List.{List, [], _∷_, _++_, map, flatMap}
+use mathlib.Core.Bool.{Bool, false, _&&_, Bool·beq}
+use mathlib.Core.List.{List, [], _∷_, _++_, flatMap}
 use lib.Dec.{eqb}
 use lib.IntN.{ℤ, pos, negsuc}
-use lib.ListN.{length, getD, take}
+use lib.ListN.{length}
 use Rattle.base.specs.Choice.{if_then_else_}
 use Rattle.base.specs.Lists as Lists
 use Rattle.base.specs.Lists.{any, keep, same}
@@ -17,17 +17,17 @@ use Rattle.railway.specs.Relations.{key}
 use Rattle.railway.specs.Edits as Edits
 use Rattle.network.specs.Networks as Networks
 use Rattle.network.specs.Networks.{network-refusal, area-of}
-use Rattle.timetable.specs.Types.{Station, Train, Track, Line, Area, Minute, InLink, OutLink, Trains, Pair}
-use Rattle.timetable.specs.Types.{Relation, Connection, Disconnection, Dependency, Plan, Extension, Deletion, Report}
-use Rattle.timetable.specs.Types.{Edit, Place, Prepend, Append, DeleteFirst, DeleteLast, Amend}
+use Rattle.timetable.specs.Types.{Station, Train, Line, Minute, InLink, OutLink, Trains, Pair}
+use Rattle.timetable.specs.Types.{Relation, Connection, Plan}
+use Rattle.timetable.specs.Types.{Edit, Place, Prepend, Append, DeleteFirst, DeleteLast}
 use Rattle.timetable.specs.Types.{ReportArrival, ReportDeparture, AddRelation, RemoveRelation, DeleteTrain}
 use Rattle.timetable.specs.Types.{StationRow, LineRow, Network, Answer, Finding, Row, Tally}
 use Rattle.timetable.specs.Formats as Formats
-use Rattle.timetable.specs.Formats.{Outcome, accepted, refused, bytes-of, Placed}
+use Rattle.timetable.specs.Formats.{Outcome, accepted, refused, Placed}
 use Rattle.timetable.specs.NetworkFile as NetworkFile
 use Rattle.timetable.specs.NetworkFile.{network-with as network, network-numbers, read-network}
 use Rattle.timetable.specs.EditsFile as EditsFile
-use Rattle.timetable.specs.EditsFile.{Shift, edit-numbers, edits-numbers, read-edits, read-shift}
+use Rattle.timetable.specs.EditsFile.{Shift, edits-numbers, read-edits, read-shift}
 use Rattle.timetable.specs.TimetableFile as TimetableFile
 use Rattle.timetable.specs.TimetableFile.{read-timetable, timetable-numbers}
 use Rattle.timetable.specs.Pieces as Pieces
@@ -42,7 +42,7 @@ use Rattle.timetable.specs.Good as Good
 use Rattle.timetable.specs.Good.{table-good}
 use Rattle.timetable.specs.Rules as Rules
 use Rattle.timetable.specs.Findings as Findings
-use Rattle.timetable.specs.Findings.{findings, finding, numbers-of, own-list, pair-list}
+use Rattle.timetable.specs.Findings.{findings, numbers-of, own-list, pair-list}
 use Rattle.timetable.specs.Projection as Projection
 use Rattle.timetable.specs.Projection.{projection}
 use Rattle.timetable.specs.Count as Count

@@ -8,7 +8,7 @@ use lib.ListN.{length}
 use Rattle.base.specs.Choice.{if_then_else_, _if_else_}
 use Rattle.base.specs.Lists.{sum}
 use Rattle.network.specs.Networks.{stations-of}
-use Rattle.timetable.specs.Types.{Station, Edit, Network, Answer, Tally}
+use Rattle.timetable.specs.Types.{Edit, Network, Answer, Tally}
 use Rattle.timetable.specs.Machine.{Timetable, meaning, added-by}
 
 unfoldable pub zero-tally : Tally

@@ -2,14 +2,14 @@
 -- relation is kind (1, 2, 3), interval, count of trains, trains (rising, except arriver, departer, whose count is 2)."
 -- Assumes nothing.
 use Prim.Native.Nat.{ℕ, zero, suc, _+_}
-use mathlib.Core.Bool.{Bool, true, false, not}
+use mathlib.Core.Bool.{Bool, not}
 use mathlib.Core.List.{List, [], _∷_, _++_, map, flatMap}
 use lib.Dec.{eqb}
-use lib.ListN.{length, getD, drop}
+use lib.ListN.{length, getD}
 use Rattle.base.specs.Choice.{if_then_else_, _if_else_}
 use Rattle.railway.specs.Ranges.{last-minute}
 use Rattle.railway.specs.Relations.{used}
-use Rattle.timetable.specs.Types.{Train, Trains, Pair, Relation, Connection, Disconnection, Dependency, Network}
+use Rattle.timetable.specs.Types.{Trains, Pair, Relation, Connection, Disconnection, Dependency, Network}
 use Rattle.timetable.specs.Types.{Plan, Extension, Deletion, Report, StationRelation}
 use Rattle.timetable.specs.Types.{Edit, Place, Prepend, Append, DeleteFirst, DeleteLast, Amend}
 use Rattle.timetable.specs.Types.{ReportArrival, ReportDeparture, AddRelation, RemoveRelation, DeleteTrain}

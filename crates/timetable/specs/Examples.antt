@@ -4,7 +4,7 @@ use Prim.Native.Nat.{_+_}
 use mathlib.Core.Path.{_≡_, refl}
 use mathlib.Core.Bool.{true, false}
 use mathlib.Core.List.{List, [], _∷_, _++_}
-use Rattle.timetable.specs.Types.{Connection, Disconnection, Dependency, InLink, OutLink, Edit, Amend}
+use Rattle.timetable.specs.Types.{Connection, Disconnection, Dependency, InLink, OutLink, Amend}
 use Rattle.timetable.specs.Findings.{finding}
 use Rattle.timetable.specs.Machine.{nothing-placed}
 use Rattle.timetable.specs.Formats.{bytes-of}

@@ -1,13 +1,13 @@
 -- The lists of findings: of a whole timetable, of a group of stations (an area), and of two groups. Document 01,
 -- "Findings". Assumes nothing.
 use Prim.Native.Nat.{ℕ, suc, _+_}
-use mathlib.Core.Bool.{Bool, true, false, not, _&&_, _||_}
+use mathlib.Core.Bool.{Bool, not, _&&_, _||_}
 use mathlib.Core.List.{List, [], _∷_, _++_, map, flatMap}
 use lib.Dec.{eqb}
 use Rattle.base.specs.Choice.{if_then_else_}
 use Rattle.base.specs.Lists.{keep}
 use Rattle.network.specs.Networks.{stations-of}
-use Rattle.timetable.specs.Types.{Station, Train, Inward, Outward, Visit, Relation, Network, Finding}
+use Rattle.timetable.specs.Types.{Station, Inward, Outward, Visit, Relation, Network, Finding}
 use Rattle.timetable.specs.Visits.{ins, outs}
 use Rattle.timetable.specs.Tables.{Entry, Table}
 use Rattle.timetable.specs.Machine.{Timetable}

@@ -2,7 +2,6 @@
 -- and "Who brings on which number". Every order is a range: its least value depends on the entry before. So one reading
 -- finds "the first faulty number by place". Assumes nothing.
 use Prim.Native.Nat.{ℕ, zero, suc, _+_, max}
-use mathlib.Core.Bool.{Bool, true, false}
 use mathlib.Core.List.{List, [], _∷_, flatMap}
 use lib.Dec.{leb, eqb}
 use lib.ListN.{length, drop}

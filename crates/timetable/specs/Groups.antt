@@ -1,7 +1,7 @@
 -- Which stations and groups an edit names, and timetables divided by groups of stations: document 01, "Sheets and
 -- division", for any grouping. Areas are one use of it: the grouping `area-of n`. Assumes nothing.
 use Prim.Native.Nat.{ℕ}
-use mathlib.Core.Bool.{Bool, true, false, _&&_, _||_}
+use mathlib.Core.Bool.{Bool, _&&_, _||_}
 use mathlib.Core.List.{List, [], _∷_}
 use lib.Dec.{ltb, eqb}
 use Rattle.base.specs.Choice.{if_then_else_}
@@ -10,7 +10,7 @@ use Rattle.railway.specs.Ranges.{same-station}
 use Rattle.network.specs.Networks.{stations-of, listed, area-of}
 use Rattle.timetable.specs.Types.{Station, Network, Edit, Answer}
 use Rattle.timetable.specs.Tables.{empty}
-use Rattle.timetable.specs.Machine.{Timetable, Action, Meaning, local, throughout, meaning, known, sound, answer, after}
+use Rattle.timetable.specs.Machine.{Timetable, Meaning, local, throughout, meaning, known, sound, answer, after}
 
 -- the group of each station, 0 where it is in none
 abbrev pub Grouping : Type 0

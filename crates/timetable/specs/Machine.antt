@@ -2,8 +2,7 @@
 -- machine" and "Who brings on which number". An edit sees the tables of its two stations alone, `here` (of s) and
 -- `there` (of p); edit 11 sees all. So what is local is local by construction. Assumes nothing.
 use Prim.Native.Nat.{ℕ}
-use mathlib.Core.Bool.{Bool, true, false, not, _&&_, _||_}
-use mathlib.Core.List.{List, [], _∷_}
+use mathlib.Core.Bool.{Bool, true, not, _&&_}
 use lib.Dec.{eqb}
 use Rattle.base.specs.Choice.{if_then_else_, _if_else_}
 use Rattle.base.specs.Lists.{is, count}

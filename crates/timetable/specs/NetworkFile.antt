@@ -1,7 +1,7 @@
 -- The network file. Document 01, "Files": "Network: station count, stations rising, headway, line count, lines rising,
 -- fields as listed; rising is strict, for stations and lines by their number alone." Assumes nothing.
 use Prim.Native.Nat.{ℕ, _-_}
-use mathlib.Core.Bool.{Bool, true, false, not}
+use mathlib.Core.Bool.{not}
 use mathlib.Core.List.{List, [], _∷_, _++_, map, flatMap}
 use mathlib.Core.Option.{Option, none, some}
 use lib.Dec.{eqb}

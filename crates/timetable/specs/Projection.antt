@@ -1,9 +1,8 @@
 -- The expected times of a train from one visit on. Document 01, "Projection and tally". Assumes nothing.
 use Prim.Native.Nat.{ℕ, zero, suc, _+_, max}
-use mathlib.Core.Bool.{Bool, true, false}
 use mathlib.Core.List.{List, [], _∷_}
-use mathlib.Core.Option.{Option, none, some}
-use lib.IntN.{ℤ, subℕ}
+use mathlib.Core.Option.{none, some}
+use lib.IntN.{subℕ}
 use Rattle.base.specs.Choice.{if_then_else_}
 use Rattle.timetable.specs.Types.{Station, Train, OutLink, Visit, Row}
 use Rattle.timetable.specs.Visits.{arr, dep, stops}

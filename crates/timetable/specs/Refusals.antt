@@ -1,7 +1,7 @@
 -- What refuses a call, in document 01's order: "5, 3, 4, 7, 6, 8, 9, 10, 11, 12, 13". A number that stands between 3
 -- and 4 is the call's own or the network's, one behind 4 the network's. Assumes nothing.
 use Prim.Native.Nat.{ℕ}
-use mathlib.Core.Bool.{Bool, true, false, not, _||_}
+use mathlib.Core.Bool.{Bool, not, _||_}
 use lib.Dec.{eqb}
 use Rattle.base.specs.Choice.{if_then_else_, _if_else_}
 

@@ -1,9 +1,9 @@
 -- The rules of document 01, "Findings", one by one, as tests of visits and tables. t and u are the trains, v and w
 -- their visits; `here` is the table of s, `there` that of the far station. Assumes nothing.
 use Prim.Native.Nat.{ℕ, _+_, min, max}
-use mathlib.Core.Bool.{Bool, true, false, not, _&&_, _||_}
-use mathlib.Core.List.{List, [], _∷_, map}
-use mathlib.Core.Option.{Option, none, some}
+use mathlib.Core.Bool.{Bool, true, not, _&&_, _||_}
+use mathlib.Core.List.{List, map}
+use mathlib.Core.Option.{none, some}
 use lib.Dec.{ltb, leb, eqb}
 use lib.ListN.{length}
 use Rattle.base.specs.Choice.{if_then_else_}

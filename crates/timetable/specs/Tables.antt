@@ -1,8 +1,7 @@
 -- A station's table: its visits, rising by train, and its relations, rising in document 01's order. The lists in order
 -- stand for the map and the set of "State: a map from (station, train) to visits, a set of relations per station."
 -- Assumes nothing.
-use Prim.Native.Nat.{ℕ}
-use mathlib.Core.Bool.{Bool, true, false, not, _&&_, _||_}
+use mathlib.Core.Bool.{Bool, true, not, _||_}
 use mathlib.Core.List.{List, [], _∷_, map}
 use mathlib.Core.Option.{Option, none, some, Option·map}
 use lib.Dec.{ltb, leb}

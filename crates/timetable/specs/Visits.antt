@@ -1,6 +1,6 @@
 -- A visit's links and times, and a visit with another link or time. Document 01, "The railway and its numbers" and "The
 -- central machine". Assumes nothing.
-use Prim.Native.Nat.{ℕ, _+_}
+use Prim.Native.Nat.{ℕ}
 use mathlib.Core.Bool.{Bool, true, false, not, _&&_, _||_}
 use mathlib.Core.List.{List, [], _∷_}
 use lib.Dec.{ltb}

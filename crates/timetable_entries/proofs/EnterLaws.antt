@@ -1,14 +1,13 @@
 -- One entry put into a sheet's bytes: what it is refused with by its station's page, and what the page lent and changed
 -- makes of the sheet. Assumes nothing.
 use Prim.Native.Nat.{ℕ, _+_, _*_, _-_, _<_, _≤_}
-use mathlib.Core.Path.{_≡_, refl, sym, _∙_, ap}
-use mathlib.Core.Bool.{Bool, true, false, not, _&&_}
-use mathlib.Core.List.{List, [], _∷_, _++_}
+use mathlib.Core.Path.{_≡_, sym, _∙_, ap}
+use mathlib.Core.Bool.{Bool, true, false, _&&_}
+use mathlib.Core.List.{List, _++_}
 use native.Mathlib.Omega.{arith}
-use lib.Dec.{T, leb, eqb}
+use lib.Dec.{T}
 use lib.ListN.{length, take, drop}
 use borrow.Author.Tests.{lt-leb, le-leb, eq-eqb, ne-eqb}
-use Rattle.base.specs.Choice.{if_then_else_, _if_else_}
 use Rattle.railway.specs.Ranges.{station-ok}
 use Rattle.network.specs.Networks.{listed, track-known}
 use Rattle.timetable.specs.Formats.{Placed}

@@ -9,7 +9,7 @@ use lib.Dec.{T}
 use Rattle.base.specs.Lists.{every}
 use Rattle.base.proofs.Tests.{every-cons}
 use Rattle.railway.specs.Ranges.{station-ok}
-use Rattle.timetable.specs.Formats.{Format, done, field, here, Outcome, accepted, refused, _and-then_, field-at, behind, read, least, floor-after, compared, entries, Placed, placed}
+use Rattle.timetable.specs.Formats.{Format, done, Outcome, accepted, refused, _and-then_, field-at, behind, read, least, floor-after, compared, entries, Placed, placed}
 use Rattle.timetable.specs.EditsFile.{relation-entry, station-relation-entry}
 use Rattle.fields.proofs.ReadLaws.{read-then, prefixed, SoFar, start, turn, stop, over, entries-next, entries-stop, entries-over}
 use Rattle.timetable.proofs.OutcomeLaws.{behind-taken}

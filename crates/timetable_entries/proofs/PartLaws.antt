@@ -1,6 +1,6 @@
 -- The two parts of a timetable, each a count and its entries; what the entries' answer says of the outcome. Assumes
 -- nothing.
-use Prim.Native.Nat.{ℕ, _<_, _≤_}
+use Prim.Native.Nat.{ℕ}
 use mathlib.Core.Path.{_≡_, refl, sym, _∙_, ap}
 use mathlib.Core.Bool.{Bool, true, false, false≢true}
 use mathlib.Core.List.{List, [], _∷_}

@@ -6,25 +6,25 @@ use mathlib.Core.Bool.{Bool, true, false, false≢true, not, _&&_, _||_}
 use mathlib.Core.List.{List, [], _∷_, _++_, flatMap}
 use native.Mathlib.Omega.{arith}
 use lib.Dec.{T, ltb, leb, eqb, leb→le}
-use lib.ListN.{length, replicate-append-replicate, length-replicate}
-use borrow.Author.Tests.{lt-ltb, eqb-true, eqb-false, eq-eqb, ne-eqb, leb-false}
+use lib.ListN.{length, replicate-append-replicate}
+use borrow.Author.Tests.{lt-ltb, eqb-true, eqb-false, ne-eqb, leb-false}
 use Rattle.base.specs.Choice.{if_then_else_, _if_else_}
 use Rattle.base.specs.Lists.{any, every, each-two, same}
-use Rattle.base.proofs.Tests.{by-value, T-true, T-false, true-T, parts, both, every-head, every-tail}
+use Rattle.base.proofs.Tests.{by-value, T-false, true-T, parts, both, every-head, every-tail}
 use Rattle.base.proofs.Sorted.{two-head, two-tail, same-equal, below-itself}
 use Rattle.railway.specs.Ranges.{station-ok, same-station}
 use Rattle.railway.specs.Relations.{key, precedes, same-relation}
 use Rattle.network.specs.Networks.{listed, track-known}
 use Rattle.timetable.specs.Formats.{Outcome, accepted, refused, behind, Placed}
 use Rattle.timetable.specs.Good.{in-good, out-good, links-good}
-use Rattle.timetable.specs.Tables.{Entry, Table, empty, add-visit, has-relation, insert, add-relation, full-visits, full-relations}
+use Rattle.timetable.specs.Tables.{Table, empty, add-visit, has-relation, insert, add-relation, full-visits, full-relations}
 use Rattle.timetable.specs.Machine.{Timetable, put, nothing-placed}
 use Rattle.timetable.specs.TimetableFile.{StationVisit, Entries, visit-refusal, relation-refusal, enter-visit, enter-relation, entered, timetable-of}
 use Rattle.timetable.proofs.TableLaws.{precedes-across, enter-every, add-visit-length, insert-length, insert-order}
 use Rattle.records.specs.Bytes.{zeros}
 use Rattle.records.specs.Records.{named-in, named-out, named}
-use Rattle.page.specs.Pages.{encode-page, decode-page}
-use Rattle.page.specs.between.Changes.{table-in, page-add-visit, page-add-relation}
+use Rattle.page.specs.Pages.{encode-page}
+use Rattle.page.specs.between.Changes.{table-in, page-add-visit}
 use Rattle.sheet.specs.between.Passes.{in-passes, out-passes}
 use Rattle.sheet.specs.Sheets.{sixteen, page-at, encode-sheet, decode-sheet}
 use Rattle.page.proofs.PageLaws.{linked, Coded, page-length, page-back, blank-page, empty-coded}

@@ -21,7 +21,6 @@ use Rattle.network_files.proofs.ReadingLaws.{draft-value, draft-refusal}
 use Rattle.fields.specs.Outcomes.{end-of}
 use Rattle.fields.proofs.EndLaws.{end-accepted, end-refused}
 use Rattle.fields.proofs.EntryLaws.{then-on, then-stop, made, unmade, placed-some, placed-none}
-use Rattle.sheet.specs.Sheets.{encode-sheet}
 use Rattle.timetable_entries.specs.Answers.{sheet-of}
 use Rattle.timetable_entries.specs.between.Rest.{rest-of, rest-outcome}
 use Rattle.timetable_files.specs.declared.input.InspectRead.{InspectRead}

@@ -24,7 +24,7 @@ use Rattle.timetable.specs.Machine.{Timetable, nothing-placed}
 use Rattle.timetable.specs.TimetableFile.{StationVisit, Entries, visit-entry, visit-floor, relation-floor, visits-format, relations-format, timetable-format}
 use Rattle.timetable.specs.TimetableFile.{visit-refusal, relation-refusal, enter-visit, enter-relation, entered, timetable-of}
 use Rattle.timetable.specs.InspectFile.{Inspection, Both, inspect-format, inspection, read-inspect}
-use Rattle.timetable.proofs.OutcomeLaws.{fault-taken, clash, behind-taken, ended-taken}
+use Rattle.timetable.proofs.OutcomeLaws.{fault-taken, behind-taken, ended-taken}
 use Rattle.fields.proofs.EntryLaws.{then-taken}
 use Rattle.fields.proofs.EntryLaws.{placed-read}
 

@@ -3,15 +3,13 @@
 use Prim.Native.Nat.{ℕ, _+_}
 use mathlib.Core.Path.{_≡_, refl, sym, _∙_, ap}
 use mathlib.Core.List.{List, [], _∷_, map, flatMap}
-use lib.Dec.{eqb}
 use lib.ListN.{length, length-append}
 use borrow.Author.Tests.{eq-eqb, ne-eqb}
-use Rattle.base.specs.Choice.{if_then_else_}
 use Rattle.base.specs.Lists.{sum}
 use Rattle.network.specs.Networks.{station-rows, stations-of}
 use Rattle.timetable.specs.Count.{visit-count, relation-count}
 use Rattle.sheet.specs.Sheets.{decode-sheet}
-use Rattle.timetable_writing.specs.Types.{Station, StationRow, Network, Totals}
+use Rattle.timetable_writing.specs.Types.{Station, StationRow, Network}
 use Rattle.timetable_writing.specs.between.Parts.{visit-total, relation-total}
 use Rattle.timetable_writing.specs.Writing.{sheet-totals}
 

@@ -1,17 +1,16 @@
 -- Visit entries read part by part: fields, links, the values behind station and train, and the entry before. Assumes
 -- nothing.
-use Prim.Native.Nat.{ℕ, _+_, _%_, _<_, _≤_}
+use Prim.Native.Nat.{ℕ, _≤_}
 use mathlib.Core.Path.{_≡_, refl, sym, _∙_, ap}
 use mathlib.Core.Bool.{Bool, true, false}
 use mathlib.Core.List.{List, [], _∷_}
 use native.Mathlib.Omega.{arith}
 use lib.Dec.{T, leb, eqb, le→leb}
-use lib.ListN.{getD}
-use borrow.Author.Tests.{eq-eqb, ne-eqb}
+use borrow.Author.Tests.{ne-eqb}
 use Rattle.base.specs.Choice.{if_then_else_}
 use Rattle.base.proofs.Tests.{both}
 use Rattle.railway.specs.Ranges.{last-minute, station-ok}
-use Rattle.timetable.specs.Formats.{Format, done, field, here, Outcome, accepted, refused, _and-then_, field-at, behind, read, Range, _to_, least, floor-after, compared, row}
+use Rattle.timetable.specs.Formats.{Format, done, field, Outcome, accepted, refused, _and-then_, field-at, read, _to_, least, floor-after, compared, row}
 use Rattle.timetable.specs.TimetableFile.{StationVisit, visit-ranges, in-link-entry, out-link-entry, station-visit-of, visit-entry}
 use Rattle.fields.specs.between.Answers.{padded}
 use Rattle.fields.proofs.EntryLaws.{field-bounded, padded-at, field-on, field-stop, then-on, then-stop, then-taken, row-taken}

@@ -1,7 +1,7 @@
 -- The numbers of a visit by its statuses and links. Assumes nothing.
 use Prim.Native.Nat.{ℕ}
 use mathlib.Core.Path.{_≡_}
-use mathlib.Core.List.{List, _∷_, _++_}
+use mathlib.Core.List.{_∷_, _++_}
 use Rattle.timetable.specs.TimetableFile.{in-link-numbers, out-link-numbers, status-number, visit-numbers}
 use Rattle.visit_files.specs.Types.{Station, Train, InLink, OutLink, Visit}
 

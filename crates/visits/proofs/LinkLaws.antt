@@ -1,5 +1,5 @@
 -- A test of a link, where the link is known: the visit is itself with that link. Assumes nothing.
-use mathlib.Core.Bool.{Bool, true, false}
+use mathlib.Core.Bool.{Bool, false}
 use mathlib.Core.Path.{_≡_, ap}
 use Rattle.railway.specs.declared.visit.InLink.{InLink}
 use Rattle.railway.specs.declared.visit.OutLink.{OutLink}

@@ -21,7 +21,11 @@ unfoldable pub touches : Meaning → Station → Bool
 touches (local a) k = same-station k (a .home) || same-station k (a .away)
 touches (throughout t) k = true
 
+-- the same, of a shape
+unfoldable pub shape-touches : Shape → Station → Bool
+shape-touches x k = x .everywhere || (same-station k (x .home) || same-station k (x .away))
+
 -- The key ring of this module: `unfolding opened` opens every definition above.
 unfoldable pub opened : Unit {0}
-unfolding shape-of touches
+unfolding shape-of touches shape-touches
 opened = tt

@@ -1,18 +1,15 @@
 -- What the functions that build a list put into the lent buffer: the numbers of its findings, station by station, rule
 -- by rule. findings/proofs/ListsBuilt.antt says that these are the lists of document 01. `here` is the table of s, m
 -- the timetable that the sheet holds. Assumes nothing.
-use Prim.Native.Nat.{ℕ, zero, suc, _+_, _*_, _-_, _/_, _≤_}
-use mathlib.Core.Path.{_≡_}
+use Prim.Native.Nat.{ℕ, zero, suc, _+_, _*_, _-_, _/_}
 use mathlib.Core.Bool.{Bool, not, _&&_, _||_}
 use mathlib.Core.List.{List, [], _∷_, _++_, flatMap}
 use lib.Dec.{eqb, leb}
-use lib.ListN.{length}
 use Rattle.base.specs.Choice.{if_then_else_}
 use Rattle.network.specs.Networks.{stations-of}
 use Rattle.timetable.specs.Visits.{outs}
 use Rattle.timetable.specs.Tables.{Entry, Table}
 use Rattle.timetable.specs.Machine.{Timetable}
-use Rattle.timetable.specs.Outputs.{put}
 use Rattle.timetable.specs.Rules.{met}
 use Rattle.rule_tests.specs.between.Tests.{clash, broken, second-of}
 use Rattle.builder.specs.Types.{Station, Relation, Network}

@@ -7,7 +7,7 @@ use Rattle.base.specs.Choice.{if_then_else_, _if_else_}
 use Rattle.base.specs.Lists.{is}
 use Rattle.timetable.specs.Visits.{lacks-in, lacks-out, first-stands, last-stands}
 use Rattle.timetable.specs.Tables.{visit-of, has-visit}
-use Rattle.timetable.specs.Machine.{Action, Meaning, local, throughout, room}
+use Rattle.timetable.specs.Machine.{Meaning, local, throughout, room}
 use Rattle.page.specs.between.Changes.{table-in}
 use Rattle.edit_refusals.specs.Types.{Train, Visit, Extension, Deletion, Network}
 

@@ -1,12 +1,11 @@
 -- The outcome that the answer of a field tells, what the readers of numbers answer for each outcome, and the numbers of
 -- a row that are in use. Assumes nothing.
 use Prim.Native.Nat.{ℕ, _-_}
-use mathlib.Core.Bool.{Bool, true, false}
+use mathlib.Core.Bool.{true, false}
 use mathlib.Core.List.{List, [], _++_, map}
 use lib.ListN.{length, replicate, take, drop}
 use Rattle.timetable.specs.Formats.{Outcome, accepted, refused, Range, _to_}
 use Rattle.fields.specs.declared.field.FieldRead.{FieldRead}
-use Rattle.fields.specs.declared.field.Span.{Span}
 use Rattle.fields.specs.declared.field.Spans.{Spans}
 use Rattle.fields.specs.declared.field.RowRead.{RowRead}
 use Rattle.fields.specs.declared.field.Numbers.{Numbers}

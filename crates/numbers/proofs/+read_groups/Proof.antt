@@ -1,7 +1,7 @@
 -- The proof of the cycle of calls {read_groups}. The measure is the number of groups still permitted; each return is
 -- one law of `read-groups`. Assumes nothing.
 use Prim.Native.Nat.{ℕ, _<_, _-_}
-use mathlib.Core.Path.{_≡_, refl, sym, _∙_, ap}
+use mathlib.Core.Path.{_≡_, sym, _∙_, ap}
 use lib.ListN.{drop}
 use denote.Ref.{now}
 use native.Mathlib.Omega.{arith}

@@ -1,8 +1,7 @@
 -- `numbers::write` meets its contract: each case stores the groups of the number over the head. Assumes nothing.
-use Prim.Native.Nat.{_≤_}
 use mathlib.Core.Path.{sym}
 use native.Mathlib.Omega.{arith}
-use lib.ListN.{length, length-set}
+use lib.ListN.{length-set}
 use denote.Ref.{now}
 use Rattle.numbers.proofs.GroupLaws.{width-one, width-two, width-three, width-more, unwritten, put-one, put-two, put-three}
 use borrow.Author.Needs.{needs}

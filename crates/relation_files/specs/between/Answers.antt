@@ -1,6 +1,6 @@
 -- The outcome that the answer of the reader of a relation tells; and the parts of an entry. Assumes nothing.
 use Prim.Native.Nat.{ℕ}
-use mathlib.Core.Bool.{Bool, not}
+use mathlib.Core.Bool.{not}
 use mathlib.Core.List.{List}
 use lib.Dec.{eqb}
 use Rattle.railway.specs.declared.edit.StationRelation.{StationRelation}

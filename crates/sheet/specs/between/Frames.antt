@@ -1,5 +1,5 @@
 -- A sheet or a division as pages of 512 bytes in a row: a page is a page wherever it stands. Assumes nothing.
-use Prim.Native.Nat.{ℕ, _*_, _-_}
+use Prim.Native.Nat.{ℕ, _*_}
 use mathlib.Core.List.{List}
 use lib.ListN.{take, drop}
 use Rattle.records.specs.Bytes.{splice}

@@ -1,13 +1,11 @@
 -- What the functions put: lines of numbers and of findings. A place that is further than any text, and numbers that are
 -- not there, put nothing. Assumes nothing.
-use Prim.Native.Nat.{ℕ, _+_, _*_, _≤_}
-use mathlib.Core.Path.{_≡_}
+use Prim.Native.Nat.{ℕ, _+_, _*_}
 use mathlib.Core.Bool.{_&&_}
 use mathlib.Core.List.{List, [], _∷_, _++_}
 use lib.Dec.{eqb, leb}
 use lib.ListN.{length, getD, take}
 use Rattle.base.specs.Choice.{if_then_else_}
-use Rattle.timetable.specs.Outputs.{put}
 use Rattle.listings.specs.Text.{line}
 use Rattle.listings.specs.Shift.{refusal-text}
 

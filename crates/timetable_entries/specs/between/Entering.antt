@@ -2,7 +2,7 @@
 -- entry is remembered, and later ones change nothing. proofs/SheetEntries.antt has that on the sheet of a timetable
 -- this is `entered`. Assumes nothing.
 use Prim.Native.Nat.{ℕ, _-_}
-use mathlib.Core.Bool.{Bool, true, false}
+use mathlib.Core.Bool.{true, false}
 use mathlib.Core.List.{List, [], _∷_}
 use lib.Dec.{eqb}
 use Rattle.base.specs.Choice.{if_then_else_}

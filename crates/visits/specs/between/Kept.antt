@@ -1,7 +1,6 @@
 -- The parts of `alters` of timetable/specs/Visits.antt: the plan keeps the visit's arrival and track; it has another
 -- departure than one that occurred. Assumes nothing.
 use mathlib.Core.Bool.{Bool, not, _&&_}
-use lib.Dec.{eqb}
 use Rattle.railway.specs.Ranges.{same-minute, same-track}
 use Rattle.railway.specs.declared.edit.Plan.{Plan}
 use Rattle.railway.specs.declared.visit.Visit.{Visit}

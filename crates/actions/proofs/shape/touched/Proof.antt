@@ -1,9 +1,9 @@
--- `actions::shape::touched` meets its contract: the tests that led to each return decide it. Assumes nothing.
-use mathlib.Core.Path.{sym, _∙_, ap}
-use borrow.Author.Tests.{eq-eqb, ne-eqb}
+-- `actions::shape::touched` meets its contract: the stations of its shape are those that it names. Assumes nothing.
+use mathlib.Core.Path.{_∙_, ap}
 use Rattle.timetable.specs.Machine.{meaning}
 use Rattle.actions.specs.Types.{Shape}
-use Rattle.actions.proofs.ShapeLaws.{touches-all, touches-ends}
+use Rattle.actions.specs.between.Shapes.{shape-touches}
+use Rattle.actions.proofs.ShapeLaws.{touches-by}
 use borrow.Author.Needs.{needs}
 use Rattle.actions.proofs.shape.touched.Statement.{statement}
 use Rattle.actions.proofs.shape.touched.Tie as tie
@@ -11,21 +11,13 @@ use Rattle.actions.proofs.shape.touched.Tie as tie
 shape-of-requires : tie.Need-shape-of-requires
 shape-of-requires c κs = search needs
 
+is-at-requires : tie.Need-is-at-requires
+is-at-requires c κs = search needs
+
 returns : tie.Need-returns
-returns c = let s = c .before .before .args in touches-all (s .s) (meaning (s .e)) (ap (λ (x : Shape). x .everywhere) (sym (c .before .shape-of .ensures)) ∙ c .if1 .taken)
-
-returns-2 : tie.Need-returns-2
-returns-2 c =
-    let s = c .before .before .before .before .before .args in
-    sym (touches-ends (s .s) (meaning (s .e)) (ap (λ (x : Shape). x .everywhere) (sym (c .before .before .before .before .shape-of .ensures)) ∙ c .before .before .before .if1 .left)
-    ∙ simp (← c .before .before .before .before .shape-of .ensures, eq-eqb _ _ (c .if2 .taken)))
-
-returns-3 : tie.Need-returns-3
-returns-3 c =
-    let s = c .before .before .before .before .before .before .before .args in
-    let r = c .before .before .before .before .before .before .shape-of in
-    sym (touches-ends (s .s) (meaning (s .e)) (ap (λ (x : Shape). x .everywhere) (sym (r .ensures)) ∙ c .before .before .before .before .before .if1 .left)
-    ∙ rw (← r .ensures, ne-eqb (s .s .0) (r .result .home .0) (c .before .before .if2 .left)))
+returns c =
+    let s = c .before .before .args in
+    c .is-at .ensures ∙ ap (λ (x : Shape). shape-touches x (s .s)) (c .before .shape-of .ensures) ∙ touches-by (s .s) (meaning (s .e))
 
 pub touched-spec : {M : Type 1} → statement M
-touched-spec = tie.close (tie.spec shape-of-requires returns returns-2 returns-3)
+touched-spec = tie.close (tie.spec shape-of-requires is-at-requires returns)

@@ -1,9 +1,7 @@
 -- `edit_files::edit::next_edit` meets its contract: the answer says what the outcome is. Assumes nothing.
 use mathlib.Core.Path.{sym, _∙_, ap}
-use denote.Ref.{now}
 use borrow.Author.Needs.{needs}
 use Rattle.timetable.specs.Formats.{read}
-use Rattle.timetable.specs.EditsFile.{edit-entry}
 use Rattle.edit_files.specs.Answers.{next-outcome, edit-outcome}
 use Rattle.edit_files.proofs.edit.next_edit.Statement.{statement}
 use Rattle.edit_files.proofs.edit.next_edit.Tie as tie

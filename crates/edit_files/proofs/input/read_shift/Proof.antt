@@ -1,6 +1,6 @@
 -- `edit_files::input::read_shift` meets its contract: each return is one law of the draft and the edits' part. Assumes
 -- nothing.
-use mathlib.Core.Path.{_≡_, refl, sym, _∙_, ap}
+use mathlib.Core.Path.{sym, _∙_, ap}
 use denote.Ref.{now}
 use borrow.Author.Needs.{needs}
 use Rattle.edit_files.specs.Answers.{shift-answer}

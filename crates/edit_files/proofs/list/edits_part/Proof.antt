@@ -1,6 +1,6 @@
 -- `edit_files::list::edits_part` meets its contract: the count decides, and an accepted one is followed by the edits.
 -- Assumes nothing.
-use mathlib.Core.Path.{_≡_, refl, sym, _∙_, ap}
+use mathlib.Core.Path.{sym, _∙_, ap}
 use denote.Ref.{now}
 use borrow.Author.Needs.{needs}
 use Rattle.timetable.specs.Formats.{placed}

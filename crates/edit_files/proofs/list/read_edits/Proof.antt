@@ -1,5 +1,5 @@
 -- `edit_files::list::read_edits` meets its contract: each return is one law of the part. Assumes nothing.
-use mathlib.Core.Path.{_≡_, refl, sym, _∙_, ap}
+use mathlib.Core.Path.{sym, _∙_, ap}
 use denote.Ref.{now}
 use borrow.Author.Needs.{needs}
 use Rattle.edit_files.specs.Answers.{edits-answer}

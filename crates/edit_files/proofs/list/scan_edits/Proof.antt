@@ -1,14 +1,11 @@
 -- `edit_files::list::scan_edits` meets its contract. The loop's invariant: the list is the edits read and then what is
 -- left. Assumes nothing.
-use Prim.Native.Nat.{ℕ, _-_, _≤_}
-use mathlib.Core.Path.{_≡_, refl, sym, _∙_, ap}
-use mathlib.Core.List.{List}
+use Prim.Native.Nat.{_-_, _≤_}
+use mathlib.Core.Path.{_≡_, sym, _∙_, ap}
 use native.Mathlib.Omega.{arith}
 use denote.Ref.{now}
 use borrow.Author.Needs.{needs}
-use Rattle.railway.specs.declared.edit.Edit.{Edit}
-use Rattle.timetable.specs.Formats.{Outcome, read}
-use Rattle.timetable.specs.EditsFile.{edit-entry, edits-on}
+use Rattle.timetable.specs.EditsFile.{edits-on}
 use Rattle.fields.specs.Outcomes.{end-of}
 use Rattle.edit_files.specs.Answers.{edit-outcome, scan-outcome}
 use Rattle.fields.proofs.ReadLaws.{SoFar, start, turn, stop, over}

@@ -1,5 +1,5 @@
 -- `edit_files::list::scanned_part` meets its contract: the scan decides. Assumes nothing.
-use mathlib.Core.Path.{_≡_, refl, sym, _∙_, ap}
+use mathlib.Core.Path.{sym, _∙_, ap}
 use denote.Ref.{now}
 use borrow.Author.Needs.{needs}
 use Rattle.timetable.specs.EditsFile.{edits-on}

@@ -1,15 +1,15 @@
 -- `edit_writing::writing::put_edits` meets its contract. The loop's invariant: the list is the edits read and then what
 -- is left, and those read are put. Assumes nothing.
-use Prim.Native.Nat.{ℕ, suc, _+_, _-_, _*_, _<_, _≤_}
+use Prim.Native.Nat.{ℕ, _+_, _-_, _*_, _≤_}
 use mathlib.Core.Path.{_≡_, refl, sym, _∙_, ap}
-use mathlib.Core.List.{List, [], _∷_, flatMap}
+use mathlib.Core.List.{List, flatMap}
 use native.Mathlib.Omega.{arith}
 use denote.Ref.{now}
 use borrow.Author.Needs.{needs}
 use lib.ListN.{length}
 use Rattle.railway.specs.declared.edit.Edit.{Edit}
-use Rattle.timetable.specs.Formats.{Outcome, read, bytes-of}
-use Rattle.timetable.specs.EditsFile.{edit-entry, edits-on, edit-numbers}
+use Rattle.timetable.specs.Formats.{bytes-of}
+use Rattle.timetable.specs.EditsFile.{edits-on}
 use Rattle.timetable.specs.Outputs.{put}
 use Rattle.timetable.proofs.OutcomeLaws.{clash}
 use Rattle.fields.proofs.ReadLaws.{SoFar, start, turn, stop, over}

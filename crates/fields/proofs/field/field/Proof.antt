@@ -1,6 +1,6 @@
 -- `fields::field::field` meets its contract: each return is one law of a field, by what reading its number gave.
 -- Assumes nothing.
-use mathlib.Core.Path.{_≡_, sym, ap}
+use mathlib.Core.Path.{sym, ap}
 use native.Mathlib.Omega.{arith}
 use denote.Ref.{now}
 use borrow.Author.Needs.{needs}

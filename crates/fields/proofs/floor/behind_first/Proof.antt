@@ -1,12 +1,12 @@
 -- `fields::floor::behind_first` meets its contract. The loop's invariant: what was copied and what is left are the
 -- numbers behind the first. Assumes nothing.
 use Prim.Native.Nat.{ℕ, _+_, _-_, _≤_}
-use mathlib.Core.Path.{_≡_, refl, sym, _∙_, ap}
-use mathlib.Core.List.{List, []}
+use mathlib.Core.Path.{_≡_, sym, _∙_, ap}
+use mathlib.Core.List.{List}
 use native.Mathlib.Omega.{arith}
-use lib.ListN.{length, length-map, drop, take}
+use lib.ListN.{length, length-map, drop}
 use borrow.Author.Needs.{needs}
-use Rattle.fields.specs.between.Answers.{padded, in-use, row-of}
+use Rattle.fields.specs.between.Answers.{padded, row-of}
 use Rattle.fields.proofs.FloorLaws.{floor-none}
 use Rattle.fields.proofs.RowHolds.{Copied, copied-none, copied-next, copied-all, behind-one}
 use Rattle.fields.proofs.floor.behind_first.Statement.{statement}

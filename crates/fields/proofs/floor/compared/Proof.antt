@@ -1,6 +1,6 @@
 -- `fields::floor::compared` meets its contract: the field decides, its least value raised by the floor. Assumes nothing.
 use Prim.Native.Nat.{ℕ}
-use mathlib.Core.Path.{_≡_, sym, _∙_, ap}
+use mathlib.Core.Path.{sym, _∙_, ap}
 use denote.Ref.{now}
 use borrow.Author.Needs.{needs}
 use Rattle.timetable.specs.Formats.{field-at}

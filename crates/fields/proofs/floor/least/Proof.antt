@@ -1,5 +1,5 @@
 -- `fields::floor::least` meets its contract: none, one or more numbers are left to compare with. Assumes nothing.
-use mathlib.Core.Path.{_≡_, refl, _∙_, ap}
+use mathlib.Core.Path.{_≡_, _∙_, ap}
 use Prim.Native.Nat.{ℕ, _+_, max}
 use native.Mathlib.Omega.{arith}
 use lib.ListN.{length, length-map}

@@ -1,11 +1,8 @@
 -- `fields::put::put_bytes` meets its contract: the number at the head of three bytes, of which as many are put as it
 -- takes. Assumes nothing.
-use Prim.Native.Nat.{_+_}
-use mathlib.Core.Path.{_≡_, refl, sym, _∙_, ap}
-use mathlib.Core.List.{[], _∷_}
+use mathlib.Core.Path.{refl, sym, _∙_}
 use native.Mathlib.Omega.{arith}
 use denote.Ref.{now}
-use lib.ListN.{getD, replicate}
 use Rattle.timetable.specs.Outputs.{put}
 use Rattle.fields.proofs.ByteLaws.{put-one, put-both, put-three}
 use borrow.Author.Needs.{needs}

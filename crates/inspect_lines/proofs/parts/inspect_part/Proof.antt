@@ -1,10 +1,7 @@
 -- `inspect_lines::parts::inspect_part` meets its contract: refused by the tests, or the part of a good sheet. Assumes
 -- nothing.
-use mathlib.Core.Path.{_≡_, refl, sym, _∙_}
-use native.Mathlib.Omega.{arith}
+use mathlib.Core.Path.{sym, _∙_}
 use denote.Ref.{now}
-use lib.ListN.{length}
-use Rattle.inspect_lines.specs.Parts.{part-text}
 use Rattle.inspect_lines.proofs.InputPrinted.{too-long-part, sheet-part, answers-as}
 use borrow.Author.Needs.{needs}
 use Rattle.inspect_lines.proofs.parts.inspect_part.Statement.{statement}

@@ -1,5 +1,5 @@
 -- `machine::list::all_good` meets its contract: the network's test and the sheets'. Assumes nothing.
-use mathlib.Core.Path.{_≡_, sym, _∙_}
+use mathlib.Core.Path.{sym}
 use borrow.Author.Tests.{eq-eqb, ne-eqb}
 use Rattle.machine.specs.Lists.{known-good}
 use borrow.Author.Needs.{needs}

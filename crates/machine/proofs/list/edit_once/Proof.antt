@@ -1,10 +1,9 @@
 -- `machine::list::edit_once` meets its contract: on a division that is known to be good the edit that tests no sheet is
 -- the single call. Assumes nothing.
-use mathlib.Core.Path.{_≡_, sym, _∙_}
-use mathlib.Core.Bool.{true, false}
+use mathlib.Core.Path.{sym, _∙_}
+use mathlib.Core.Bool.{false}
 use denote.Ref.{now}
 use Rattle.base.proofs.Tests.{true-T}
-use Rattle.machine.specs.Lists.{known-good}
 use Rattle.machine.proofs.KnownGood.{known-kept}
 use borrow.Author.Needs.{needs}
 use Rattle.machine.proofs.list.edit_once.Statement.{statement}

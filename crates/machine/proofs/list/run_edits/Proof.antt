@@ -8,13 +8,10 @@ use native.Mathlib.Omega.{arith}
 use denote.Ref.{now}
 use borrow.Author.Needs.{needs}
 use lib.ListN.{length}
-use Rattle.timetable.specs.Formats.{read}
-use Rattle.timetable.specs.EditsFile.{edit-entry}
 use Rattle.timetable.specs.Outputs.{put}
 use Rattle.edit_files.specs.Answers.{next-outcome}
-use Rattle.machine.specs.Calls.{division-answer, division-after}
 use Rattle.machine.specs.Types.{Edit}
-use Rattle.machine.specs.Lists.{known-good, answer-numbers, answers-of, division-of}
+use Rattle.machine.specs.Lists.{known-good, answers-of, division-of}
 use Rattle.machine.specs.between.Taken.{edits-at, can-be-read}
 use Rattle.machine.proofs.TakenLaws.{rest-read, not-stopped, none-taken, division-none, answers-none, turn-division, turn-answers}
 use Rattle.machine.proofs.list.run_edits.Statement.{statement}

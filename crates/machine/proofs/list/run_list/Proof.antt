@@ -1,8 +1,6 @@
 -- `machine::list::run_list` meets its contract: the tests that led to each return decide it; an accepted file's edits
 -- are those that the loop takes. Assumes nothing.
-use Prim.Native.Nat.{ℕ, _*_}
-use mathlib.Core.Path.{_≡_, sym, _∙_}
-use native.Mathlib.Omega.{arith}
+use mathlib.Core.Path.{sym, _∙_}
 use denote.Ref.{now}
 use Rattle.machine.proofs.RunLaws.{held, wrong-length, file-refused, list-short, list-run}
 use borrow.Author.Needs.{needs}

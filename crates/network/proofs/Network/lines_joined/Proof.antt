@@ -6,7 +6,6 @@ use native.Mathlib.Omega.{arith}
 use lib.ListN.{length, length-map, take, drop}
 use borrow.Author.Needs.{needs}
 use Rattle.base.specs.Lists.{every}
-use Rattle.network.specs.Types.{LineRow}
 use Rattle.network.specs.Networks.{blank-line, ends-listed, lines-joined, line-rows}
 use Rattle.network.proofs.RowsInUse.{used-rows, every-later, every-not, every-over}
 use Rattle.network.proofs.Network.lines_joined.Statement.{statement}

@@ -7,9 +7,8 @@ use lib.ListN.{length, length-map, take, drop}
 use borrow.Author.Needs.{needs}
 use borrow.Author.Tests.{eq-eqb, ne-eqb}
 use Rattle.base.specs.Lists.{first}
-use Rattle.network.specs.Types.{StationRow}
 use Rattle.network.specs.Networks.{blank-station, station-found, station-row, station-rows}
-use Rattle.railway.specs.Ranges.{same-station, same-line}
+use Rattle.railway.specs.Ranges.{same-station}
 use Rattle.network.proofs.RowsInUse.{used-rows, first-here, first-later, first-nowhere}
 use Rattle.network.proofs.Network.station_row.Statement.{statement}
 use Rattle.network.proofs.Network.station_row.Tie as tie

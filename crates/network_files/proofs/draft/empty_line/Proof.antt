@@ -1,6 +1,5 @@
 -- `network_files::draft::empty_line` meets its contract by computation. Assumes nothing.
 use mathlib.Core.Path.{refl}
-use Rattle.network.specs.Networks.{blank-line}
 use Rattle.network_files.proofs.draft.empty_line.Statement.{statement}
 use Rattle.network_files.proofs.draft.empty_line.Tie as tie
 

@@ -1,6 +1,5 @@
 -- `network_files::draft::empty_station` meets its contract by computation. Assumes nothing.
 use mathlib.Core.Path.{refl}
-use Rattle.network.specs.Networks.{blank-station}
 use Rattle.network_files.proofs.draft.empty_station.Statement.{statement}
 use Rattle.network_files.proofs.draft.empty_station.Tie as tie
 

@@ -1,11 +1,11 @@
 -- `network_files::draft::lines` meets its contract. The loop's invariant: the rows read stand in the first places, the
 -- list is those rows and then what is left, and the fault is that of the rows read. Assumes nothing.
 use Prim.Native.Nat.{ℕ, suc, _+_, _-_, _<_, _≤_}
-use mathlib.Core.Path.{_≡_, refl, sym, _∙_, ap}
+use mathlib.Core.Path.{_≡_, sym, _∙_, ap}
 use mathlib.Core.Bool.{Bool, true, not}
-use mathlib.Core.List.{List, [], _∷_, _++_, map}
+use mathlib.Core.List.{List, [], _∷_, map}
 use native.Mathlib.Omega.{arith}
-use lib.ListN.{length, length-map, set}
+use lib.ListN.{length-map, set}
 use denote.Ref.{now}
 use borrow.Author.Needs.{needs}
 use Rattle.base.specs.Lists.{first}

@@ -1,15 +1,12 @@
 -- `network_files::draft::lines_draft` meets its contract: the lines decide, and accepted ones stand behind what is
 -- known. Assumes nothing.
-use Prim.Native.Nat.{ℕ, _<_, _≤_}
-use mathlib.Core.Path.{_≡_, refl, sym, _∙_, ap}
-use mathlib.Core.List.{List, [], _∷_}
+use mathlib.Core.Path.{sym, _∙_, ap}
+use mathlib.Core.List.{List}
 use denote.Ref.{now}
 use borrow.Author.Needs.{needs}
 use Rattle.network.specs.declared.LineRow.{LineRow}
-use Rattle.timetable.specs.Formats.{Format, Outcome, accepted, refused, read}
 use Rattle.timetable.specs.NetworkFile.{Listed, with-lines, lines-format, lines-part}
 use Rattle.timetable.specs.Formats.{Placed}
-use Rattle.fields.specs.between.Answers.{padded}
 use Rattle.network_files.specs.Answers.{draft-read}
 use Rattle.fields.proofs.EntryLaws.{unmade}
 use Rattle.network_files.proofs.DraftLaws.{lines-refusal, lines-drafted}

@@ -1,11 +1,11 @@
 -- `network_files::draft::stations` meets its contract. The loop's invariant: the rows read stand in the first places,
 -- and the list is those rows and then what is left. Assumes nothing.
 use Prim.Native.Nat.{ℕ, suc, _+_, _-_, _<_, _≤_}
-use mathlib.Core.Path.{_≡_, refl, sym, _∙_, ap}
+use mathlib.Core.Path.{_≡_, sym, _∙_, ap}
 use mathlib.Core.Bool.{true}
 use mathlib.Core.List.{List, [], _∷_}
 use native.Mathlib.Omega.{arith}
-use lib.ListN.{length, set}
+use lib.ListN.{set}
 use denote.Ref.{now}
 use borrow.Author.Needs.{needs}
 use Rattle.network.specs.Networks.{blank-station}

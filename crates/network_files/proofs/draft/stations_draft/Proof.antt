@@ -1,12 +1,8 @@
 -- `network_files::draft::stations_draft` meets its contract: the stations decide, and accepted ones are followed by the
 -- rest. Assumes nothing.
-use Prim.Native.Nat.{ℕ, _<_, _≤_}
-use mathlib.Core.Path.{_≡_, refl, sym, _∙_, ap}
-use mathlib.Core.List.{List, [], _∷_}
+use mathlib.Core.Path.{sym, _∙_, ap}
 use denote.Ref.{now}
 use borrow.Author.Needs.{needs}
-use Rattle.network.specs.declared.StationRow.{StationRow}
-use Rattle.timetable.specs.Formats.{Format, Outcome, accepted, refused, read}
 use Rattle.timetable.specs.NetworkFile.{stations-format, headway-part, stations-part, only-stations}
 use Rattle.fields.specs.between.Answers.{padded}
 use Rattle.network_files.specs.Answers.{draft-read}

@@ -1,5 +1,5 @@
 -- `network_files::reading::read_network` meets its contract: each return is one law of the draft. Assumes nothing.
-use mathlib.Core.Path.{_≡_, refl, sym, _∙_, ap}
+use mathlib.Core.Path.{sym, _∙_, ap}
 use denote.Ref.{now}
 use borrow.Author.Needs.{needs}
 use Rattle.timetable.specs.Formats.{number, place-of, value-or}

@@ -1,6 +1,4 @@
 -- `records::bytes::still_blank` meets its contract: by the byte. Assumes nothing.
-use mathlib.Core.Path.{sym}
-use borrow.Author.Tests.{eq-eqb, ne-eqb}
 use Rattle.records.proofs.ByteLaws.{still-on, still-off}
 use Rattle.records.proofs.bytes.still_blank.Statement.{statement}
 use Rattle.records.proofs.bytes.still_blank.Tie as tie

@@ -1,21 +1,16 @@
 -- `relation_files::reading::relation_entry` meets its contract: station, kind and the fields behind them decide in this
 -- order. Assumes nothing.
-use Prim.Native.Nat.{ℕ, _%_}
-use mathlib.Core.Path.{_≡_, refl, sym, _∙_, ap}
+use Prim.Native.Nat.{ℕ}
+use mathlib.Core.Path.{sym, _∙_, ap}
 use mathlib.Core.List.{List}
-use native.Mathlib.Omega.{arith}
 use denote.Ref.{now}
 use Rattle.timetable.specs.Formats.{read, field-at, least, floor-after}
-use Rattle.timetable.specs.EditsFile.{most-trains, relation-of}
-use Rattle.fields.specs.between.Answers.{padded}
-use Rattle.fields.proofs.EntryLaws.{row-value, row-refusal, field-bounded}
-use Rattle.railway.specs.declared.relation.Relation.{Relation}
-use Rattle.railway.specs.declared.edit.StationRelation.{StationRelation}
+use Rattle.fields.proofs.EntryLaws.{field-bounded}
 use Rattle.fields.specs.between.Answers.{in-use, number-read}
-use Rattle.relation_files.specs.between.Answers.{relation-trains, relation-fields, relation-outcome}
+use Rattle.relation_files.specs.between.Answers.{relation-fields, relation-outcome}
 use Rattle.fields.proofs.FloorLaws.{number-value, number-refusal}
 use Rattle.fields.proofs.RowHolds.{row-held}
-use Rattle.relation_files.proofs.ReadingLaws.{relation-padded, trains-stop, trains-some, interval-stop, count-stop, count-then, place-stop, kind-stop, kind-then}
+use Rattle.relation_files.proofs.ReadingLaws.{place-stop, kind-stop, kind-then}
 use borrow.Author.Needs.{needs}
 use Rattle.relation_files.proofs.reading.relation_entry.Statement.{statement}
 use Rattle.relation_files.proofs.reading.relation_entry.Tie as tie

@@ -1,6 +1,6 @@
 -- `relation_files::reading::relation_from` meets its contract by the kind; the interval fits a byte. Assumes nothing.
 use Prim.Native.Nat.{ℕ, _%_, _<_}
-use mathlib.Core.Path.{_≡_, refl, sym, _∙_, ap}
+use mathlib.Core.Path.{_≡_}
 use native.Mathlib.Omega.{arith}
 use borrow.Author.Tests.{eq-eqb, ne-eqb}
 use Rattle.timetable.specs.EditsFile.{pair-of, relation-of}

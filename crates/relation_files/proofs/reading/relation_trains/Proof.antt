@@ -1,20 +1,16 @@
 -- `relation_files::reading::relation_trains` meets its contract: the trains decide, and the relation is that of its
 -- numbers. Assumes nothing.
 use Prim.Native.Nat.{ℕ, _%_}
-use mathlib.Core.Path.{_≡_, refl, sym, _∙_, ap}
-use mathlib.Core.List.{List}
+use mathlib.Core.Path.{_≡_, sym, _∙_, ap}
 use native.Mathlib.Omega.{arith}
 use denote.Ref.{now}
-use Rattle.timetable.specs.Formats.{read, field-at, least, floor-after, accepted}
-use Rattle.timetable.specs.EditsFile.{most-trains, relation-of}
-use Rattle.fields.specs.between.Answers.{padded}
-use Rattle.fields.proofs.EntryLaws.{row-value, row-refusal, field-bounded}
+use Rattle.timetable.specs.Formats.{accepted}
+use Rattle.timetable.specs.EditsFile.{relation-of}
+use Rattle.fields.proofs.EntryLaws.{row-value, row-refusal}
 use Rattle.railway.specs.declared.relation.Relation.{Relation}
-use Rattle.railway.specs.declared.edit.StationRelation.{StationRelation}
-use Rattle.fields.specs.between.Answers.{in-use, number-read}
-use Rattle.relation_files.specs.between.Answers.{relation-trains, relation-fields, relation-outcome}
-use Rattle.fields.proofs.FloorLaws.{number-value, number-refusal}
-use Rattle.relation_files.proofs.ReadingLaws.{relation-padded, trains-stop, trains-some, interval-stop, count-stop, count-then, place-stop, kind-stop, kind-then}
+use Rattle.fields.specs.between.Answers.{in-use}
+use Rattle.relation_files.specs.between.Answers.{relation-outcome}
+use Rattle.relation_files.proofs.ReadingLaws.{relation-padded, trains-stop, trains-some}
 use borrow.Author.Needs.{needs}
 use Rattle.relation_files.proofs.reading.relation_trains.Statement.{statement}
 use Rattle.relation_files.proofs.reading.relation_trains.Tie as tie

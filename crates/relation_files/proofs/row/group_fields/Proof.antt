@@ -1,11 +1,11 @@
 -- `relation_files::row::group_fields` meets its contract: four numbers, and the trains of four places. Assumes nothing.
-use Prim.Native.Nat.{ℕ, _+_, _≤_, _<_}
-use mathlib.Core.Path.{_≡_, refl, sym, _∙_, ap}
+use Prim.Native.Nat.{ℕ, _≤_}
+use mathlib.Core.Path.{refl, _∙_, ap}
 use mathlib.Core.List.{List, [], _∷_, _++_, map}
 use native.Mathlib.Omega.{arith}
-use lib.ListN.{length, length-map}
+use lib.ListN.{length}
 use Rattle.railway.specs.Relations.{used}
-use Rattle.timetable.specs.EditsFile.{relation-numbers, station-relation-numbers, group-numbers}
+use Rattle.timetable.specs.EditsFile.{group-numbers}
 use Rattle.fields.specs.between.Answers.{padded, row-of}
 use Rattle.relation_files.proofs.TrainNumbers.{one, one-more, four-places}
 use borrow.Author.Needs.{needs}

@@ -1,7 +1,5 @@
 -- `relation_files::row::led_numbers` meets its contract by the case of the relation. Assumes nothing.
-use Prim.Native.Nat.{ℕ}
-use mathlib.Core.Path.{_≡_, refl, sym, _∙_}
-use mathlib.Core.List.{_∷_}
+use mathlib.Core.Path.{sym, _∙_}
 use borrow.Author.Needs.{needs}
 use Rattle.timetable.specs.EditsFile.{relation-numbers, station-relation-numbers}
 use Rattle.fields.specs.between.Answers.{padded, row-of}

@@ -13,7 +13,7 @@ use denote.Ref.{now}
 use Rattle.records.specs.Bytes.{chunk}
 use Rattle.sheet.specs.Types.{Station, Network}
 use Rattle.sheet.specs.between.Passes.{visit-passes, passing-train, train-after, visit-run}
-use Rattle.sheet.proofs.PassLaws.{cut-chunk, all-from, from-not, from-both, from-end, visit-run-start, train-before, train-kept, train-next}
+use Rattle.sheet.proofs.PassLaws.{all-from, from-not, from-both, from-end, visit-run-start, train-before, train-kept, train-next}
 use Rattle.sheet.proofs.LinkRows.{place-low, row-read}
 use Rattle.sheet.proofs.test.visit_run.Statement.{statement}
 use Rattle.sheet.proofs.test.visit_run.Tie as tie

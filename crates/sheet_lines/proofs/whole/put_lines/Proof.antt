@@ -1,6 +1,5 @@
 -- `sheet_lines::whole::put_lines` meets its contract: the lines under no area; their numbers stand in two bytes each.
 -- Assumes nothing.
-use Prim.Native.Nat.{_*_}
 use mathlib.Core.List.{[], flatMap}
 use native.Mathlib.Omega.{arith}
 use denote.Ref.{now}

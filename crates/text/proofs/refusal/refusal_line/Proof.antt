@@ -1,10 +1,7 @@
 -- `text::refusal::refusal_line` meets its contract: a place that no input has is refused. Assumes nothing.
 use native.Mathlib.Omega.{arith}
-use mathlib.Core.Path.{_∙_}
 use denote.Ref.{now}
-use lib.Dec.{ltb}
 use borrow.Author.Tests.{lt-ltb, le-ltb}
-use Rattle.base.specs.Choice.{_if_else_}
 use Rattle.timetable.proofs.BuffersFilled.{refused-so}
 use Rattle.listings.specs.Shift.{refusal-text}
 use Rattle.text.specs.RefusalLine.{line-refusal}

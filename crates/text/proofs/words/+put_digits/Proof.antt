@@ -2,7 +2,6 @@
 -- law of `digits`. Assumes nothing.
 use Prim.Native.Nat.{ℕ, _<_, _+_, _-_, _/_, _%_}
 use mathlib.Core.List.{[], _∷_}
-use mathlib.Core.Path.{_≡_, refl, sym, _∙_, ap}
 use denote.Ref.{now}
 use native.Mathlib.Omega.{arith}
 use borrow.Author.Needs.{needs}

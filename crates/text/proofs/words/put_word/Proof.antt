@@ -1,5 +1,4 @@
 -- `text::words::put_word` meets its contract: a blank and digits, one behind the other. Assumes nothing.
-use Prim.Native.Nat.{_+_}
 use mathlib.Core.List.{[], _∷_}
 use native.Mathlib.Omega.{arith}
 use denote.Ref.{now}

@@ -1,9 +1,9 @@
 -- `timetable_entries::enter::enter_relation` meets its contract: an earlier fault stays, a refused entry is the first,
 -- any other changes its station's page. Assumes nothing.
-use mathlib.Core.Path.{_≡_, refl, sym, _∙_, ap}
+use mathlib.Core.Path.{refl}
 use native.Mathlib.Omega.{arith}
 use denote.Ref.{now}
-use Rattle.sheet.proofs.SheetLaws.{station-low, station-high}
+use Rattle.sheet.proofs.SheetLaws.{station-low}
 use Rattle.timetable_entries.proofs.EnterLaws.{room, relation-kept, relation-stopped, relation-taken}
 use borrow.Author.Needs.{needs}
 use Rattle.timetable_entries.proofs.enter.enter_relation.Statement.{statement}

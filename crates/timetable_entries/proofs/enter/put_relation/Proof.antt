@@ -1,9 +1,5 @@
 -- `timetable_entries::enter::put_relation` meets its contract by the test. Assumes nothing.
-use mathlib.Core.Path.{_≡_, refl, sym, _∙_, ap}
-use native.Mathlib.Omega.{arith}
-use denote.Ref.{now}
-use Rattle.page.specs.between.Changes.{table-in}
-use Rattle.sheet.specs.between.Passes.{in-passes, out-passes}
+use mathlib.Core.Path.{sym, _∙_}
 use Rattle.timetable_entries.specs.between.Entering.{page-with-relation}
 use borrow.Author.Needs.{needs}
 use Rattle.timetable_entries.proofs.enter.put_relation.Statement.{statement}

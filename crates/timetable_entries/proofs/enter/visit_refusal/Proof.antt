@@ -1,10 +1,6 @@
 -- `timetable_entries::enter::visit_refusal` meets its contract by the two tests. Assumes nothing.
-use mathlib.Core.Path.{_≡_, refl, sym, _∙_, ap}
-use native.Mathlib.Omega.{arith}
 use denote.Ref.{now}
 use Rattle.page.specs.between.Changes.{table-in}
-use Rattle.sheet.specs.between.Passes.{in-passes, out-passes}
-use Rattle.timetable_entries.specs.between.Entering.{page-with-relation}
 use Rattle.timetable_entries.proofs.EnterLaws.{visit-unknown, visit-room, visit-full}
 use borrow.Author.Needs.{needs}
 use Rattle.timetable_entries.proofs.enter.visit_refusal.Statement.{statement}

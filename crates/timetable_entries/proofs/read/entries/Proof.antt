@@ -1,19 +1,14 @@
 -- `timetable_entries::read::entries` meets its contract: visits and then relations, each by its part of the file.
 -- Assumes nothing.
 use Prim.Native.Nat.{ℕ}
-use mathlib.Core.Path.{_≡_, refl, sym, _∙_, ap}
-use mathlib.Core.Bool.{true, false, false≢true}
+use mathlib.Core.Path.{_≡_, sym, _∙_, ap}
+use mathlib.Core.Bool.{false≢true}
 use mathlib.Core.List.{List}
-use native.Mathlib.Omega.{arith}
-use lib.ListN.{length}
 use denote.Ref.{now}
-use Rattle.timetable.specs.Formats.{Outcome, refused, read, Placed}
-use Rattle.timetable.specs.TimetableFile.{StationVisit, timetable-format}
-use Rattle.fields.proofs.EntryLaws.{field-bounded}
-use Rattle.timetable_entries.specs.Types.{StationRelation}
+use Rattle.timetable.specs.Formats.{read}
 use Rattle.timetable.specs.declared.Fault.{Fault}
 use Rattle.timetable_entries.specs.declared.read.EntriesRead.{EntriesRead}
-use Rattle.timetable_entries.specs.between.Entering.{no-fault, through, visit-step, relation-step, unanswered, entries-read, entries-sheet, timetable-entries, timetable-sheet, Progress, visit-part, relation-part}
+use Rattle.timetable_entries.specs.between.Entering.{no-fault, through, visit-step, unanswered, entries-sheet, timetable-entries, visit-part, relation-part}
 use Rattle.timetable_entries.proofs.SheetEntries.{progress}
 use Rattle.timetable_entries.proofs.PartLaws.{entries-took, entries-refusal, visits-refused, joined}
 use borrow.Author.Needs.{needs}

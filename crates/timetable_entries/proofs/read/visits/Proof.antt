@@ -1,6 +1,6 @@
 -- `timetable_entries::read::visits` meets its contract: each turn is one law of the loops over entries. Assumes
 -- nothing.
-use Prim.Native.Nat.{ℕ, _-_, _≤_}
+use Prim.Native.Nat.{_-_, _≤_}
 use mathlib.Core.Path.{_≡_, refl, sym, _∙_, ap}
 use mathlib.Core.Bool.{false≢true}
 use mathlib.Core.List.{[], _∷_}

@@ -1,6 +1,6 @@
 -- `timetable_entries::rest::fill` meets its contract: each return is one law of the rest of a file. Assumes nothing.
 use Prim.Native.Nat.{ℕ}
-use mathlib.Core.Path.{_≡_, _∙_, ap}
+use mathlib.Core.Path.{_∙_, ap}
 use mathlib.Core.List.{List}
 use lib.ListN.{length, length-replicate}
 use denote.Ref.{now}

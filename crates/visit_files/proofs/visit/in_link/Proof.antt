@@ -1,7 +1,7 @@
 -- `visit_files::visit::in_link` meets its contract: each return is one law of the entry, by what its fields gave.
 -- Assumes nothing.
 use Prim.Native.Nat.{ℕ, _%_}
-use mathlib.Core.Path.{_≡_, refl, sym, _∙_, ap}
+use mathlib.Core.Path.{_≡_, sym, _∙_, ap}
 use native.Mathlib.Omega.{arith}
 use denote.Ref.{now}
 use Rattle.fields.proofs.EntryLaws.{field-bounded}

@@ -1,12 +1,12 @@
 -- `visit_files::visit::out_fields` meets its contract: each return is one law of the fields. Assumes nothing.
 use Prim.Native.Nat.{ℕ, _%_}
-use mathlib.Core.Path.{_≡_, refl, sym, _∙_, ap}
+use mathlib.Core.Path.{_≡_, sym, _∙_, ap}
 use native.Mathlib.Omega.{arith}
 use denote.Ref.{now}
 use Rattle.fields.proofs.EntryLaws.{field-bounded}
 use Rattle.fields.specs.between.Answers.{field-outcome}
 use Rattle.timetable.specs.Formats.{accepted}
-use Rattle.visit_files.specs.between.Answers.{out-fields, out-outcome}
+use Rattle.visit_files.specs.between.Answers.{out-outcome}
 use Rattle.visit_files.proofs.VisitLaws.{outward, line-stop, run-stop, run-some}
 use borrow.Author.Needs.{needs}
 use Rattle.visit_files.proofs.visit.out_fields.Statement.{statement}

@@ -1,8 +1,6 @@
 -- `visit_files::visit::out_link` meets its contract: none, a refusal, or the fields behind the station. Assumes
 -- nothing.
-use Prim.Native.Nat.{ℕ, _%_}
-use mathlib.Core.Path.{_≡_, refl, sym, _∙_, ap}
-use native.Mathlib.Omega.{arith}
+use mathlib.Core.Path.{sym, _∙_, ap}
 use denote.Ref.{now}
 use Rattle.fields.proofs.EntryLaws.{field-bounded}
 use Rattle.fields.specs.between.Answers.{field-outcome}

@@ -1,7 +1,7 @@
 -- `visit_files::visit::visit_entry` meets its contract: station and train are compared with those before, and the
 -- values behind them follow. Assumes nothing.
 use Prim.Native.Nat.{ℕ}
-use mathlib.Core.Path.{_≡_, sym, _∙_, ap}
+use mathlib.Core.Path.{sym, _∙_, ap}
 use mathlib.Core.List.{List, [], _∷_}
 use denote.Ref.{now}
 use Rattle.timetable.specs.Formats.{field-at, least, floor-after}

@@ -1,8 +1,7 @@
 -- `visit_files::visit::visit_from` meets its contract: the track fits a byte. Assumes nothing.
 use Prim.Native.Nat.{ℕ, _%_, _<_}
-use mathlib.Core.Path.{_≡_, _∙_}
+use mathlib.Core.Path.{_≡_}
 use native.Mathlib.Omega.{arith}
-use lib.ListN.{getD}
 use Rattle.timetable.specs.TimetableFile.{station-visit-of}
 use Rattle.visit_files.specs.between.Answers.{visit-in}
 use borrow.Author.Needs.{needs}

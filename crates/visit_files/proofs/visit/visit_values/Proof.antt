@@ -1,7 +1,7 @@
 -- `visit_files::visit::visit_values` meets its contract: the row, the in-link and the out-link decide in this
 -- order. Assumes nothing.
 use Prim.Native.Nat.{ℕ, _%_}
-use mathlib.Core.Path.{_≡_, refl, sym, _∙_, ap}
+use mathlib.Core.Path.{_≡_, sym, _∙_, ap}
 use mathlib.Core.List.{List, []}
 use native.Mathlib.Omega.{arith}
 use denote.Ref.{now}
@@ -9,8 +9,8 @@ use Rattle.timetable.specs.Formats.{Range, accepted, read, row}
 use Rattle.timetable.specs.TimetableFile.{StationVisit}
 use Rattle.fields.specs.between.Answers.{row-read}
 use Rattle.fields.proofs.EntryLaws.{row-took, row-refusal}
-use Rattle.visit_files.specs.Types.{Station, InLink, OutLink, Visit}
-use Rattle.visit_files.specs.between.Answers.{value-ranges, visit-in, visit-values, visit-outcome, in-outcome, out-outcome}
+use Rattle.visit_files.specs.Types.{Visit}
+use Rattle.visit_files.specs.between.Answers.{value-ranges, visit-in, visit-outcome, in-outcome, out-outcome}
 use Rattle.visit_files.proofs.VisitLaws.{values-stop, inward-stop, outward-stop, outward-some, visit-padded, station-visit, visit-made}
 use borrow.Author.Needs.{needs}
 use Rattle.visit_files.proofs.visit.visit_values.Statement.{statement}
