@@ -239,14 +239,13 @@ fn visit_run(slots: &[u8], n: usize, network: Network, s: Station, good: bool) -
     requires { ⌜ (16 * n ≤ length (now slots)) × (good ≡ true → network-refusal network ≡ 0) ⌝ }
     ensures { λ r. ⌜ r ≡ visit-run network s n (now (slots .entry)) ⌝ }
 {
-    let rows = network.lines;
     let tracks = tracks_of(network, s);
     let mut last: u16 = 0;
     let mut i: usize = 0;
     while i < n {
         let at = 16 * i;
-        let a = rows[place_of(Line(slots[at + 10]))];
-        let b = rows[place_of(Line(slots[at + 12]))];
+        let a = network.lines[place_of(Line(slots[at + 10]))];
+        let b = network.lines[place_of(Line(slots[at + 12]))];
         let t = good_train(&slots[at..at + 16], a, b, network, s, tracks, good);
         if last < t {
             last = t;

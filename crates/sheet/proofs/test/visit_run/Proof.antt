@@ -1,5 +1,6 @@
 -- `sheet::test::visit_run` meets its contract. The loop's invariant: what is asked of all records is asked of those
--- from i on, and the train that is kept is that of the record before i. Assumes nothing.
+-- from i on, and the train that is kept is that of the record before i. The network, whose rows the loop reads, is the
+-- argument `t3`. Assumes nothing.
 use Prim.Native.Nat.{ℕ, _+_, _*_, _≤_, _-_}
 use mathlib.Core.Bool.{Bool, true, false, _&&_}
 use mathlib.Core.List.{List}
@@ -24,12 +25,12 @@ passes : (last t : ℕ) (b : List ℕ) (i : ℕ) (n : Network) (s : Station) →
 passes last t b i n s e p x q = sym (ap (λ (k : ℕ). ltb k t) e ∙ train-next b i n s t p) ∙ q
 
 abbrev Inv-loop : tie.InvT-loop
-Inv-loop slots n network s good rows tracks last₀ i₀ last i =
+Inv-loop slots n s good network tracks last₀ i₀ last i =
     (i ≤ n) × (last ≡ train-before slots i)
     × (visit-run network s n slots ≡ all-from (λ j. visit-passes network s (chunk j slots)) (train-after slots) n i)
 
 abbrev μ-loop : tie.MeasureT-loop
-μ-loop slots n network s good rows tracks last₀ i₀ last i = n - i
+μ-loop slots n s good network tracks last₀ i₀ last i = n - i
 
 tracks-of-requires : tie.Need-tracks-of-requires Inv-loop μ-loop
 tracks-of-requires c κs = search needs
@@ -37,17 +38,17 @@ tracks-of-requires c κs = search needs
 loop-holds : tie.Need-loop-holds Inv-loop μ-loop
 unfolding train-before
 loop-holds c =
-    let s = c .before .before .before .args in
-    (omega arith, refl, visit-run-start (s .network) (s .s) (s .n) (now (s .slots)))
+    let s = c .before .before .args in
+    (omega arith, refl, visit-run-start (s .t3) (s .s) (s .n) (now (s .slots)))
 
 mul-at : tie.Need-mul-at Inv-loop μ-loop
 mul-at c = omega arith
 
-add-t16 : tie.Need-add-t16 Inv-loop μ-loop
-add-t16 c = omega arith
+add-t17 : tie.Need-add-t17 Inv-loop μ-loop
+add-t17 c = omega arith
 
-shared-slice-read-t18 : tie.Need-shared-slice-read-t18 Inv-loop μ-loop
-shared-slice-read-t18 c = omega arith
+shared-slice-read-t19 : tie.Need-shared-slice-read-t19 Inv-loop μ-loop
+shared-slice-read-t19 c = omega arith
 
 place-of-requires : tie.Need-place-of-requires Inv-loop μ-loop
 place-of-requires c κs = search needs
@@ -55,14 +56,14 @@ place-of-requires c κs = search needs
 mul-a : tie.Need-mul-a Inv-loop μ-loop
 mul-a c = omega (arith, place-low _ _ (c .place-of .ensures))
 
-array-copy-out-a : tie.Need-array-copy-out-a Inv-loop μ-loop
-array-copy-out-a c = omega (arith, place-low _ _ (c .place-of .ensures))
+element-copy-out-a : tie.Need-element-copy-out-a Inv-loop μ-loop
+element-copy-out-a c = omega (arith, place-low _ _ (c .place-of .ensures))
 
-add-t16-2 : tie.Need-add-t16-2 Inv-loop μ-loop
-add-t16-2 c = omega arith
+add-t17-2 : tie.Need-add-t17-2 Inv-loop μ-loop
+add-t17-2 c = omega arith
 
-shared-slice-read-t18-2 : tie.Need-shared-slice-read-t18-2 Inv-loop μ-loop
-shared-slice-read-t18-2 c = omega arith
+shared-slice-read-t19-2 : tie.Need-shared-slice-read-t19-2 Inv-loop μ-loop
+shared-slice-read-t19-2 c = omega arith
 
 place-of-requires-2 : tie.Need-place-of-requires-2 Inv-loop μ-loop
 place-of-requires-2 c κs = search needs
@@ -70,8 +71,8 @@ place-of-requires-2 c κs = search needs
 mul-b : tie.Need-mul-b Inv-loop μ-loop
 mul-b c = omega (arith, place-low _ _ (c .place-of2 .ensures))
 
-array-copy-out-b : tie.Need-array-copy-out-b Inv-loop μ-loop
-array-copy-out-b c = omega (arith, place-low _ _ (c .place-of2 .ensures))
+element-copy-out-b : tie.Need-element-copy-out-b Inv-loop μ-loop
+element-copy-out-b c = omega (arith, place-low _ _ (c .place-of2 .ensures))
 
 add-good-train : tie.Need-add-good-train Inv-loop μ-loop
 add-good-train c = omega arith
@@ -88,11 +89,11 @@ part-good-train-end c = omega arith
 good-train-requires : tie.Need-good-train-requires Inv-loop μ-loop
 good-train-requires c κs =
     let l = c .before .before .before .before .before .before .before .before .loop in
-    let s = c .before .before .before .before .before .before .before .before .before .before .before .before .args in (
+    let s = c .before .before .before .before .before .before .before .before .before .before .before .args in (
       c .before .before .before .before .before .before .before .before .before .tracks-of .ensures,
-      c .before .before .before .before .before .before .before .before .before .before .before .before .pre .1,
-      row-read (s .network) (now (s .slots)) (l .i) 10 (c .before .before .before .before .before .place-of .result) (omega arith) (c .before .before .before .before .before .place-of .ensures),
-      row-read (s .network) (now (s .slots)) (l .i) 12 (c .before .before .place-of2 .result) (omega arith) (c .before .before .place-of2 .ensures),
+      c .before .before .before .before .before .before .before .before .before .before .before .pre .1,
+      row-read (s .t3) (now (s .slots)) (l .i) 10 (c .before .before .before .before .before .place-of .result) (omega arith) (c .before .before .before .before .before .place-of .ensures),
+      row-read (s .t3) (now (s .slots)) (l .i) 12 (c .before .before .place-of2 .result) (omega arith) (c .before .before .place-of2 .ensures),
     )
 
 add-i : tie.Need-add-i Inv-loop μ-loop
@@ -104,32 +105,32 @@ loop-less c = omega arith
 loop-again : tie.Need-loop-again Inv-loop μ-loop
 loop-again c =
     let l = c .before .before .before .before .before .before .before .before .before .before .loop in
-    let s = c .before .before .before .before .before .before .before .before .before .before .before .before .before .before .args in
+    let s = c .before .before .before .before .before .before .before .before .before .before .before .before .before .args in
     let t = c .before .good-train in
-    let good = passes (l .last) (t .result) (now (s .slots)) (l .i) (s .network) (s .s) (l .inv .1) (t .ensures) true (lt-ltb _ _ (c .if1 .taken)) in (
+    let good = passes (l .last) (t .result) (now (s .slots)) (l .i) (s .t3) (s .s) (l .inv .1) (t .ensures) true (lt-ltb _ _ (c .if1 .taken)) in (
       omega arith,
-      train-kept (now (s .slots)) (l .i) (s .network) (s .s) (t .result) (t .ensures) good,
-      l .inv .2 ∙ from-both (λ j. visit-passes (s .network) (s .s) (chunk j (now (s .slots)))) (train-after (now (s .slots))) (s .n) (l .i) (omega arith) good,
+      train-kept (now (s .slots)) (l .i) (s .t3) (s .s) (t .result) (t .ensures) good,
+      l .inv .2 ∙ from-both (λ j. visit-passes (s .t3) (s .s) (chunk j (now (s .slots)))) (train-after (now (s .slots))) (s .n) (l .i) (omega arith) good,
     )
 
 returns : tie.Need-returns Inv-loop μ-loop
 returns c =
     let l = c .before .before .before .before .before .before .before .before .before .before .loop in
-    let s = c .before .before .before .before .before .before .before .before .before .before .before .before .before .before .args in
+    let s = c .before .before .before .before .before .before .before .before .before .before .before .before .before .args in
     let t = c .before .good-train in
-    let bad = passes (l .last) (t .result) (now (s .slots)) (l .i) (s .network) (s .s) (l .inv .1) (t .ensures) false (le-ltb _ _ (c .if1 .left)) in
-    sym (l .inv .2 ∙ from-not (λ j. visit-passes (s .network) (s .s) (chunk j (now (s .slots)))) (train-after (now (s .slots))) (s .n) (l .i) (omega arith) bad)
+    let bad = passes (l .last) (t .result) (now (s .slots)) (l .i) (s .t3) (s .s) (l .inv .1) (t .ensures) false (le-ltb _ _ (c .if1 .left)) in
+    sym (l .inv .2 ∙ from-not (λ j. visit-passes (s .t3) (s .s) (chunk j (now (s .slots)))) (train-after (now (s .slots))) (s .n) (l .i) (omega arith) bad)
 
 returns-2 : tie.Need-returns-2 Inv-loop μ-loop
 returns-2 c =
     let l = c .before .loop in
-    let s = c .before .before .before .before .before .args in
-    sym (l .inv .2 ∙ from-end (λ j. visit-passes (s .network) (s .s) (chunk j (now (s .slots)))) (train-after (now (s .slots))) (s .n) (l .i) (omega arith))
+    let s = c .before .before .before .before .args in
+    sym (l .inv .2 ∙ from-end (λ j. visit-passes (s .t3) (s .s) (chunk j (now (s .slots)))) (train-after (now (s .slots))) (s .n) (l .i) (omega arith))
 
 pub visit-run-spec : {M : Type 1} → statement M
 visit-run-spec =
     tie.close
-    (tie.spec Inv-loop μ-loop tracks-of-requires loop-holds mul-at add-t16 shared-slice-read-t18 place-of-requires
-    mul-a array-copy-out-a add-t16-2 shared-slice-read-t18-2 place-of-requires-2 mul-b array-copy-out-b
+    (tie.spec Inv-loop μ-loop tracks-of-requires loop-holds mul-at add-t17 shared-slice-read-t19 place-of-requires
+    mul-a element-copy-out-a add-t17-2 shared-slice-read-t19-2 place-of-requires-2 mul-b element-copy-out-b
     add-good-train sub-good-train part-good-train-start part-good-train-end good-train-requires add-i loop-less
     loop-again returns returns-2)
