@@ -1,13 +1,12 @@
 -- What the answers of reading say of the files: refused, the number is not 0; accepted, what the file holds. Then a
 -- call's three ways to end: buffers that do not fit, a network that is refused, the call itself. Assumes nothing.
-use Prim.Native.Nat.{ℕ, _<_, _≤_}
+use Prim.Native.Nat.{ℕ}
 use mathlib.Core.Path.{_≡_, refl, sym, _∙_, ap}
 use mathlib.Core.Bool.{Bool, true, false, _&&_}
 use mathlib.Core.List.{List}
 use native.Mathlib.Omega.{arith}
 use lib.Dec.{eqb}
-use lib.ListN.{length}
-use borrow.Author.Tests.{le-leb, lt-leb, eq-eqb, ne-eqb}
+use borrow.Author.Tests.{eq-eqb, ne-eqb}
 use Rattle.base.specs.Choice.{if_then_else_}
 use Rattle.timetable.specs.Formats.{Outcome, accepted, refused, number, place-of, value-or, read, read-file, ended}
 use Rattle.timetable.specs.declared.Fault.{Fault}
@@ -16,8 +15,9 @@ use Rattle.timetable.specs.EditsFile.{edit-entry}
 use Rattle.network_files.specs.Answers.{network-answer}
 use Rattle.machine.proofs.FileRefusals.{Told, behind-told, read-told, ended-told}
 use Rattle.strakewhip.specs.Types.{Edit, Network, NetworkRead, OneEdit, Reply}
-use Rattle.strakewhip.specs.Replies.{sized, plain, placed, of-outcome, read-one, by-file, told, left}
-use Rattle.strakewhip.specs.between.OneEdit.{no-edit, edit-answer}
+use Rattle.strakewhip.specs.Replies.{sized, plain, placed, of-outcome, by-file, told, left}
+use Rattle.single_edit.specs.Reading.{read-one}
+use Rattle.single_edit.specs.between.OneEdit.{no-edit, edit-answer}
 
 -- a network file is never refused with 0
 
@@ -96,23 +96,6 @@ module _ (file : List ℕ) (r : NetworkRead) (e : r ≡ network-answer (read-net
       go (refused k p) f q = absurd (network-told file k p f (sym (ap (λ (x : NetworkRead). x .refusal) q) ∙ z))
 
 -- one edit and nothing behind it
-
-module _ (file : List ℕ) (e : Edit) (next : ℕ) where
-  pub edit-goes-on : next < length file → edit-answer (refused 1 next) ≡ edit-answer (ended file (accepted e next))
-  unfolding ended
-  edit-goes-on h = sym (rw (lt-leb (length file) next h))
-
-  pub edit-stands : length file ≤ next → edit-answer (accepted e next) ≡ edit-answer (ended file (accepted e next))
-  unfolding ended
-  edit-stands h = sym (rw (le-leb (length file) next h))
-
-  pub edit-read : accepted e next ≡ read edit-entry file 0 → edit-answer (ended file (accepted e next)) ≡ edit-answer (read-one file)
-  unfolding read-one read-file
-  edit-read q = ap (λ (o : Outcome Edit). edit-answer (ended file o)) q
-
-pub edit-faulty : (file : List ℕ) (k p : ℕ) → refused k p ≡ read edit-entry file 0 → edit-answer (refused k p) ≡ edit-answer (read-one file)
-unfolding read-one read-file ended
-edit-faulty file k p q = ap (λ (o : Outcome Edit). edit-answer (ended file o)) q
 
 module _ {X : Type 0} (file : List ℕ) (r : OneEdit) (e : r ≡ edit-answer (read-one file)) (bad : ℕ → ℕ → X) (good : Edit → X) where
   edit-tells : Tells (read-one file) (edit-told file) no-edit (r .refusal) (r .place) (r .edit)

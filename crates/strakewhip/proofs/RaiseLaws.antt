@@ -5,8 +5,9 @@ use mathlib.Core.Bool.{true, false}
 use mathlib.Core.List.{List}
 use Rattle.timetable.specs.Count.{overfull, raise-refusal, raise}
 use Rattle.strakewhip.specs.Types.{Tally, OneEdit, Reply}
-use Rattle.strakewhip.specs.Replies.{plain, placed, read-one}
-use Rattle.strakewhip.specs.between.OneEdit.{edit-answer}
+use Rattle.strakewhip.specs.Replies.{plain, placed}
+use Rattle.single_edit.specs.Reading.{read-one}
+use Rattle.single_edit.specs.between.OneEdit.{edit-answer}
 use Rattle.strakewhip.specs.Calls.{tally-of, numbers-of, raise-reply, raise-left}
 use Rattle.strakewhip.proofs.FileLaws.{edit-refused, edit-held}
 

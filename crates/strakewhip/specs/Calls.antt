@@ -21,7 +21,8 @@ use Rattle.timetable_files.specs.Calls.{read-answer, read-after}
 use Rattle.timetable_writing.specs.Writing.{write-timetable, timetable-written}
 use Rattle.projection.specs.Calls.{project-answer, project-after}
 use Rattle.strakewhip.specs.Types.{Edit, Network, Area, Answer, Tally, Reply}
-use Rattle.strakewhip.specs.Replies.{sized, plain, placed, bits, of-answer, of-reply, of-outcome, read-one, by-file, told, left}
+use Rattle.strakewhip.specs.Replies.{sized, plain, placed, bits, of-answer, of-reply, of-outcome, by-file, told, left}
+use Rattle.single_edit.specs.Reading.{read-one}
 
 abbrev pub is-sheet : List ℕ → Bool
 is-sheet sheet = eqb (length sheet) 8192

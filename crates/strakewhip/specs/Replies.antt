@@ -1,13 +1,11 @@
 -- What every call answers, and how a call goes on where the files that it is lent are read. Assumes nothing.
 use Prim.Native.Nat.{ℕ, _+_}
 use mathlib.Core.Bool.{Bool}
-use mathlib.Core.List.{List}
 use mathlib.Core.Option.{Option, none, some}
 use Rattle.base.specs.Choice.{if_then_else_, _if_else_}
 use Rattle.timetable.specs.Outputs as outputs
-use Rattle.timetable.specs.Formats.{Outcome, accepted, refused, read-file}
-use Rattle.timetable.specs.EditsFile.{edit-entry}
-use Rattle.strakewhip.specs.Types.{Edit, Network, Answer, Reply}
+use Rattle.timetable.specs.Formats.{Outcome, accepted, refused}
+use Rattle.strakewhip.specs.Types.{Network, Answer, Reply}
 
 -- a refusal or 0, with a length; a refusal of a file, 1 the network and 2 the other, with its place
 abbrev pub sized : ℕ → ℕ → Reply
@@ -43,10 +41,6 @@ of-outcome file (refused k p) = placed file k p
 unfoldable pub bits : (ℕ → Bool) → ℕ
 bits f = (1 if f 1 else 0) + (2 if f 2 else 0) + (4 if f 3 else 0) + ((8 if f 4 else 0) + (16 if f 5 else 0) + (32 if f 6 else 0))
 
--- a file that holds one edit
-unfoldable pub read-one : List ℕ → Outcome Edit
-read-one file = read-file edit-entry file
-
 -- by what a file holds, or its refusal
 unfoldable pub by-file : {A X : Type 0} → Outcome A → (ℕ → ℕ → X) → (A → X) → X
 by-file (accepted a next) bad good = good a
@@ -62,5 +56,5 @@ left fits o buffer call = if fits then by-file o (λ k p. buffer) call else buff
 
 -- The key ring of this module: `unfolding opened` opens every definition above.
 unfoldable pub opened : Unit {0}
-unfolding file-of or-nought of-reply of-outcome bits read-one by-file told left
+unfolding file-of or-nought of-reply of-outcome bits by-file told left
 opened = tt

@@ -11,5 +11,5 @@ pub use Rattle.timetable.specs.declared.Tally.{Tally}
 pub use Rattle.machine.specs.declared.list.Run.{Run}
 pub use Rattle.timetable_entries.specs.declared.rest.TimetableRead.{TimetableRead}
 pub use Rattle.network_files.specs.declared.reading.NetworkRead.{NetworkRead}
-pub use Rattle.strakewhip.specs.declared.input.OneEdit.{OneEdit}
+pub use Rattle.single_edit.specs.declared.OneEdit.{OneEdit}
 pub use Rattle.strakewhip.specs.declared.reply.Reply.{Reply}

@@ -5,7 +5,6 @@ ghost use Rattle.base.specs.Choice.{_if_else_};
 ghost use Rattle.named_sheets.specs.between.Named.{touches-area};
 ghost use Rattle.strakewhip.specs.Replies.{bits};
 ghost use Rattle.strakewhip.specs.Calls.{network-reply, named, named-under, names-reply};
-use crate::input;
 use crate::reply;
 use crate::reply::Reply;
 use actions::early;
@@ -59,7 +58,7 @@ fn names_of(n: Network, e: Edit) -> Reply
 fn names_under(n: Network, edit: &[u8]) -> Reply
     ensures { λ r. ⌜ r ≡ named-under n (now (edit .entry)) ⌝ }
 {
-    let found = input::one_edit(edit);
+    let found = single_edit::one_edit(edit);
     if found.refusal != 0 {
         return reply::placed(2, found.refusal, found.place);
     }

@@ -1,7 +1,6 @@
 // Edits on a division. Refusals: 5, then the network's file, then the edits', then those of the call.
 ghost use mathlib.Core.Path.{_≡_};
 ghost use Rattle.strakewhip.specs.Calls.{one-reply, one-left, sheet-one-reply, sheet-one-left, edit-reply, edit-left, sheet-edit-reply, sheet-edit-left, run-reply, run-left, answers-left};
-use crate::input;
 use crate::reply;
 use crate::reply::Reply;
 use machine::calls;
@@ -13,7 +12,7 @@ use network_files::reading::read_network;
 fn one_on_division(n: Network, edit: &[u8], division: &mut [u8]) -> Reply
     ensures { λ r. ⌜ (r ≡ one-reply n (now (edit .entry)) (now (division .entry))) × (now (division .exit) ≡ one-left n (now (edit .entry)) (now (division .entry))) ⌝ }
 {
-    let found = input::one_edit(edit);
+    let found = single_edit::one_edit(edit);
     if found.refusal != 0 {
         return reply::placed(2, found.refusal, found.place);
     }
@@ -24,7 +23,7 @@ fn one_on_division(n: Network, edit: &[u8], division: &mut [u8]) -> Reply
 fn one_on_sheet(n: Network, edit: &[u8], sheet: &mut [u8]) -> Reply
     ensures { λ r. ⌜ (r ≡ sheet-one-reply n (now (edit .entry)) (now (sheet .entry))) × (now (sheet .exit) ≡ sheet-one-left n (now (edit .entry)) (now (sheet .entry))) ⌝ }
 {
-    let found = input::one_edit(edit);
+    let found = single_edit::one_edit(edit);
     if found.refusal != 0 {
         return reply::placed(2, found.refusal, found.place);
     }

@@ -1,7 +1,6 @@
 // The tally as four numbers: accepted, refused, added, removed.
 ghost use mathlib.Core.Path.{_≡_};
 ghost use Rattle.strakewhip.specs.Calls.{tally-of, numbers-of, raise-reply, raise-left};
-use crate::input;
 use crate::reply;
 use crate::reply::Reply;
 use timetable::Answer;
@@ -38,7 +37,7 @@ pub extern "C" fn strakewhip_raise(
     if tally::is_overfull(y) {
         return reply::plain(5);
     }
-    let found = input::one_edit(edit);
+    let found = single_edit::one_edit(edit);
     if found.refusal != 0 {
         return reply::placed(2, found.refusal, found.place);
     }

@@ -7,7 +7,6 @@ use Rattle.strakewhip.proofs.FileLaws.{edit-refused, edit-held}
 use Rattle.strakewhip.proofs.asking.names_under.Reads as reads
 use Rattle.strakewhip.proofs.asking.names_under.Lts as lts
 use Rattle.strakewhip.proofs.asking.names_of.Reads as names-of-reads
-use Rattle.strakewhip.proofs.input.one_edit.Reads as one-edit-reads
 use Rattle.strakewhip.proofs.reply.placed.Reads as placed-reads
 use Rattle.strakewhip.proofs.asking.names_under.Statement.{statement}
 use Rattle.strakewhip.proofs.asking.names_under.Tie as tie

@@ -9,7 +9,6 @@ use Rattle.strakewhip.proofs.FileLaws.{edit-refused, edit-held}
 use Rattle.strakewhip.proofs.changes.one_on_division.Reads as reads
 use Rattle.strakewhip.proofs.changes.one_on_division.Lts as lts
 use Rattle.machine.proofs.calls.edit_division.Reads as edit-division-reads
-use Rattle.strakewhip.proofs.input.one_edit.Reads as one-edit-reads
 use Rattle.strakewhip.proofs.reply.of_answer.Reads as of-answer-reads
 use Rattle.strakewhip.proofs.reply.placed.Reads as placed-reads
 use Rattle.strakewhip.proofs.changes.one_on_division.Statement.{statement}

@@ -9,7 +9,6 @@ use Rattle.strakewhip.proofs.FileLaws.{edit-refused, edit-held}
 use Rattle.strakewhip.proofs.changes.one_on_sheet.Reads as reads
 use Rattle.strakewhip.proofs.changes.one_on_sheet.Lts as lts
 use Rattle.machine.proofs.calls.edit_sheet.Reads as edit-sheet-reads
-use Rattle.strakewhip.proofs.input.one_edit.Reads as one-edit-reads
 use Rattle.strakewhip.proofs.reply.of_answer.Reads as of-answer-reads
 use Rattle.strakewhip.proofs.reply.placed.Reads as placed-reads
 use Rattle.strakewhip.proofs.changes.one_on_sheet.Statement.{statement}

@@ -10,7 +10,6 @@ use Rattle.strakewhip.proofs.count.strakewhip_raise.Reads as reads
 use Rattle.strakewhip.proofs.count.strakewhip_raise.Lts as lts
 use Rattle.strakewhip.proofs.count.put_tally.Reads as put-tally-reads
 use Rattle.strakewhip.proofs.count.tally_in.Reads as tally-in-reads
-use Rattle.strakewhip.proofs.input.one_edit.Reads as one-edit-reads
 use Rattle.strakewhip.proofs.reply.placed.Reads as placed-reads
 use Rattle.strakewhip.proofs.reply.plain.Reads as plain-reads
 use Rattle.tally.proofs.is_overfull.Reads as is-overfull-reads

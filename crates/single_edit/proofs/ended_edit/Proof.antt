@@ -1,15 +1,12 @@
--- `strakewhip::input::ended_edit` meets its contract: whether anything is behind the edit. Assumes nothing.
+-- `single_edit::ended_edit` meets its contract: whether anything is behind the edit. Assumes nothing.
 use mathlib.Core.Path.{_∙_}
 use denote.Ref.{now}
 use borrow.Author.Needs.{needs}
 use Rattle.timetable.specs.Formats.{number, place-of, value-or}
-use Rattle.strakewhip.specs.between.OneEdit.{edit-answer}
-use Rattle.strakewhip.proofs.FileLaws.{edit-goes-on, edit-stands}
-use Rattle.strakewhip.proofs.input.ended_edit.Reads as reads
-use Rattle.strakewhip.proofs.input.ended_edit.Lts as lts
-use Rattle.strakewhip.proofs.input.refused_edit.Reads as refused-edit-reads
-use Rattle.strakewhip.proofs.input.ended_edit.Statement.{statement}
-use Rattle.strakewhip.proofs.input.ended_edit.Tie as tie
+use Rattle.single_edit.specs.between.OneEdit.{edit-answer}
+use Rattle.single_edit.proofs.EditAlone.{edit-goes-on, edit-stands}
+use Rattle.single_edit.proofs.ended_edit.Statement.{statement}
+use Rattle.single_edit.proofs.ended_edit.Tie as tie
 
 refused-edit-requires : tie.Need-refused-edit-requires
 refused-edit-requires c κs = search needs

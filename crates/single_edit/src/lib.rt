@@ -1,8 +1,8 @@
-// What the bytes of a file hold.
+// A file that holds one edit: the bytes that it has in a list of edits, and nothing behind them.
 ghost use mathlib.Core.Path.{_≡_};
 ghost use Rattle.timetable.specs.Formats as formats;
-ghost use Rattle.strakewhip.specs.Replies.{read-one};
-ghost use Rattle.strakewhip.specs.between.OneEdit.{edit-answer};
+ghost use Rattle.single_edit.specs.Reading.{read-one};
+ghost use Rattle.single_edit.specs.between.OneEdit.{edit-answer};
 use edit_files::edit;
 use edit_files::edit::EditRead;
 use railway::edit::Cancellation;

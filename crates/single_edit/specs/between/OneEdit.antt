@@ -1,6 +1,6 @@
 -- The answer of reading a file that holds one edit. Assumes nothing.
 use Rattle.timetable.specs.Formats.{Outcome, number, place-of, value-or}
-use Rattle.strakewhip.specs.Types.{Edit, OneEdit}
+use Rattle.single_edit.specs.Types.{Edit, OneEdit}
 
 -- what stands beside a refusal; no reader looks at it
 abbrev pub no-edit : Edit

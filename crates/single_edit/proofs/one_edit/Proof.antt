@@ -1,16 +1,11 @@
--- `strakewhip::input::one_edit` meets its contract: what is read, and whether anything is behind it. Assumes nothing.
+-- `single_edit::one_edit` meets its contract: what is read, and whether anything is behind it. Assumes nothing.
 use mathlib.Core.Path.{sym, _∙_, ap}
 use denote.Ref.{now}
 use borrow.Author.Needs.{needs}
 use Rattle.edit_files.specs.Answers.{edit-outcome}
-use Rattle.strakewhip.proofs.FileLaws.{edit-read, edit-faulty}
-use Rattle.strakewhip.proofs.input.one_edit.Reads as reads
-use Rattle.strakewhip.proofs.input.one_edit.Lts as lts
-use Rattle.edit_files.proofs.edit.read_edit.Reads as read-edit-reads
-use Rattle.strakewhip.proofs.input.ended_edit.Reads as ended-edit-reads
-use Rattle.strakewhip.proofs.input.refused_edit.Reads as refused-edit-reads
-use Rattle.strakewhip.proofs.input.one_edit.Statement.{statement}
-use Rattle.strakewhip.proofs.input.one_edit.Tie as tie
+use Rattle.single_edit.proofs.EditAlone.{edit-read, edit-faulty}
+use Rattle.single_edit.proofs.one_edit.Statement.{statement}
+use Rattle.single_edit.proofs.one_edit.Tie as tie
 
 read-edit-requires : tie.Need-read-edit-requires
 read-edit-requires c κs = search needs
