@@ -20,6 +20,7 @@ BUILT = os.path.join(TOP, 'target', 'bench', 'release', 'bench')
 SECOND = os.path.join(TOP, 'reference', 'target', 'release')
 FIRST = os.path.join(TOP, 'target', 'bin')
 SIZES = ['small', 'medium', 'sparse', 'dense']
+GROWTH = ['2-stations', '4-stations', '8-stations', '16-stations', '3-visits', '6-visits', '12-visits']
 TURNS = 10
 RUNS = 101
 
@@ -98,20 +99,34 @@ def calls():
         row(f'`{name}`: {what}', *cells)
 
 
+def turned(name, size, function):
+    """What a function takes within one turn of a call of the library."""
+    words = [BUILT, 'turns', name, size, 'library']
+    took, _ = instructions([*words, str(TURNS)], within=function)
+    before, _ = instructions([*words, '0'], within=function)
+    return (took - before) / TURNS
+
+
 def tests():
-    """The test of the sheets within calls that need it: what it takes, and the call less its network's file by it."""
+    """Calls under a network that is read, and the test of the sheets within them.
+
+    Each asks twice what refuses the network: for its own order of refusals, and for the test of its sheets.
+    """
     head('Call', *SIZES)
-    files = {size: of_call('network', size, 'library') for size in SIZES}
-    for name in ('edit', 'divide', 'merge', 'sheet-tested'):
+    for name in ('edit', 'divide', 'merge'):
         cells = []
         for size in SIZES:
-            words = [BUILT, 'turns', name, size, 'library']
-            took, _ = instructions([*words, str(TURNS)], within='sheet::test::good_sheet')
-            before, _ = instructions([*words, '0'], within='sheet::test::good_sheet')
-            tested = (took - before) / TURNS
-            own = of_call(name, size, 'library')
-            cells.append(f'{short(tested)} ({own / tested:.2f}, {(own - files[size]) / tested:.2f})')
+            whole = of_call(name, size, 'library') - of_call('network', size, 'library')
+            tested = turned(name, size, 'sheet::test::sheet_under') + turned(name, size, 'network::Network::refusal') / 2
+            cells.append(f'{short(whole)}, {short(tested)} ({whole / tested:.2f})')
         row(f'`{name}`', *cells)
+
+
+def growth():
+    """With the stations, each with 24 visits; and with the visits at each of sixteen stations."""
+    head('Call', *GROWTH)
+    for name in ('edit', 'run', 'divide', 'merge', 'findings', 'area', 'read', 'write', 'project'):
+        row(f'`{name}`', *(short(of_call(name, size, 'library')) for size in GROWTH))
 
 
 def wall(folder):
@@ -154,6 +169,8 @@ def main():
         calls()
         print()
         tests()
+        print()
+        growth()
         if '--times' in sys.argv[1:]:
             print()
             wall(folder)

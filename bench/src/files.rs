@@ -28,6 +28,22 @@ pub const SIZES: [Size; 4] = [
     Size { name: "dense", stations: 16, trains: 24, spacing: 0, tracks: 2, together: true, relations: 6, edits: 1000 },
 ];
 
+/// A railway whose stations are all full, but for the trains that it has fewer.
+const fn grown(name: &'static str, stations: u32, trains: u32) -> Size {
+    Size { name, stations, trains, spacing: 60, tracks: 8, together: false, relations: 6, edits: 0 }
+}
+
+/// How cost grows: with the stations, each full; and with the visits at each of sixteen stations.
+pub const GROWTH: [Size; 7] = [
+    grown("2-stations", 2, 24),
+    grown("4-stations", 4, 24),
+    grown("8-stations", 8, 24),
+    grown("16-stations", 16, 24),
+    grown("3-visits", 16, 3),
+    grown("6-visits", 16, 6),
+    grown("12-visits", 16, 12),
+];
+
 /// The bytes of a railway's files, and what the second implementation makes of them.
 pub struct Railway {
     pub network: Vec<u8>,
@@ -138,9 +154,7 @@ impl Size {
         let (network, edits) = if self.trains == 0 {
             (
                 bytes(&[2, 1, 1, 2, 2, 2, 1, 3, 1, 1, 1, 2, 3, 10, 1]),
-                bytes(&[
-                    4, 1, 1, 7, 1, 100, 102, 3, 2, 7, 1, 115, 115, 1, 1, 12, 1, 1, 7, 1, 100, 102, 9, 1, 1, 5, 2, 7, 9,
-                ]),
+                bytes(&[4, 1, 1, 7, 1, 100, 102, 3, 2, 7, 1, 115, 115, 1, 1, 12, 1, 1, 7, 1, 100, 102, 9, 1, 1, 5, 2, 7, 9]),
             )
         } else {
             (bytes(&self.network()), bytes(&self.edits()))

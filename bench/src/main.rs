@@ -2,7 +2,8 @@
 //!
 //!   bench files DIR                       writes the inputs of both programs, NAME.shift and NAME.inspect
 //!   bench times                           microseconds of each call, the middle of many rounds: library, second one
-//!   bench turns CALL SIZE SIDE COUNT      does the call COUNT times (SIDE: library or reference), to be counted
+//!   bench turns CALL SIZE SIDE COUNT      does the call COUNT times (SIDE: library or reference), to be counted;
+//!                                         SIZE may also be one of those by which growth is measured
 //!   bench calls                           the calls' names and what they do
 //!   bench sizes                           what each size holds
 
@@ -10,7 +11,7 @@ mod calls;
 mod files;
 
 use calls::{reference, Held, CALLS};
-use files::{Size, SIZES};
+use files::{Size, GROWTH, SIZES};
 use std::time::Instant;
 
 /// Rounds whose middle one is told, and the least time that a round takes.
@@ -40,7 +41,7 @@ fn median(mut turn: impl FnMut()) -> f64 {
 }
 
 fn size(name: &str) -> &'static Size {
-    SIZES.iter().find(|size| size.name == name).unwrap_or_else(|| panic!("no size {name}"))
+    SIZES.iter().chain(&GROWTH).find(|size| size.name == name).unwrap_or_else(|| panic!("no size {name}"))
 }
 
 fn write_files(folder: &str) {

@@ -69,7 +69,8 @@ fn put_listed(out: &mut [u8], at: usize, sheet: &[u8], n: Network, numbers: &mut
     }
 }
 
-// In an array that has room for any list.
+// In an array that has room for any list, so that it never calls itself. A function that may call itself is not merged
+// into its caller: the array's pages are touched only where it is needed.
 fn put_any(out: &mut [u8], at: usize, sheet: &[u8], n: Network) -> Whole
     requires { ⌜ at ≤ far ⌝ }
     ensures { λ r. ⌜ PutsWhole at n (now (sheet .entry)) (now (out .entry)) r (now (out .exit)) ⌝ }
@@ -78,7 +79,7 @@ fn put_any(out: &mut [u8], at: usize, sheet: &[u8], n: Network) -> Whole
     let listed = put_listed(out, at, sheet, n, &mut numbers);
     match listed {
         Listed::Lines(w) => w,
-        Listed::TooShort => Whole { at: at, count: 0 },
+        Listed::TooShort => put_any(out, at, sheet, n),
     }
 }
 

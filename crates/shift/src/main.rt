@@ -4,11 +4,17 @@ use libc::STDIN_FILENO;
 use shift_lines::listing;
 use timetable::Output;
 
-// A buffer that has room for any text, so none is refused.
-fn print_long(input: &[u8]) {
+// A buffer that has room for any text, so none is refused. Where nothing was printed, it is tried again so many times. A
+// function that calls itself is not merged into its caller: the buffer's pages are touched only where it is needed.
+fn print_long(input: &[u8], tries: u8) {
     let mut out = [0u8; listing::MOST];
     let output = listing::write_listing(input, &mut out);
-    console::print(&out, output);
+    let printed = console::print(&out, output);
+    if printed == 0 {
+        if 0 < tries {
+            print_long(input, tries - 1);
+        }
+    }
 }
 
 // Most texts are short: only for a longer one a large buffer is cleared.
@@ -19,7 +25,7 @@ fn print_listing(input: &[u8]) {
     match output {
         Output::Written(_k) => {}
         Output::Refused(_k) => {}
-        Output::TooShort(_k) => print_long(input),
+        Output::TooShort(_k) => print_long(input, 1),
     }
 }
 
