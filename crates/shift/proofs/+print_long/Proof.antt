@@ -7,136 +7,66 @@ use lib.ListN.{length-replicate}
 use Rattle.shift_lines.specs.between.Listing.{shift-most}
 use borrow.Fn.Kinds.{In}
 use borrow.Fn.PlainCycle.{Measures, is, falls, and}
-use Rattle.shift.proofs.print_long.Reads as print-long
-use Rattle.shift.proofs.print_long.Kinds as print-long-kinds
-use Rattle.shift.proofs.+print_long.Lts-print_long as print-long-lts
-use Rattle.console.proofs.print.Reads as print-reads
-use Rattle.shift_lines.proofs.listing.write_listing.Reads as write-listing-reads
+use Rattle.shift.proofs.print_long.Reads as own
+use Rattle.shift.proofs.print_long.Kinds as kinds
+use Rattle.shift.proofs.+print_long.Lts-print_long as lts
+use Rattle.console.proofs.print.Reads as out
+use Rattle.shift_lines.proofs.listing.write_listing.Reads as text
 use Rattle.shift.proofs.+print_long.{statement}
 use Rattle.shift.proofs.+print_long.Tie.{close}
 
-abbrev μ-print-long : Measures 1 print-long-kinds.ps ℕ
-μ-print-long κs a = a .1 .0
+abbrev μ : Measures 1 kinds.ps ℕ
+μ κs a = a .1 .0
 
-abbrev print-long-at : ℕ → In 1 print-long-kinds.ps
-print-long-at t =
-    and 1 print-long-kinds.ps (is 1 print-long-kinds.ps μ-print-long t) print-long.Pre
+abbrev here : ℕ → In 1 kinds.ps
+here t =
+    and 1 kinds.ps (is 1 kinds.ps μ t) own.Pre
 
-abbrev print-long-below : ℕ → In 1 print-long-kinds.ps
-print-long-below t =
-    and 1 print-long-kinds.ps (falls 1 print-long-kinds.ps _<_ μ-print-long t) print-long.Pre
+abbrev below : ℕ → In 1 kinds.ps
+below t =
+    and 1 kinds.ps (falls 1 kinds.ps _<_ μ t) own.Pre
 
 tries-fall : (k t : ℕ) → 0 < k → k ≡ t → k - 1 < t
 tries-fall k t h e = omega (arith, h, e)
 
-print-long-slice-aggregate-write-listing :
-    (t : ℕ) → print-long-lts.Need-slice-aggregate-write-listing (
-      write-listing-reads.Asked,
-      write-listing-reads.Learnt,
-      print-reads.Asked,
-      print-reads.Learnt,
-      print-long-below t,
-      print-long.Post,
-    ) (print-long-at t) print-long.Post
-print-long-slice-aggregate-write-listing t c = sym (length-replicate {A = ℕ} shift-most 0)
+slice-aggregate-write-listing :
+    (t : ℕ) → lts.Need-slice-aggregate-write-listing (text.Asked, text.Learnt, out.Asked, out.Learnt, below t, own.Post) (here t) own.Post
+slice-aggregate-write-listing t c = sym (length-replicate {A = ℕ} shift-most 0)
 
-print-long-write-listing-requires : (t : ℕ) → print-long-lts.Need-write-listing-requires (
-  write-listing-reads.Asked,
-  write-listing-reads.Learnt,
-  print-reads.Asked,
-  print-reads.Learnt,
-  print-long-below t,
-  print-long.Post,
-) (print-long-at t) print-long.Post
-print-long-write-listing-requires t c κs = tt
+write-listing-requires : (t : ℕ) → lts.Need-write-listing-requires (text.Asked, text.Learnt, out.Asked, out.Learnt, below t, own.Post) (here t) own.Post
+write-listing-requires t c κs = tt
 
-print-long-slice-aggregate-print : (t : ℕ) → print-long-lts.Need-slice-aggregate-print (
-  write-listing-reads.Asked,
-  write-listing-reads.Learnt,
-  print-reads.Asked,
-  print-reads.Learnt,
-  print-long-below t,
-  print-long.Post,
-) (print-long-at t) print-long.Post
-print-long-slice-aggregate-print t c = sym (c .before .before .write-listing .kept .1 .0 ∙ length-replicate {A = ℕ} shift-most 0)
+slice-aggregate-print : (t : ℕ) → lts.Need-slice-aggregate-print (text.Asked, text.Learnt, out.Asked, out.Learnt, below t, own.Post) (here t) own.Post
+slice-aggregate-print t c = sym (c .before .before .write-listing .kept .1 .0 ∙ length-replicate {A = ℕ} shift-most 0)
 
-print-long-print-requires : (t : ℕ) → print-long-lts.Need-print-requires (
-  write-listing-reads.Asked,
-  write-listing-reads.Learnt,
-  print-reads.Asked,
-  print-reads.Learnt,
-  print-long-below t,
-  print-long.Post,
-) (print-long-at t) print-long.Post
-print-long-print-requires t c κs = tt
+print-requires : (t : ℕ) → lts.Need-print-requires (text.Asked, text.Learnt, out.Asked, out.Learnt, below t, own.Post) (here t) own.Post
+print-requires t c κs = tt
 
-print-long-sub-print-long : (t : ℕ) → print-long-lts.Need-sub-print-long (
-  write-listing-reads.Asked,
-  write-listing-reads.Learnt,
-  print-reads.Asked,
-  print-reads.Learnt,
-  print-long-below t,
-  print-long.Post,
-) (print-long-at t) print-long.Post
-print-long-sub-print-long t c = c .if2 .taken
+sub-print-long : (t : ℕ) → lts.Need-sub-print-long (text.Asked, text.Learnt, out.Asked, out.Learnt, below t, own.Post) (here t) own.Post
+sub-print-long t c = c .if2 .taken
 
-print-long-print-long-requires : (t : ℕ) → print-long-lts.Need-print-long-requires (
-  write-listing-reads.Asked,
-  write-listing-reads.Learnt,
-  print-reads.Asked,
-  print-reads.Learnt,
-  print-long-below t,
-  print-long.Post,
-) (print-long-at t) print-long.Post
-print-long-print-long-requires t c κs = let s = c .before .before .before .before .before .before .before .before in (tries-fall (s .args .tries) t (c .if2 .taken) (s .pre .0), tt)
+print-long-requires : (t : ℕ) → lts.Need-print-long-requires (text.Asked, text.Learnt, out.Asked, out.Learnt, below t, own.Post) (here t) own.Post
+print-long-requires t c κs = let s = c .before .before .before .before .before .before .before .before in (tries-fall (s .args .tries) t (c .if2 .taken) (s .pre .0), tt)
 
-print-long-returns : (t : ℕ) → print-long-lts.Need-returns (
-  write-listing-reads.Asked,
-  write-listing-reads.Learnt,
-  print-reads.Asked,
-  print-reads.Learnt,
-  print-long-below t,
-  print-long.Post,
-) (print-long-at t) print-long.Post
-print-long-returns t c = tt
+returns : (t : ℕ) → lts.Need-returns (text.Asked, text.Learnt, out.Asked, out.Learnt, below t, own.Post) (here t) own.Post
+returns t c = tt
 
-print-long-returns-2 : (t : ℕ) → print-long-lts.Need-returns-2 (
-  write-listing-reads.Asked,
-  write-listing-reads.Learnt,
-  print-reads.Asked,
-  print-reads.Learnt,
-  print-long-below t,
-  print-long.Post,
-) (print-long-at t) print-long.Post
-print-long-returns-2 t c = tt
+returns-2 : (t : ℕ) → lts.Need-returns-2 (text.Asked, text.Learnt, out.Asked, out.Learnt, below t, own.Post) (here t) own.Post
+returns-2 t c = tt
 
-print-long-returns-3 : (t : ℕ) → print-long-lts.Need-returns-3 (
-  write-listing-reads.Asked,
-  write-listing-reads.Learnt,
-  print-reads.Asked,
-  print-reads.Learnt,
-  print-long-below t,
-  print-long.Post,
-) (print-long-at t) print-long.Post
-print-long-returns-3 t c = tt
+returns-3 : (t : ℕ) → lts.Need-returns-3 (text.Asked, text.Learnt, out.Asked, out.Learnt, below t, own.Post) (here t) own.Post
+returns-3 t c = tt
 
 pub +print-long-spec : {M : Type 1} → statement M
-+print-long-spec = close μ-print-long λ t. print-long-lts.spec (
-  write-listing-reads.Asked,
-  write-listing-reads.Learnt,
-  print-reads.Asked,
-  print-reads.Learnt,
-  print-long-below t,
-  print-long.Post,
-)
-    (print-long-at t)
-    print-long.Post
-    (print-long-slice-aggregate-write-listing t)
-    (print-long-write-listing-requires t)
-    (print-long-slice-aggregate-print t)
-    (print-long-print-requires t)
-    (print-long-sub-print-long t)
-    (print-long-print-long-requires t)
-    (print-long-returns t)
-    (print-long-returns-2 t)
-    (print-long-returns-3 t)
++print-long-spec = close μ λ t. lts.spec (text.Asked, text.Learnt, out.Asked, out.Learnt, below t, own.Post)
+    (here t)
+    own.Post
+    (slice-aggregate-write-listing t)
+    (write-listing-requires t)
+    (slice-aggregate-print t)
+    (print-requires t)
+    (sub-print-long t)
+    (print-long-requires t)
+    (returns t)
+    (returns-2 t)
+    (returns-3 t)
