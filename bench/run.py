@@ -46,8 +46,8 @@ def instructions(words, given=None, within=None):
             told = subprocess.run(command, stdin=source, capture_output=True, check=True).stderr.decode()
         if within is None:
             return int(re.search(r'Collected : (\d+)', told).group(1))
-        tree = subprocess.run(['callgrind_annotate', '--tree=caller', '--inclusive=yes', profile], capture_output=True,
-                              text=True).stdout
+        tree = subprocess.run(['callgrind_annotate', '--threshold=100', '--tree=caller', '--inclusive=yes', profile],
+                              capture_output=True, text=True).stdout
         calls = re.findall(r'([\d,]+) \([^)]*\)\s+<[^\n]*\((\d[\d,]*)x\)[^\n]*(?=(?:\n[^\n]*<[^\n]*)*\n[^\n]*\*[^\n]*' +
                            re.escape(within) + ')', tree)
         return sum(int(c.replace(',', '')) for c, _ in calls), sum(int(n.replace(',', '')) for _, n in calls)
