@@ -1,18 +1,19 @@
 -- Outcomes of reading taken apart: accepted is not refused, what stands behind an accepted value or before the end of an
 -- accepted file, and what a fault that only the whole shows makes of an outcome. Assumes nothing.
 use Prim.Native.Nat.{ℕ}
-use mathlib.Core.Path.{_≡_, refl, ap}
-use mathlib.Core.Bool.{Bool, true, false}
+use mathlib.Core.Path.{_≡_, refl, _∙_, ap}
+use mathlib.Core.Bool.{Bool, true, false, _||_}
 use mathlib.Core.List.{List}
 use mathlib.Core.Option.{Option, none, some}
 use native.Mathlib.Omega.{arith}
 use lib.Dec.{leb, eqb}
 use lib.ListN.{length}
 use borrow.Author.Tests.{eq-eqb, ne-eqb, eqb-true}
-use Rattle.base.specs.Choice.{if_then_else_}
+use Rattle.base.specs.Choice.{if_then_else_, _if_else_}
 use Rattle.timetable.specs.Types.{LineRow, Fault}
-use Rattle.timetable.specs.Formats.{Outcome, accepted, refused, behind, ended, Placed}
-use Rattle.timetable.specs.NetworkFile.{Listed, unjoined, unjoined-fault, network-fault, unless-fault}
+use Rattle.timetable.specs.Formats.{Outcome, accepted, refused, number, behind, ended, Placed}
+use Rattle.timetable.specs.Refusals.{or-else, early}
+use Rattle.timetable.specs.NetworkFile.{Listed, unjoined, unjoined-fault, network-fault, unless-fault, under}
 
 -- accepted is not refused
 pub clash {ℓ} : {P : Type ℓ} {A : Type 0} (a : A) (next k p : ℕ) → refused k p ≡ accepted a next → P
@@ -53,6 +54,49 @@ fault-taken f o b next e = go (eqb (f .number) 0) refl e
     go : (t : Bool) → eqb (f .number) 0 ≡ t → (if t then o else refused (f .number) (f .place)) ≡ accepted b next → (f .number ≡ 0) × (o ≡ accepted b next)
     go true q v = (eqb-true (f .number) 0 q, v)
     go false q v = clash b next _ _ v
+
+-- reading under a network in memory keeps the one order of refusals, and where nothing refuses it is as accepted
+module _ {A B : Type 0} (k : ℕ) (both : A → ℕ → Outcome B) where
+  pub under-value : (a : A) (next : ℕ) → number (under k (accepted a next) both) ≡ early 0 k (number (both a next))
+  unfolding under early or-else behind unless-fault number
+  under-value a next = go (eqb k 3) (eqb k 0) (both a next)
+    where
+      go : (b c : Bool) (o : Outcome B)
+          → number (if b then refused 3 0 else if c then o else refused k 0) ≡ (3 if b else if c then number o else k)
+      go true c o = refl
+      go false true o = refl
+      go false false o = refl
+
+  pub under-refused : (j p : ℕ) → ¬ (j ≡ 0) → number (under k (refused j p) both) ≡ early j k 0
+  unfolding under early or-else behind number
+  under-refused j p d = go (eqb k 3) (eqb j 3) refl
+    where
+      go : (b c : Bool) → eqb j 3 ≡ c → number {A = B} (if b then refused 3 0 else refused j p) ≡ (3 if c || b else if eqb j 0 then (if eqb k 0 then 0 else k) else j)
+      go true true e = refl
+      go true false e = refl
+      go false true e = eqb-true j 3 e
+      go false false e = rw (ne-eqb j 0 d)
+
+pub under-taken : {A B : Type 0} (k : ℕ) (own : Outcome A) (both : A → ℕ → Outcome B) (b : B) (next : ℕ) → under k own both ≡ accepted b next
+    → (k ≡ 0) × (behind own both ≡ accepted b next)
+unfolding under behind
+under-taken k own both b next e = go (eqb k 3) refl e
+  where
+    fault : Fault
+    fault = record { number = k; place = 0 }
+
+    go : (t : Bool) → eqb k 3 ≡ t → (if t then refused 3 0 else behind own (λ x p. unless-fault fault (both x p))) ≡ accepted b next
+        → (k ≡ 0) × (behind own both ≡ accepted b next)
+    go true q v = clash b next 3 0 v
+    go false q v =
+        let (a, p, o, w) = behind-taken own (λ x p. unless-fault fault (both x p)) b next v in
+        let (z, u) = fault-taken fault (both a p) b next w in
+        (z, ap (λ (o : Outcome _). behind o both) o ∙ u)
+
+pub under-free : {A B : Type 0} (k : ℕ) (own : Outcome A) (both : A → ℕ → Outcome B) → k ≡ 0 → under k own both ≡ behind own both
+unfolding under behind unless-fault
+under-free k (accepted a next) both z = rw z
+under-free k (refused j p) both z = rw z
 
 -- a network has no fault if every line is joined
 pub joined-free : (x : Listed) → unjoined x ≡ none → network-fault x .number ≡ 0

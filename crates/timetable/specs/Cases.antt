@@ -22,10 +22,11 @@ use Rattle.timetable.specs.Types.{Relation, Connection, Plan}
 use Rattle.timetable.specs.Types.{Edit, Place, Prepend, Append, DeleteFirst, DeleteLast}
 use Rattle.timetable.specs.Types.{ReportArrival, ReportDeparture, AddRelation, RemoveRelation, DeleteTrain}
 use Rattle.timetable.specs.Types.{StationRow, LineRow, Network, Answer, Finding, Row, Tally}
+use Rattle.timetable.specs.Refusals as Refusals
 use Rattle.timetable.specs.Formats as Formats
 use Rattle.timetable.specs.Formats.{Outcome, accepted, refused, Placed}
 use Rattle.timetable.specs.NetworkFile as NetworkFile
-use Rattle.timetable.specs.NetworkFile.{network-with as network, network-numbers, read-network}
+use Rattle.timetable.specs.NetworkFile.{network-with, network-numbers, read-network}
 use Rattle.timetable.specs.EditsFile as EditsFile
 use Rattle.timetable.specs.EditsFile.{Shift, edits-numbers, read-edits, read-shift}
 use Rattle.timetable.specs.TimetableFile as TimetableFile
@@ -113,6 +114,9 @@ station s a k = record { station = st s; area = record { 0 = a }; tracks = k }
 
 unfoldable pub line : ℕ → ℕ → ℕ → ℕ → ℕ → ℕ → LineRow
 line l a b k r c = record { line = ln l; first = st a; second = st b; kind = k; least = r; capacity = c }
+
+unfoldable pub network : List StationRow → ℕ → List LineRow → Network
+network ss h ls = network-with (record { stations = ss; headway = h; lines = ls })
 
 -- the network of the listing: `2, 1 1 2, 2 2 1, 3, 1, 1 1 2 3 10 1`
 unfoldable pub with-capacity : ℕ → Network
@@ -287,10 +291,10 @@ failing k (c ∷ cs) = if passes c then failing (suc k) cs else k ∷ failing (s
 
 -- The key ring of this module and of all that it computes with.
 unfoldable pub opened : Unit {0}
-unfolding st tr ln at plan place prepend append delete-first delete-last arrives departs relate unrelate delete-train four two pair station line
+unfolding st tr ln at plan place prepend append delete-first delete-last arrives departs relate unrelate delete-train four two pair station line network
     with-capacity net branch leaving inbound crowd connections visiting by to tabled standing bare counted told run-of listed-edits
     outcome-numbers placed-edits shift-numbers reads-as reads-refused lists answer-numbers signed row-numbers each-before passes failing
     Lists.opened Runs.opened Numbers.opened Relations.opened Edits.opened Networks.opened
-    Formats.opened NetworkFile.opened EditsFile.opened TimetableFile.opened Pieces.opened
+    Refusals.opened Formats.opened NetworkFile.opened EditsFile.opened TimetableFile.opened Pieces.opened
     Visits.opened Tables.opened Machine.opened Groups.opened Good.opened Rules.opened Findings.opened Projection.opened Count.opened Listing.opened
 opened = tt

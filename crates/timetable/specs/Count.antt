@@ -9,6 +9,7 @@ use Rattle.base.specs.Choice.{if_then_else_, _if_else_}
 use Rattle.base.specs.Lists.{sum}
 use Rattle.network.specs.Networks.{stations-of}
 use Rattle.timetable.specs.Types.{Edit, Network, Answer, Tally}
+use Rattle.timetable.specs.Refusals.{call-refusal}
 use Rattle.timetable.specs.Machine.{Timetable, meaning, added-by}
 
 unfoldable pub zero-tally : Tally
@@ -23,7 +24,7 @@ unfoldable pub unlikely : Answer → Bool
 unlikely a = ltb 16 (a .removed) || (not (eqb (a .refusal) 0) && ltb 0 (a .removed))
 
 unfoldable pub raise-refusal : Tally → Answer → ℕ
-raise-refusal y a = 5 if overfull y else 3 if unlikely a else 0
+raise-refusal y a = call-refusal (not (overfull y)) (3 if unlikely a else 0) true 0
 
 -- "each edit raises: accepted, refused, added, removed, the last two counting visits"; "an edit refused with 5 leaves
 -- it"

@@ -8,12 +8,11 @@ use Rattle.timetable.specs.Types.{Connection, Disconnection, Dependency,
 use Rattle.timetable.specs.Findings.{finding}
 use Rattle.timetable.specs.Machine.{nothing-placed}
 use Rattle.timetable.specs.Formats.{bytes-of}
-use Rattle.timetable.specs.NetworkFile.{network-with as network}
 use Rattle.timetable.specs.Pieces.{cut, size, station-row, line-row, up-to-lines, network-row, one-station, headway-place, joined-by, first-line, second-line}
 use Rattle.timetable.specs.Pieces.{net-numbers, loop-numbers, listed-numbers, each-kind, crowd-visits, connected}
 use Rattle.timetable.specs.Cases as Cases
 use Rattle.timetable.specs.Cases.{st, plan, place, prepend, append, delete-first, delete-last, arrives, departs, relate, unrelate, delete-train}
-use Rattle.timetable.specs.Cases.{four, two, pair, station, line, with-capacity, net, branch, leaving, inbound, crowd, connections}
+use Rattle.timetable.specs.Cases.{four, two, pair, station, line, network, with-capacity, net, branch, leaving, inbound, crowd, connections}
 use Rattle.timetable.specs.Cases.{visiting, by, to, tabled, standing, bare, counted, told}
 use Rattle.timetable.specs.Cases.{Case, bytes, unread, found, stands, related, answered, answered-on, ordered, network-is, naming, table-is}
 use Rattle.timetable.specs.Cases.{network-file, edits-file, shift-file, timetable-file}

@@ -52,7 +52,13 @@ line-entry floor = placed (line-fields floor)
 
 -- the network
 
--- what a network file lists; a part that is not read yet is empty
+-- the rows of a network, those that are in use
+pub record Rows : Type 0 where
+  pub stations : List StationRow
+  pub headway : ℕ
+  pub lines : List LineRow
+
+-- what a network file lists: its rows, the lines with their places
 pub record Listed : Type 0 where
   pub stations : List StationRow
   pub headway : ℕ
@@ -71,49 +77,46 @@ stations-format k = entries station-entry station-floor k (0 ∷ [])
 unfoldable pub lines-format : ℕ → Format (List (Placed LineRow))
 lines-format k = entries line-entry line-floor k (0 ∷ [])
 
--- what is listed, with one part more
-unfoldable pub only-stations : List StationRow → Listed
-only-stations ss = record { stations = ss; headway = 0; lines = [] }
+-- station count, stations, headway, line count, lines: each with what is behind it, given what stands before it. A part
+-- behind the lines takes the place of `done`.
+unfoldable pub lines-part : List StationRow → ℕ → ℕ → Format Listed
+lines-part ss h m = lines-format m and-then (λ ls. done (record { stations = ss; headway = h; lines = ls }))
 
-unfoldable pub with-headway : Listed → ℕ → Listed
-with-headway x h = record { stations = x .stations; headway = h; lines = x .lines }
+unfoldable pub count-part : List StationRow → ℕ → Format Listed
+count-part ss h = field 0 32 (λ m. lines-part ss h m)
 
-unfoldable pub with-lines : Listed → List (Placed LineRow) → Listed
-with-lines x ls = record { stations = x .stations; headway = x .headway; lines = ls }
-
--- station count, stations, headway, line count, lines: each with what is behind it, given what is listed before it. A
--- part behind the lines takes the place of `done`.
-unfoldable pub lines-part : Listed → ℕ → Format Listed
-lines-part x m = lines-format m and-then (λ ls. done (with-lines x ls))
-
-unfoldable pub count-part : Listed → Format Listed
-count-part x = field 0 32 (λ m. lines-part x m)
-
-unfoldable pub headway-part : Listed → Format Listed
-headway-part x = field 1 30 (λ h. count-part (with-headway x h))
+unfoldable pub headway-part : List StationRow → Format Listed
+headway-part ss = field 1 30 (λ h. count-part ss h)
 
 unfoldable pub stations-part : ℕ → Format Listed
-stations-part k = stations-format k and-then (λ ss. headway-part (only-stations ss))
+stations-part k = stations-format k and-then (λ ss. headway-part ss)
 
 unfoldable pub network-format : Format Listed
 network-format = field 1 16 (λ k. stations-part k)
 
 -- a network of these rows, the rows that are not used blank
-unfoldable pub network-with : List StationRow → ℕ → List LineRow → Network
-network-with ss h ls = record {
-  stationcount = length ss;
-  stations = ss ++ replicate (16 - length ss) blank-station;
-  headway = h;
-  linecount = length ls;
-  lines = ls ++ replicate (32 - length ls) blank-line;
+unfoldable pub network-with : Rows → Network
+network-with x = record {
+  stationcount = length (x .stations);
+  stations = x .stations ++ replicate (16 - length (x .stations)) blank-station;
+  headway = x .headway;
+  linecount = length (x .lines);
+  lines = x .lines ++ replicate (32 - length (x .lines)) blank-line;
 }
 
+-- the rows of a network, and those that are listed
+unfoldable pub rows-in : Network → Rows
+rows-in n = record { stations = station-rows n; headway = n .headway; lines = line-rows n }
+
+unfoldable pub rows-listed : Listed → Rows
+rows-listed x = record { stations = x .stations; headway = x .headway; lines = map (λ l. l .entry) (x .lines) }
+
 unfoldable pub network-of : Listed → Network
-network-of x = network-with (x .stations) (x .headway) (map (λ l. l .entry) (x .lines))
+network-of x = network-with (rows-listed x)
 
 -- the network that stands in an answer beside a refusal
 unfoldable pub blank-network : Network
-blank-network = network-with [] 0 []
+blank-network = network-with (record { stations = []; headway = 0; lines = [] })
 
 -- "4 a line's ends aren't two different listed stations": the first such line
 unfoldable pub unjoined : Listed → Option (Placed LineRow)
@@ -133,8 +136,19 @@ network-fault x = unjoined-fault (unjoined x)
 unfoldable pub unless-fault : {A : Type 0} → Fault → Outcome A → Outcome A
 unless-fault f o = if eqb (f .number) 0 then o else refused (f .number) (f .place)
 
+-- in memory a network is refused at place 0, with 3 before a file is read under it and with what comes behind 3 after the
+-- file's own faults: the order of `early` (Refusals), with places
+unfoldable pub under : {A B : Type 0} → ℕ → Outcome A → (A → ℕ → Outcome B) → Outcome B
+under network own both =
+    if eqb network 3 then refused 3 0
+    else behind own (λ x next. unless-fault (record { number = network; place = 0 }) (both x next))
+
+-- by a form that is named: an older one is another format of the same parts
+unfoldable pub read-network-as : Format Listed → List ℕ → Outcome Network
+read-network-as form file = behind (read-file form file) (λ x next. unless-fault (network-fault x) (accepted (network-of x) next))
+
 unfoldable pub read-network : List ℕ → Outcome Network
-read-network file = behind (read-file network-format file) (λ x next. unless-fault (network-fault x) (accepted (network-of x) next))
+read-network file = read-network-as network-format file
 
 -- writing
 unfoldable pub network-numbers : Network → List ℕ
@@ -145,6 +159,6 @@ network-numbers n =
 -- The key ring of this module: `unfolding opened` opens every definition above.
 unfoldable pub opened : Unit {0}
 unfolding station-ranges station-of station-numbers station-entry line-ranges line-of line-numbers line-fields line-entry station-floor line-floor stations-format lines-format
-    only-stations with-headway with-lines lines-part count-part headway-part stations-part network-format network-with network-of
-    blank-network unjoined unjoined-fault network-fault unless-fault read-network network-numbers
+    lines-part count-part headway-part stations-part network-format network-with rows-in rows-listed network-of
+    blank-network unjoined unjoined-fault network-fault unless-fault under read-network-as read-network network-numbers
 opened = tt

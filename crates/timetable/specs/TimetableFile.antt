@@ -14,6 +14,7 @@ use Rattle.timetable.specs.Tables.{add-visit, add-relation, full-visits,
 use Rattle.timetable.specs.Machine.{Timetable, put, nothing-placed}
 use Rattle.timetable.specs.Good.{links-good}
 use Rattle.timetable.specs.Formats.{Format, done, field, _and-then_, Outcome, accepted, refused, behind, read-file, Range, _to_, row, entries, Placed, placed}
+use Rattle.timetable.specs.NetworkFile.{under}
 use Rattle.timetable.specs.EditsFile.{station-relation-entry, station-relation-numbers}
 
 -- visits
@@ -143,12 +144,12 @@ timetable-of n x next =
     behind (entered (visit-refusal n) enter-visit (x .visits) nothing-placed next) (λ m next.
     entered (relation-refusal n) enter-relation (x .relations) m next)
 
--- under a network in memory; "(.. 5, or a network not read from a file: 0)"
+-- under a network in memory, "(.. 5, or a network not read from a file: 0)", and by a form that is named
+unfoldable pub read-timetable-as : Format Entries → Network → List ℕ → Outcome Timetable
+read-timetable-as form n file = under (network-refusal n) (read-file form file) (timetable-of n)
+
 unfoldable pub read-timetable : Network → List ℕ → Outcome Timetable
-read-timetable n file =
-    if eqb (network-refusal n) 3 then refused 3 0
-    else behind (read-file timetable-format file) (λ x next.
-    if eqb (network-refusal n) 4 then refused 4 0 else timetable-of n x next)
+read-timetable n file = read-timetable-as timetable-format n file
 
 -- writing
 
@@ -168,6 +169,6 @@ timetable-numbers n m =
 -- The key ring of this module: `unfolding opened` opens every definition above.
 unfoldable pub opened : Unit {0}
 unfolding visit-ranges status-number in-link-entry out-link-entry in-link-numbers out-link-numbers station-visit-of visit-entry visit-numbers visit-floor relation-floor
-    visits-format relations-format timetable-format visit-refusal relation-refusal enter-visit enter-relation entered timetable-of read-timetable
+    visits-format relations-format timetable-format visit-refusal relation-refusal enter-visit enter-relation entered timetable-of read-timetable-as read-timetable
     visits-at relations-at timetable-numbers
 opened = tt
