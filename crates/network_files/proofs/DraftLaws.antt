@@ -1,7 +1,7 @@
 -- Rows of stations and lines: the formats as the code reads them, and what an answer says of many rows. Assumes
 -- nothing.
 use Prim.Native.Nat.{ℕ, zero, suc, _+_, _%_, _<_, _≤_}
-use mathlib.Core.Path.{_≡_, refl, sym, _∙_, ap}
+use mathlib.Core.Path.{_≡_, refl, sym, _∙_, ap, ap₂}
 use mathlib.Core.Bool.{Bool, true, false, false≢true, not}
 use mathlib.Core.List.{List, [], _∷_, _++_, map}
 use mathlib.Core.Option.{none, some}
@@ -17,9 +17,10 @@ use Rattle.network.specs.declared.StationRow.{StationRow}
 use Rattle.network.specs.declared.LineRow.{LineRow}
 use Rattle.network.specs.declared.Network.{Network}
 use Rattle.network.specs.Networks.{blank-station, blank-line, station-rows, stations-of, listed, ends-listed}
+use Rattle.timetable.specs.declared.Fault.{Fault}
 use Rattle.timetable.specs.Formats.{Format, done, Outcome, accepted, refused, _and-then_, read, Range, row, Placed}
 use Rattle.timetable.specs.NetworkFile.{station-of, station-entry, station-floor, line-of, line-entry, line-floor}
-use Rattle.timetable.specs.NetworkFile.{Listed, stations-format, lines-format, lines-part, only-stations, with-headway, with-lines, blank-network, network-with, network-of, unjoined, unjoined-fault, network-fault}
+use Rattle.timetable.specs.NetworkFile.{Listed, stations-format, lines-format, lines-part, network-with, rows-listed, network-of, unjoined, unjoined-fault, network-fault}
 use Rattle.network_files.specs.declared.draft.StationsRead.{StationsRead}
 use Rattle.network_files.specs.declared.draft.LinesRead.{LinesRead}
 use Rattle.network_files.specs.declared.draft.Draft.{Draft}
@@ -168,45 +169,29 @@ lines-many : (file : List ℕ) (at m : ℕ) (ls : List (Placed LineRow)) (next :
 unfolding lines-format
 lines-many file at m ls next o = entries-many line-entry line-floor m (0 ∷ []) file at ls next o
 
--- a network with these lines
-abbrev pub drafted : Network → ℕ → LinesRead → Draft
-drafted n m r = record {
-  accepted = true;
-  refusal = 0;
-  place = r .place;
-  network = record { stationcount = n .stationcount; stations = n .stations; headway = n .headway; linecount = m; lines = r .rows };
-  fault = r .fault;
-}
+-- an accepted draft with this network and the lines' fault
+abbrev pub drafted : Network → LinesRead → Draft
+drafted n r = record { accepted = true; refusal = 0; place = r .place; network = n; fault = r .fault }
 
-lines-behind : (x : Listed) (m : ℕ) (r : LinesRead) (file : List ℕ) (at : ℕ) (ls : List (Placed LineRow)) → read (lines-format m) file at ≡ accepted ls (r .place)
-    → r .rows ≡ padded 32 blank-line (map (λ l. l .entry) ls) → r .fault ≡ unjoined-fault (first (λ l. not (ends-listed (before-lines x) (l .entry))) ls)
-    → drafted (before-lines x) m r ≡ draft-read (read (lines-part x m) file at)
-unfolding before-lines with-lines network-with network-of network-fault unjoined lines-part draft-read ends-listed listed stations-of station-rows padded
-lines-behind x m r file at ls o u v =
-    let many = length-map ls (λ (l : Placed LineRow). l .entry) ∙ lines-many file at m ls (r .place) o in
-    let w = made {A = Listed} (λ (ls : List (Placed LineRow)). with-lines x ls) (lines-format m) file at ls (r .place) o in
-    rw (w, u, v, many)
+-- what is listed up to the lines
+abbrev pub listed-with : List StationRow → ℕ → List (Placed LineRow) → Listed
+listed-with ss h ls = record { stations = ss; headway = h; lines = ls }
 
--- the lines put behind the stations and the headway
-pub lines-drafted : (x : Listed) (m : ℕ) (known : Network) (r : LinesRead) (file : List ℕ) (at : ℕ) → known ≡ before-lines x
-    → r ≡ lines-read known (read (lines-format m) file at) → r .accepted ≡ true → drafted known m r ≡ draft-read (read (lines-part x m) file at)
-lines-drafted x m known r file at e q t =
-    let (ls, o, u, v) = lines-value (before-lines x) (read (lines-format m) file at) r (q ∙ ap (λ (n : Network). lines-read n (read (lines-format m) file at)) e) t in
-    ap (λ (n : Network). drafted n m r) e ∙ lines-behind x m r file at ls o u v
+module _ (ss : List StationRow) (h m : ℕ) (known : Network) (r : LinesRead) (file : List ℕ) (at : ℕ) (e : known ≡ before-lines ss h) (q : r ≡ lines-read known (read (lines-format m) file at)) (t : r .accepted ≡ true) where
+  -- lines fault alike whether lines are known yet or not: only stations are asked for
+  fault-behind : (ls : List (Placed LineRow)) → unjoined-fault (first (λ l. not (ends-listed (before-lines ss h) (l .entry))) ls) ≡ network-fault (listed-with ss h ls)
+  unfolding before-lines network-with rows-listed network-of network-fault unjoined ends-listed listed stations-of station-rows
+  fault-behind ls = refl
 
--- stations and no headway yet; and then the headway
-pub stations-known : (ss : List StationRow) (count : ℕ) (rows : List StationRow) (b : Network) → length ss ≡ count → rows ≡ padded 16 blank-station ss → b ≡ blank-network
-    → _≡_ {A = Network} (record { stationcount = count; stations = rows; headway = b .headway; linecount = b .linecount; lines = b .lines }) (before-lines (only-stations ss))
-unfolding blank-network before-lines with-lines only-stations network-of network-with padded
-stations-known ss count rows b m u e =
-    ap (λ (b : Network). record { stationcount = count; stations = rows; headway = b .headway; linecount = b .linecount; lines = b .lines }) e ∙ rw (← m, u)
-
-pub headway-known : (x : Listed) (known : Network) (h k : ℕ) → known ≡ before-lines x → k ≡ h
-    → _≡_ {A = Network} (record { stationcount = known .stationcount; stations = known .stations; headway = k; linecount = known .linecount; lines = known .lines })
-    (before-lines (with-headway x h))
-unfolding before-lines with-lines with-headway network-of network-with
-headway-known x known h k e p =
-    ap (λ (n : Network). record { stationcount = n .stationcount; stations = n .stations; headway = k; linecount = n .linecount; lines = n .lines }) e ∙ rw p
+  -- the lines put behind the stations and the headway
+  pub lines-drafted : (n : Network) → ((x : Listed) → length (x .lines) ≡ m → r .rows ≡ padded 32 blank-line (map (λ l. l .entry) (x .lines)) → known ≡ before-lines (x .stations) (x .headway) → n ≡ network-of x)
+      → drafted n r ≡ draft-read (read (lines-part ss h m) file at)
+  unfolding lines-part draft-read
+  lines-drafted n made-of =
+      let (ls, o, u, v) = lines-value (before-lines ss h) (read (lines-format m) file at) r (q ∙ ap (λ (n : Network). lines-read n (read (lines-format m) file at)) e) t in
+      let w = made {A = Listed} (λ (ls : List (Placed LineRow)). listed-with ss h ls) (lines-format m) file at ls (r .place) o in
+      let n-is = made-of (listed-with ss h ls) (lines-many file at m ls (r .place) o) u e in
+      ap₂ (λ (n : Network) (f : Fault). record { accepted = true; refusal = 0; place = r .place; network = n; fault = f }) n-is (v ∙ fault-behind ls) ∙ sym (ap draft-read w)
 
 pub stations-many : (file : List ℕ) (at k : ℕ) (ss : List StationRow) (next : ℕ) → read (stations-format k) file at ≡ accepted ss next → length ss ≡ k
 unfolding stations-format

@@ -13,7 +13,7 @@ use Rattle.network.specs.declared.Network.{Network}
 use Rattle.network.specs.Networks.{blank-station, blank-line, ends-listed}
 use Rattle.timetable.specs.Formats.{Outcome, accepted, refused, number, place-of, value-or, Placed}
 use Rattle.timetable.specs.declared.Fault.{Fault}
-use Rattle.timetable.specs.NetworkFile.{Listed, with-lines, blank-network, network-of, unjoined-fault, network-fault}
+use Rattle.timetable.specs.NetworkFile.{Listed, blank-network, network-with, network-of, unjoined-fault, network-fault}
 use Rattle.fields.specs.between.Answers.{padded}
 use Rattle.network_files.specs.declared.draft.StationRead.{StationRead}
 use Rattle.network_files.specs.declared.draft.StationsRead.{StationsRead}
@@ -52,9 +52,9 @@ lines-read n (accepted ls next) = record {
 }
 lines-read n (refused k p) = record { accepted = false; refusal = k; place = p; rows = padded 32 blank-line []; fault = unjoined-fault none }
 
--- the network of what is listed before the lines
-unfoldable pub before-lines : Listed → Network
-before-lines x = network-of (with-lines x [])
+-- the network of what stands before the lines
+unfoldable pub before-lines : List StationRow → ℕ → Network
+before-lines ss h = network-with (record { stations = ss; headway = h; lines = [] })
 
 unfoldable pub draft-read : Outcome Listed → Draft
 draft-read (accepted x next) = record { accepted = true; refusal = 0; place = next; network = network-of x; fault = network-fault x }

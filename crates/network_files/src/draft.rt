@@ -1,14 +1,16 @@
 // A network as it stands at the head of a file. Its lines are looked at for 4 on the way, but any faulty number of the
 // file comes before that.
 ghost use mathlib.Core.Path.{_≡_};
-ghost use mathlib.Core.List.{[], _∷_};
+ghost use mathlib.Core.List.{List, [], _∷_, map};
 ghost use mathlib.Core.Option.{none};
-ghost use Prim.Native.Nat.{_≤_};
+ghost use Prim.Native.Nat.{ℕ, _≤_};
+ghost use lib.ListN.{length};
 ghost use Rattle.network.specs.Networks.{blank-station, blank-line, ends-listed};
 ghost use Rattle.timetable.specs.Formats.{refused, read};
 ghost use Rattle.timetable.specs.NetworkFile.{station-ranges, station-of, station-entry, stations-format, line-ranges, line-of, line-fields, lines-format};
-ghost use Rattle.timetable.specs.NetworkFile.{Listed, lines-part, count-part, headway-part, stations-part, network-format, blank-network, unjoined-fault};
-ghost use Rattle.fields.specs.between.Answers.{ranges-of};
+ghost use Rattle.timetable.specs.NetworkFile.{Listed, lines-part, count-part, headway-part, stations-part, network-format, blank-network, network-of, unjoined-fault};
+ghost use Rattle.network.specs.declared.StationRow.{StationRow};
+ghost use Rattle.fields.specs.between.Answers.{padded, ranges-of};
 ghost use Rattle.network_files.specs.between.Rows.{above, as-bytes};
 ghost use Rattle.network_files.specs.Answers.{station-outcome, stations-read, line-outcome, fault-next, lines-read, before-lines, draft-read};
 use fields::field::FieldRead;
@@ -330,23 +332,48 @@ fn refused_draft(refusal: u8, place: usize) -> Draft
     }
 }
 
+// A network with these stations and nothing else, with this headway, or with these lines: what stands behind a part is
+// as it was.
+fn with_stations(count: u8, rows: [StationRow; 16]) -> Network
+    ensures { λ r. ⌜ ((ss : List StationRow) → length ss ≡ count → rows ≡ padded 16 blank-station ss → r ≡ before-lines ss 0) ⌝ }
+{
+    let mut network = blank_network();
+    network.stationcount = count;
+    network.stations = rows;
+    network
+}
+
+fn with_headway(known: Network, headway: u8) -> Network
+    ensures { λ r. ⌜ ((ss : List StationRow) (h : ℕ) → known ≡ before-lines ss h → r ≡ before-lines ss headway) ⌝ }
+{
+    let mut network = known;
+    network.headway = headway;
+    network
+}
+
+fn with_lines(known: Network, count: u8, rows: [LineRow; 32]) -> Network
+    ensures { λ r. ⌜ ((x : Listed) → length (x .lines) ≡ count → rows ≡ padded 32 blank-line (map (λ l. l .entry) (x .lines)) → known ≡ before-lines (x .stations) (x .headway) → r ≡ network-of x) ⌝ }
+{
+    let mut network = known;
+    network.linecount = count;
+    network.lines = rows;
+    network
+}
+
 // The lines behind the stations and the headway that are known.
 fn lines_draft(file: &[u8], at: usize, count: u8, known: Network) -> Draft
     requires { ⌜ count ≤ 32 ⌝ }
-    ensures { λ r. ⌜ ((x : Listed) → known ≡ before-lines x → r ≡ draft-read (read (lines-part x count) (now (file .entry)) at)) ⌝ }
+    ensures { λ r. ⌜ ((ss : List StationRow) (h : ℕ) → known ≡ before-lines ss h → r ≡ draft-read (read (lines-part ss h count) (now (file .entry)) at)) ⌝ }
 {
     let read = lines(file, at, count, known);
     if read.accepted {
         let rows = read.rows;
-        let mut network = known;
-        network.linecount = count;
-        network.lines = rows;
         let fault = read.fault;
         return Draft {
             accepted: true,
             refusal: 0,
             place: read.place,
-            network: network,
+            network: with_lines(known, count, rows),
             fault: fault,
         };
     }
@@ -354,7 +381,7 @@ fn lines_draft(file: &[u8], at: usize, count: u8, known: Network) -> Draft
 }
 
 fn count_draft(file: &[u8], at: usize, known: Network) -> Draft
-    ensures { λ r. ⌜ ((x : Listed) → known ≡ before-lines x → r ≡ draft-read (read (count-part x) (now (file .entry)) at)) ⌝ }
+    ensures { λ r. ⌜ ((ss : List StationRow) (h : ℕ) → known ≡ before-lines ss h → r ≡ draft-read (read (count-part ss h) (now (file .entry)) at)) ⌝ }
 {
     let count = field(file, at, 0, 32);
     match count {
@@ -364,14 +391,13 @@ fn count_draft(file: &[u8], at: usize, known: Network) -> Draft
 }
 
 fn headway_draft(file: &[u8], at: usize, known: Network) -> Draft
-    ensures { λ r. ⌜ ((x : Listed) → known ≡ before-lines x → r ≡ draft-read (read (headway-part x) (now (file .entry)) at)) ⌝ }
+    ensures { λ r. ⌜ ((ss : List StationRow) → known ≡ before-lines ss 0 → r ≡ draft-read (read (headway-part ss) (now (file .entry)) at)) ⌝ }
 {
     let headway = field(file, at, 1, 30);
     match headway {
         FieldRead::Refused(k, p) => refused_draft(k, p),
         FieldRead::Value(n, next) => {
-            let mut more = known;
-            more.headway = narrow(n);
+            let more = with_headway(known, narrow(n));
             count_draft(file, next, more)
         }
     }
@@ -384,10 +410,7 @@ fn stations_draft(file: &[u8], at: usize, count: u8) -> Draft
     let read = stations(file, at, count);
     if read.accepted {
         let rows = read.rows;
-        let mut known = blank_network();
-        known.stationcount = count;
-        known.stations = rows;
-        return headway_draft(file, read.place, known);
+        return headway_draft(file, read.place, with_stations(count, rows));
     }
     refused_draft(read.refusal, read.place)
 }
