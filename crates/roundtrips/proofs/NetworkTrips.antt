@@ -18,8 +18,8 @@ use Rattle.network.specs.Networks.{blank-station, blank-line, station-rows, lin
 use Rattle.network.specs.Networks.{network-in-range, ends-listed, lines-joined, network-refusal}
 use Rattle.network.proofs.NetworkLaws.{NetworkFacts, network-facts}
 use Rattle.timetable.specs.Formats.{Outcome, accepted, behind, _and-then_, done, read-file, bytes-of, Placed}
-use Rattle.timetable.specs.NetworkFile.{station-numbers, line-numbers, Listed, network-format, network-with, network-of, unjoined, network-fault, unless-fault}
-use Rattle.timetable.specs.NetworkFile.{read-network, network-numbers}
+use Rattle.timetable.specs.NetworkFile.{station-numbers, line-numbers, Rows, Listed, network-format, network-with, rows-in, rows-listed, network-of, unjoined, network-fault}
+use Rattle.timetable.specs.NetworkFile.{unless-fault, read-network-as, read-network, network-numbers}
 use Rattle.timetable.specs.EditsFile.{edits-format, edits-numbers, Shift, Input, shift-format, read-shift}
 use Rattle.roundtrips.specs.Types.{Edit, StationRow, LineRow, Network}
 use Rattle.roundtrips.proofs.Walks.{walks}
@@ -28,38 +28,38 @@ use Rattle.roundtrips.proofs.ListLaws.{first-none, none-first}
 use Rattle.timetable.proofs.OutcomeLaws.{behind-taken, fault-free, fault-taken, joined-free, free-joined}
 use Rattle.roundtrips.proofs.WalkLaws.{span, walks-then, then-walks, walks-made, made-walks, file-read, file-walks}
 use Rattle.roundtrips.proofs.RowsWalked.{in-test, test-in, most-test, test-most, values-entries}
-use Rattle.roundtrips.proofs.NetworkWalks.{station-number, line-number, line-places, rows-of, rows-numbers, RowsIn, lines-at, walks-network, network-walks}
+use Rattle.roundtrips.proofs.NetworkWalks.{station-number, line-number, rows-of, rows-numbers, RowsIn, lines-at, listed-at, walks-network, network-walks}
 use Rattle.roundtrips.proofs.EditTrips.{walks-edits-format, edits-format-walks}
 
 -- the rows of a network made of rows
-module _ (ss : List StationRow) (h : ℕ) (ls : List LineRow) where
-  pub rows-stations : station-rows (network-with ss h ls) ≡ ss
+module _ (x : Rows) where
+  pub rows-stations : station-rows (network-with x) ≡ x .stations
   unfolding station-rows network-with
-  rows-stations = take-append-seam ss (replicate (16 - length ss) blank-station)
+  rows-stations = take-append-seam (x .stations) (replicate (16 - length (x .stations)) blank-station)
 
-  pub rows-lines : line-rows (network-with ss h ls) ≡ ls
+  pub rows-lines : line-rows (network-with x) ≡ x .lines
   unfolding line-rows network-with
-  rows-lines = take-append-seam ls (replicate (32 - length ls) blank-line)
+  rows-lines = take-append-seam (x .lines) (replicate (32 - length (x .lines)) blank-line)
 
-  pub numbers-with : network-numbers (network-with ss h ls) ≡ rows-numbers ss h ls
+  pub numbers-with : network-numbers (network-with x) ≡ rows-numbers x
   unfolding network-numbers network-with
   numbers-with =
-      ap₂ (λ (a : List StationRow) (b : List LineRow). length ss ∷ (flatMap station-numbers a ++ (h ∷ length ls ∷ flatMap line-numbers b))) rows-stations rows-lines
+      ap₂ (λ (a : List StationRow) (b : List LineRow). length (x .stations) ∷ (flatMap station-numbers a ++ (x .headway ∷ length (x .lines) ∷ flatMap line-numbers b))) rows-stations rows-lines
 
-  pub blank-with : UnusedBlank (network-with ss h ls)
-  unfolding network-with
-  blank-with = ap₂ (λ (a : List StationRow) (b : List LineRow). network-with a h b) rows-stations rows-lines
+  pub blank-with : UnusedBlank (network-with x)
+  unfolding network-with rows-in
+  blank-with = ap₂ (λ (a : List StationRow) (b : List LineRow). network-with (record { stations = a; headway = x .headway; lines = b })) rows-stations rows-lines
 
-  pub range-with : RowsIn ss h ls → T (network-in-range (network-with ss h ls))
+  pub range-with : RowsIn x → T (network-in-range (network-with x))
   unfolding network-in-range stations-in-range lines-in-range stations-rise lines-rise network-with
   range-with r =
-      let s₁ = in-test 1 16 (length ss) (r .station-count) in
-      let s₂ : T (every station-row-ok (station-rows (network-with ss h ls))) = rw rows-stations (r .stations .good) in
-      let s₃ : T (rising (map (λ r. r .station .0) (station-rows (network-with ss h ls)))) = rw (rows-stations, rising-map station-number ss) (r .stations .order) in
-      let h₁ = in-test 1 30 h (r .headway) in
-      let l₁ = most-test 32 (length ls) (r .line-count) in
-      let l₂ : T (every line-row-ok (line-rows (network-with ss h ls))) = rw rows-lines (r .lines .good) in
-      let l₃ : T (rising (map (λ r. r .line .0) (line-rows (network-with ss h ls)))) = rw (rows-lines, rising-map line-number ls) (r .lines .order) in
+      let s₁ = in-test 1 16 (length (x .stations)) (r .station-count) in
+      let s₂ : T (every station-row-ok (station-rows (network-with x))) = rw rows-stations (r .stations .good) in
+      let s₃ : T (rising (map (λ r. r .station .0) (station-rows (network-with x)))) = rw (rows-stations, rising-map station-number (x .stations)) (r .stations .order) in
+      let h₁ = in-test 1 30 (x .headway) (r .headway) in
+      let l₁ = most-test 32 (length (x .lines)) (r .line-count) in
+      let l₂ : T (every line-row-ok (line-rows (network-with x))) = rw rows-lines (r .lines .good) in
+      let l₃ : T (rising (map (λ r. r .line .0) (line-rows (network-with x)))) = rw (rows-lines, rising-map line-number (x .lines)) (r .lines .order) in
       search both
 
 -- a listing whose lines are joined is a good network's
@@ -70,9 +70,9 @@ refusal-none n r j = rw (T-true (network-in-range n) r, T-true (lines-joined n) 
 
 module _ (x : Listed) where
   pub joined : unjoined x ≡ none → T (lines-joined (network-of x))
-  unfolding unjoined lines-joined network-of
+  unfolding unjoined lines-joined network-of rows-listed
   joined e =
-      rw (rows-lines (x .stations) (x .headway) (rows-of (x .lines)), every-map (ends-listed (network-of x)) (λ (l : Placed LineRow). l .entry) (x .lines))
+      rw (rows-lines (rows-listed x), every-map (ends-listed (network-of x)) (λ (l : Placed LineRow). l .entry) (x .lines))
       (first-none (λ (l : Placed LineRow). ends-listed (network-of x) (l .entry)) (x .lines) e)
 
   pub joined-none : T (every (ends-listed (network-of x)) (rows-of (x .lines))) → unjoined x ≡ none
@@ -81,17 +81,17 @@ module _ (x : Listed) where
       none-first (λ (l : Placed LineRow). ends-listed (network-of x) (l .entry)) (x .lines)
       (rw (every-map (ends-listed (network-of x)) (λ (l : Placed LineRow). l .entry) (x .lines)) at t)
 
-  pub listed-good : RowsIn (x .stations) (x .headway) (rows-of (x .lines)) → unjoined x ≡ none → network-refusal (network-of x) ≡ 0
+  pub listed-good : RowsIn (rows-listed x) → unjoined x ≡ none → network-refusal (network-of x) ≡ 0
   unfolding network-of
-  listed-good r e = refusal-none (network-of x) (range-with (x .stations) (x .headway) (rows-of (x .lines)) r) (joined e)
+  listed-good r e = refusal-none (network-of x) (range-with (rows-listed x) r) (joined e)
 
-  pub of-numbers : network-numbers (network-of x) ≡ rows-numbers (x .stations) (x .headway) (rows-of (x .lines))
+  pub of-numbers : network-numbers (network-of x) ≡ rows-numbers (rows-listed x)
   unfolding network-of
-  of-numbers = numbers-with (x .stations) (x .headway) (rows-of (x .lines))
+  of-numbers = numbers-with (rows-listed x)
 
   pub of-blank : UnusedBlank (network-of x)
   unfolding network-of
-  of-blank = blank-with (x .stations) (x .headway) (rows-of (x .lines))
+  of-blank = blank-with (rows-listed x)
 
 -- the rows of a good network
 
@@ -100,16 +100,16 @@ module _ (n : Network) (g : network-refusal n ≡ 0) (u : UnusedBlank n) where
   facts = network-facts n g
 
   station-many : length (station-rows n) ≡ n .stationcount
-  unfolding network-with
+  unfolding network-with rows-in
   station-many = ap (λ (m : Network). m .stationcount) u
 
   line-many : length (line-rows n) ≡ n .linecount
-  unfolding network-with
+  unfolding network-with rows-in
   line-many = ap (λ (m : Network). m .linecount) u
 
-  pub rows-in : RowsIn (station-rows n) (n .headway) (line-rows n)
-  unfolding stations-of station-row-ok line-row-ok
-  rows-in = record {
+  pub rows-good : RowsIn (rows-in n)
+  unfolding stations-of station-row-ok line-row-ok rows-in
+  rows-good = record {
     station-count = rw station-many (test-in 1 16 (n .stationcount) (omega arith) (facts .station-count));
     stations = record {
       good = facts .station-rows-ok;
@@ -127,37 +127,40 @@ module _ (n : Network) (g : network-refusal n ≡ 0) (u : UnusedBlank n) where
     };
   }
 
-  pub rows-written : network-numbers n ≡ rows-numbers (station-rows n) (n .headway) (line-rows n)
-  rows-written = ap network-numbers (sym u) ∙ numbers-with (station-rows n) (n .headway) (line-rows n)
+  pub rows-written : network-numbers n ≡ rows-numbers (rows-in n)
+  rows-written = ap network-numbers (sym u) ∙ numbers-with (rows-in n)
 
-  -- what the format gives, the lines from a place on
+  -- what the format gives from a place on
   abbrev pub listing : ℕ → Listed
-  listing p = record { stations = station-rows n; headway = n .headway; lines = line-places p (line-rows n) }
+  listing p = listed-at p (rows-in n)
+
+  listing-lines : (p : ℕ) → rows-of (listing p .lines) ≡ line-rows n
+  unfolding rows-in
+  listing-lines p = values-entries line-numbers (lines-at p (rows-in n)) (line-rows n)
 
   pub listing-network : (p : ℕ) → network-of (listing p) ≡ n
-  unfolding network-of
-  listing-network p = ap (network-with (station-rows n) (n .headway)) (values-entries line-numbers p (line-rows n)) ∙ u
+  unfolding network-of rows-listed rows-in
+  listing-network p = ap (λ (ls : List LineRow). network-with (record { stations = station-rows n; headway = n .headway; lines = ls })) (listing-lines p) ∙ u
 
   pub listing-joined : (p : ℕ) → unjoined (listing p) ≡ none
   listing-joined p =
       joined-none (listing p)
-      (subst (λ (ls : List LineRow). T (every (ends-listed (network-of (listing p))) ls)) (sym (values-entries line-numbers p (line-rows n)))
+      (subst (λ (ls : List LineRow). T (every (ends-listed (network-of (listing p))) ls)) (sym (listing-lines p))
       (subst (λ (m : Network). T (every (ends-listed m) (line-rows n))) (sym (listing-network p)) (facts .ends-listed)))
 
-  pub walks-listing : (p : ℕ) → walks network-format p (network-numbers n) (listing (lines-at p (station-rows n) (n .headway) (line-rows n)))
-  walks-listing p = rw rows-written (walks-network p (station-rows n) (n .headway) (line-rows n) rows-in)
+  pub walks-listing : (p : ℕ) → walks network-format p (network-numbers n) (listing p)
+  walks-listing p = rw rows-written (walks-network p (rows-in n) rows-good)
 
 -- the network file
 
 pub network-trip : NetworkRoundTrip
-unfolding read-network behind
+unfolding read-network read-network-as behind
 network-trip = record {
   back = λ n g u.
-      let q = lines-at 0 (station-rows n) (n .headway) (line-rows n) in
-      let e = file-read network-format (network-numbers n) (listing n g u q) (walks-listing n g u 0) in
+      let e = file-read network-format (network-numbers n) (listing n g u 0) (walks-listing n g u 0) in
       ap (λ (o : Outcome Listed). behind o (λ x next. unless-fault (network-fault x) (accepted (network-of x) next))) e
-      ∙ fault-free (network-fault (listing n g u q)) (accepted (network-of (listing n g u q)) (span (network-numbers n))) (joined-free (listing n g u q) (listing-joined n g u q))
-      ∙ ap (λ (m : Network). accepted m (span (network-numbers n))) (listing-network n g u q);
+      ∙ fault-free (network-fault (listing n g u 0)) (accepted (network-of (listing n g u 0)) (span (network-numbers n))) (joined-free (listing n g u 0) (listing-joined n g u 0))
+      ∙ ap (λ (m : Network). accepted m (span (network-numbers n))) (listing-network n g u 0);
   only = λ file n next s e.
       let (x, p, r, v) = behind-taken (read-file network-format file) (λ x next. unless-fault (network-fault x) (accepted (network-of x) next)) n next e in
       let (j, t) = fault-taken (network-fault x) (accepted (network-of x) p) n next v in
@@ -184,10 +187,10 @@ shift-of x = record { network = network-of (x .listed); edits = x .edits }
 
 pub walks-shift : (n : Network) (g : network-refusal n ≡ 0) (u : UnusedBlank n) (es : List Edit) → length es ≤ 1000 → T (every edit-ok es)
     → walks shift-format 0 (network-numbers n ++ edits-numbers es)
-    (input (listing n g u (lines-at 0 (station-rows n) (n .headway) (line-rows n))) (record { place = 0 + span (network-numbers n) + width (length es); entry = es }))
+    (input (listing n g u 0) (record { place = 0 + span (network-numbers n) + width (length es); entry = es }))
 unfolding shift-format
 walks-shift n g u es h t =
-    let x = listing n g u (lines-at 0 (station-rows n) (n .headway) (line-rows n)) in
+    let x = listing n g u 0 in
     walks-then network-format (λ x. edits-format and-then (λ es. done (input x es))) 0 (network-numbers n) (edits-numbers es) x _ (walks-listing n g u 0)
     (walks-made (input x) edits-format (0 + span (network-numbers n)) (edits-numbers es) _ (walks-edits-format (0 + span (network-numbers n)) es h t))
 
@@ -195,13 +198,12 @@ pub shift-trip : ShiftRoundTrip
 unfolding read-shift behind shift-format
 shift-trip = record {
   back = λ n es g u h t.
-      let q = lines-at 0 (station-rows n) (n .headway) (line-rows n) in
-      let v = input (listing n g u q) (record { place = 0 + span (network-numbers n) + width (length es); entry = es }) in
+      let v = input (listing n g u 0) (record { place = 0 + span (network-numbers n) + width (length es); entry = es }) in
       let e = file-read shift-format (network-numbers n ++ edits-numbers es) v (walks-shift n g u es h t) in
       let z : 0 + span (network-numbers n) + width (length es) ≡ span (network-numbers n) + width (length es) = omega arith in
       ap (λ (o : Outcome Input). behind o (λ x next. unless-fault (network-fault (x .listed)) (accepted (shift-of x) next))) e
-      ∙ fault-free (network-fault (listing n g u q)) (accepted (shift-of v) (span (network-numbers n ++ edits-numbers es))) (joined-free (listing n g u q) (listing-joined n g u q))
-      ∙ ap₂ (λ (m : Network) (k : ℕ). accepted (record { network = m; edits = record { place = k; entry = es } }) (span (network-numbers n ++ edits-numbers es))) (listing-network n g u q) z;
+      ∙ fault-free (network-fault (listing n g u 0)) (accepted (shift-of v) (span (network-numbers n ++ edits-numbers es))) (joined-free (listing n g u 0) (listing-joined n g u 0))
+      ∙ ap₂ (λ (m : Network) (k : ℕ). accepted (record { network = m; edits = record { place = k; entry = es } }) (span (network-numbers n ++ edits-numbers es))) (listing-network n g u 0) z;
   only = λ file y next s e.
       let (x, p, r, v) = behind-taken (read-file shift-format file) (λ x next. unless-fault (network-fault (x .listed)) (accepted (shift-of x) next)) y next e in
       let (j, t) = fault-taken (network-fault (x .listed)) (accepted (shift-of x) p) y next v in

@@ -14,7 +14,7 @@ use Rattle.numbers.specs.Numbers.{width}
 use Rattle.network.specs.Networks.{station-row-ok, line-row-ok}
 use Rattle.timetable.specs.Formats.{least, floor-after, Placed}
 use Rattle.timetable.specs.NetworkFile.{station-ranges, station-of, station-numbers, station-entry, line-ranges, line-of, line-numbers, line-fields, line-entry}
-use Rattle.timetable.specs.NetworkFile.{Listed, station-floor, line-floor, stations-format, lines-format, lines-part, count-part, headway-part, stations-part, network-format, only-stations, with-headway, with-lines}
+use Rattle.timetable.specs.NetworkFile.{Rows, Listed, station-floor, line-floor, stations-format, lines-format, lines-part, count-part, headway-part, stations-part, network-format, rows-listed}
 use Rattle.roundtrips.specs.Types.{StationRow, LineRow}
 use Rattle.roundtrips.proofs.Walks.{InRange, walks}
 use Rattle.roundtrips.proofs.WalkLaws.{span, walks-then, then-walks, walks-made, made-walks}
@@ -156,42 +156,46 @@ lines-walk k p ns ls w =
 -- the whole format
 
 -- the numbers of a network's rows
-abbrev pub rows-numbers : List StationRow → ℕ → List LineRow → List ℕ
-rows-numbers ss h ls = length ss ∷ (flatMap station-numbers ss ++ (h ∷ length ls ∷ flatMap line-numbers ls))
+abbrev pub rows-numbers : Rows → List ℕ
+rows-numbers x = length (x .stations) ∷ (flatMap station-numbers (x .stations) ++ (x .headway ∷ length (x .lines) ∷ flatMap line-numbers (x .lines)))
 
-pub record RowsIn (ss : List StationRow) (h : ℕ) (ls : List LineRow) : Type 0 where
-  pub station-count : InRange 1 16 (length ss)
-  pub stations : StationsRise ss
-  pub headway : InRange 1 30 h
-  pub line-count : InRange 0 32 (length ls)
-  pub lines : LinesRise ls
+pub record RowsIn (x : Rows) : Type 0 where
+  pub station-count : InRange 1 16 (length (x .stations))
+  pub stations : StationsRise (x .stations)
+  pub headway : InRange 1 30 (x .headway)
+  pub line-count : InRange 0 32 (length (x .lines))
+  pub lines : LinesRise (x .lines)
 
--- where the lines start
-abbrev pub lines-at : ℕ → List StationRow → ℕ → List LineRow → ℕ
-lines-at p ss h ls = p + width (length ss) + span (flatMap station-numbers ss) + width h + width (length ls)
+-- where the lines start, and the rows listed from a place on
+abbrev pub lines-at : ℕ → Rows → ℕ
+lines-at p x = p + width (length (x .stations)) + span (flatMap station-numbers (x .stations)) + width (x .headway) + width (length (x .lines))
 
-pub walks-network : (p : ℕ) (ss : List StationRow) (h : ℕ) (ls : List LineRow) → RowsIn ss h ls
-    → walks network-format p (rows-numbers ss h ls) (record { stations = ss; headway = h; lines = line-places (lines-at p ss h ls) ls })
-unfolding walks network-format stations-part headway-part count-part lines-part only-stations with-headway with-lines
-walks-network p ss h ls r = (
-  r .station-count,
-  walks-then (stations-format (length ss)) (λ ss. headway-part (only-stations ss)) (p + width (length ss)) (flatMap station-numbers ss) (h ∷ length ls ∷ flatMap line-numbers ls) ss _
-      (walks-stations (p + width (length ss)) ss (r .stations)) (
-        r .headway,
-        (
-          r .line-count,
-          walks-made (λ ls. record { stations = ss; headway = h; lines = ls }) (lines-format (length ls)) (lines-at p ss h ls) (flatMap line-numbers ls) _
-              (walks-lines (lines-at p ss h ls) ls (r .lines)),
-        ),
-      ),
-)
+abbrev pub listed-at : ℕ → Rows → Listed
+listed-at p x = record { stations = x .stations; headway = x .headway; lines = line-places (lines-at p x) (x .lines) }
 
-pub network-walks : (p : ℕ) (ns : List ℕ) (x : Listed) → walks network-format p ns x
-    → (ns ≡ rows-numbers (x .stations) (x .headway) (rows-of (x .lines))) × RowsIn (x .stations) (x .headway) (rows-of (x .lines))
-unfolding walks network-format stations-part headway-part count-part lines-part only-stations with-headway with-lines
+pub walks-network : (p : ℕ) (x : Rows) → RowsIn x → walks network-format p (rows-numbers x) (listed-at p x)
+unfolding walks network-format stations-part headway-part count-part lines-part
+walks-network p x r =
+    let ss = x .stations in
+    let h = x .headway in
+    let ls = x .lines in (
+      r .station-count,
+      walks-then (stations-format (length ss)) (λ ss. headway-part ss) (p + width (length ss)) (flatMap station-numbers ss) (h ∷ length ls ∷ flatMap line-numbers ls) ss _
+          (walks-stations (p + width (length ss)) ss (r .stations)) (
+            r .headway,
+            (
+              r .line-count,
+              walks-made (λ ls. record { stations = ss; headway = h; lines = ls }) (lines-format (length ls)) (lines-at p x) (flatMap line-numbers ls) _
+                  (walks-lines (lines-at p x) ls (r .lines)),
+            ),
+          ),
+    )
+
+pub network-walks : (p : ℕ) (ns : List ℕ) (x : Listed) → walks network-format p ns x → (ns ≡ rows-numbers (rows-listed x)) × RowsIn (rows-listed x)
+unfolding walks network-format stations-part headway-part count-part lines-part rows-listed
 network-walks p [] x w = absurd w
 network-walks p (k ∷ ns) x (a, w) =
-    let s = then-walks (stations-format k) (λ ss. headway-part (only-stations ss)) (p + width k) ns x w in
+    let s = then-walks (stations-format k) (λ ss. headway-part ss) (p + width k) ns x w in
     let (e, r, l) = stations-walk k (p + width k) (s .before) (s .value) (s .first) in
     let (q, u, h, c, m) = later (s .value) (p + width k + span (s .before)) (s .behind) (s .second) in
     let y : k ≡ length (x .stations) = sym l ∙ ap length q in (
@@ -199,7 +203,7 @@ network-walks p (k ∷ ns) x (a, w) =
       record { station-count = subst (InRange 1 16) y a; stations = subst StationsRise q r; headway = h; line-count = c; lines = m },
     )
   where
-    later : (ss : List StationRow) (p : ℕ) (ns : List ℕ) → walks (headway-part (only-stations ss)) p ns x
+    later : (ss : List StationRow) (p : ℕ) (ns : List ℕ) → walks (headway-part ss) p ns x
         → (ss ≡ x .stations) × (ns ≡ x .headway ∷ length (rows-of (x .lines)) ∷ flatMap line-numbers (rows-of (x .lines)))
         × InRange 1 30 (x .headway) × InRange 0 32 (length (rows-of (x .lines))) × LinesRise (rows-of (x .lines))
     later ss p [] w = absurd w

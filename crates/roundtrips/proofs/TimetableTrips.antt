@@ -1,28 +1,23 @@
 -- Timetables read back, and only the written file reads to them. What is read is put in station by station, so it is
 -- written again as it was read. Assumes nothing.
 use Prim.Native.Nat.{ℕ, _+_}
-use mathlib.Core.Path.{_≡_, refl, sym, _∙_, ap, ap₂, subst}
-use mathlib.Core.Bool.{Bool, true, false, not}
+use mathlib.Core.Path.{_≡_, sym, _∙_, ap, ap₂, subst}
 use mathlib.Core.List.{List, flatMap}
-use native.Mathlib.Omega.{arith}
-use lib.Dec.{T, eqb}
+use lib.Dec.{T}
 use lib.ListN.{length}
-use borrow.Author.Tests.{ne-eqb}
-use Rattle.base.specs.Choice.{if_then_else_, _if_else_}
 use Rattle.base.specs.Lists.{each-two}
-use Rattle.base.proofs.Tests.{true-T}
 use Rattle.numbers.specs.Numbers.{width}
-use Rattle.network.specs.Networks.{network-in-range, lines-joined, network-refusal}
-use Rattle.timetable.specs.Formats.{Outcome, accepted, refused, behind, read-file, bytes-of}
+use Rattle.network.specs.Networks.{network-refusal}
+use Rattle.timetable.specs.Formats.{Outcome, accepted, behind, read-file, bytes-of}
 use Rattle.timetable.specs.EditsFile.{station-relation-numbers}
 use Rattle.timetable.specs.Machine.{Timetable, nothing-placed}
 use Rattle.timetable.specs.Good.{Whole}
 use Rattle.timetable.specs.TimetableFile.{StationVisit, visit-numbers, Entries, timetable-format, visit-refusal, relation-refusal}
 use Rattle.timetable.specs.TimetableFile.{enter-visit, enter-relation, entered, timetable-of}
-use Rattle.timetable.specs.TimetableFile.{read-timetable, timetable-numbers}
+use Rattle.timetable.specs.TimetableFile.{read-timetable-as, read-timetable, timetable-numbers}
 use Rattle.roundtrips.specs.Types.{StationRelation, Network}
-use Rattle.roundtrips.specs.RoundTrips.{Bytes, TimetableRead, TimetableRoundTrip}
-use Rattle.timetable.proofs.OutcomeLaws.{clash, behind-taken}
+use Rattle.roundtrips.specs.RoundTrips.{TimetableRead, TimetableRoundTrip}
+use Rattle.timetable.proofs.OutcomeLaws.{behind-taken, under-taken, under-free}
 use Rattle.roundtrips.proofs.WalkLaws.{span, file-read, file-walks}
 use Rattle.roundtrips.proofs.RowsWalked.{values-entries}
 use Rattle.roundtrips.proofs.OrderLaws.{before, visit-key, relation-key}
@@ -71,16 +66,6 @@ module _ (n : Network) (x : Entries) (next : ℕ) where
       (ap (λ (m : Timetable). entered (relation-refusal n) enter-relation (x .relations) m p) (no-relations vs ∙ sym a) ∙ v) in
       (f, b ∙ g, c, d)
 
--- a network that is not refused with 3 or 4
-neither : (n : Network) → eqb (network-refusal n) 3 ≡ false → eqb (network-refusal n) 4 ≡ false → network-refusal n ≡ 0
-unfolding network-refusal
-neither n = go (network-in-range n) (lines-joined n)
-  where
-    go : (a b : Bool) → eqb (3 if not a else 4 if not b else 0) 3 ≡ false → eqb (3 if not a else 4 if not b else 0) 4 ≡ false → (3 if not a else 4 if not b else 0) ≡ 0
-    go true true e f = refl
-    go true false e f = absurd (true-T false (sym f))
-    go false b e f = absurd (true-T false (sym e))
-
 -- the entries of a whole timetable, read, make it
 written-read : (n : Network) (g : network-refusal n ≡ 0) (m : Timetable) → Whole n m → (next : ℕ)
     → timetable-of n (file-entries 0 (all-visits n m) (all-relations n m)) next ≡ accepted m next
@@ -114,25 +99,17 @@ taken n file x p m next g ns b e (k, i, j) v =
     })
 
 pub timetable-trip : TimetableRoundTrip
-unfolding read-timetable behind timetable-numbers
+unfolding read-timetable read-timetable-as behind timetable-numbers
 timetable-trip = record {
   back = λ n m g w.
       let vs = all-visits n m in
       let rs = all-relations n m in
       let e = file-read timetable-format (file-numbers vs rs) (file-entries 0 vs rs) (walks-timetable 0 vs rs (visits-in n g m w) (relations-in n g m w)) in
-      rw (ne-eqb (network-refusal n) 3 (λ q. omega arith), ne-eqb (network-refusal n) 4 (λ q. omega arith))
-      (ap (λ (o : Outcome Entries). behind o (λ x next. timetable-of n x next)) e ∙ written-read n g m w (span (file-numbers vs rs)));
-  only = λ n file m next s e. go n file m next s (eqb (network-refusal n) 3) refl (eqb (network-refusal n) 4) refl e;
+      under-free (network-refusal n) (read-file timetable-format (bytes-of (file-numbers vs rs))) (timetable-of n) g
+      ∙ ap (λ (o : Outcome Entries). behind o (λ x next. timetable-of n x next)) e ∙ written-read n g m w (span (file-numbers vs rs));
+  only = λ n file m next s e.
+      let (g, f) = under-taken (network-refusal n) (read-file timetable-format file) (timetable-of n) m next e in
+      let (x, p, r, q) = behind-taken (read-file timetable-format file) (timetable-of n) m next f in
+      let w = file-walks timetable-format file x p s r in
+      taken n file x p m next g (w .numbers) (w .bytes) (w .end) (timetable-walks 0 (w .numbers) x (w .walk)) q;
 }
-  where
-    go : (n : Network) (file : List ℕ) (m : Timetable) (next : ℕ) → Bytes file → (a : Bool) → eqb (network-refusal n) 3 ≡ a → (b : Bool) → eqb (network-refusal n) 4 ≡ b
-        → (if a then refused 3 0 else behind (read-file timetable-format file) (λ x next. if b then refused 4 0 else timetable-of n x next)) ≡ accepted m next
-        → TimetableRead n file m next
-    go n file m next s true u b v e = clash m next 3 0 e
-    go n file m next s false u true v e =
-        let (x, p, r, q) = behind-taken (read-file timetable-format file) (λ x next. refused 4 0) m next e in
-        clash m next 4 0 q
-    go n file m next s false u false v e =
-        let (x, p, r, q) = behind-taken (read-file timetable-format file) (λ x next. timetable-of n x next) m next e in
-        let w = file-walks timetable-format file x p s r in
-        taken n file x p m next (neither n u v) (w .numbers) (w .bytes) (w .end) (timetable-walks 0 (w .numbers) x (w .walk)) q

@@ -15,9 +15,9 @@ use lib.ListN.{length, getD, drop}
 use Rattle.base.specs.Lists.{every}
 use Rattle.numbers.specs.Numbers.{width}
 use Rattle.railway.specs.Edits.{edit-ok}
-use Rattle.network.specs.Networks.{station-rows, line-rows, network-refusal}
+use Rattle.network.specs.Networks.{network-refusal}
 use Rattle.timetable.specs.Formats.{accepted, read, bytes-of, Placed}
-use Rattle.timetable.specs.NetworkFile.{network-with, read-network, network-numbers}
+use Rattle.timetable.specs.NetworkFile.{network-with, rows-in, read-network, network-numbers}
 use Rattle.timetable.specs.EditsFile.{edit-entry, edit-numbers, read-edits, edits-numbers, Shift, read-shift}
 use Rattle.timetable.specs.Machine.{Timetable}
 use Rattle.timetable.specs.Good.{Whole}
@@ -37,7 +37,7 @@ WrittenIsBytes = (ns : List ℕ) → Bytes (bytes-of ns)
 -- the rows that are not used are blank: of a network in memory they may hold anything, of one that was read they are
 -- blank
 abbrev pub UnusedBlank : Network → Type 0
-UnusedBlank n = network-with (station-rows n) (n .headway) (line-rows n) ≡ n
+UnusedBlank n = network-with (rows-in n) ≡ n
 
 -- a network that was read: "A good network is one that 3 and 4 don't refuse."
 pub record NetworkRead (file : List ℕ) (n : Network) (next : ℕ) : Type 0 where
