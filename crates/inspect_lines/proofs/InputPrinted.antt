@@ -20,7 +20,8 @@ use Rattle.sheet.specs.Sheets.{encode-sheet, decode-sheet}
 use Rattle.findings.specs.Lists.{sheet-list-refusal}
 use Rattle.timetable_files.specs.declared.input.InspectRead.{InspectRead}
 use Rattle.timetable_files.specs.Inspect.{inspect-outcome, inspect-read, inspect-sheet, inspect-answer, inspect-after}
-use Rattle.timetable_files.proofs.PlaceLaws.{Within, inspect-within}
+use Rattle.network_files.proofs.PlaceLaws.{Within}
+use Rattle.timetable_files.proofs.PlaceLaws.{inspect-within}
 use Rattle.listings.specs.Shift.{refusal-text}
 use Rattle.listings.specs.Inspect.{parts-of, inspect-told, inspect-parts, inspect-text}
 use Rattle.inspect_lines.specs.Types.{Network, Output}

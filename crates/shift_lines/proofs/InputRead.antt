@@ -31,7 +31,8 @@ use Rattle.machine.proofs.RunLaws.{held}
 use Rattle.listings.specs.Shift.{refusal-text, shift-told, shift-text}
 use Rattle.shift_lines.specs.Types.{Edit}
 use Rattle.shift_lines.specs.between.Listing.{EditsFile, run-text}
-use Rattle.shift_lines.proofs.PlacesWithin.{value-same, refused-within}
+use Rattle.network_files.proofs.PlaceLaws.{taken-same}
+use Rattle.shift_lines.proofs.PlacesWithin.{refused-within}
 
 -- the input is never refused with 0
 
@@ -66,7 +67,7 @@ written-edits es b is few fine =
     let back : read-edits b ≡ accepted (record { place = width (length es); entry = es }) (length b) = rw is (edits-trip .back es few fine) in
     let r : EditsRead = record { refusal = 0; place = length b; first = width (length es); count = length es } in
     let h = held b r (sym (ap edits-answer back)) refl in
-    let same : record { place = width (length es); entry = es } ≡ h .edits = value-same (record { place = width (length es); entry = es }) (h .edits) (length b) (h .next) (sym back ∙ h .outcome) in
+    let same : record { place = width (length es); entry = es } ≡ h .edits = taken-same (record { place = width (length es); entry = es }) (h .edits) (length b) (h .next) (sym back ∙ h .outcome) in
     let are : edits-at (length es) b (width (length es)) ≡ es = h .are ∙ sym (ap (λ (x : Placed (List Edit)). x .entry) same) in
     ((few, h .readable, ap length are, back ∙ ap (λ (l : List Edit). accepted (record { place = width (length es); entry = l }) (length b)) (sym are)), are)
 

@@ -1,4 +1,3 @@
 pub mod Types
 pub mod Calls
 pub mod Inspect
-pub mod between

@@ -21,9 +21,6 @@ returns-2 c =
     let z = c .before .refusal in
     network-odd (s .n) (now (s .file)) (now (s .sheet)) (c .before .before .if1 .left) (z .result) (z .ensures) (c .if2 .taken)
 
-apart-requires : tie.Need-apart-requires
-apart-requires c κs = search needs
-
 read-rest-requires : tie.Need-read-rest-requires
 read-rest-requires c κs = search needs
 
@@ -32,13 +29,10 @@ same-length c = search needs
 
 returns-3 : tie.Need-returns-3
 returns-3 c =
-    let s = c .before .before .before .before .before .before .before .before .before .before .args in
-    let z = c .before .before .before .before .before .before .refusal in
-    let a = c .before .before .before .before .apart in
+    let s = c .before .before .before .before .before .before .before .before .before .args in
+    let z = c .before .before .before .before .before .refusal in
     let r = c .before .before .read-rest in
-    as-rest (s .n) (now (s .file)) (now (s .sheet)) (c .before .before .before .before .before .before .before .if1 .left) (z .result) (z .ensures) (c .before .before .before .before .before .if2 .left) (a .result) (a .ensures) _ _ (r .ensures .0) (r .ensures .1)
+    as-rest (s .n) (now (s .file)) (now (s .sheet)) (c .before .before .before .before .before .before .if1 .left) (z .result) (z .ensures) (c .before .before .before .before .if2 .left) _ _ (r .ensures .0) (r .ensures .1)
 
 pub read-timetable-spec : {M : Type 1} → statement M
-read-timetable-spec =
-    tie.close
-    (tie.spec returns refusal-requires returns-2 apart-requires read-rest-requires same-length returns-3)
+read-timetable-spec = tie.close (tie.spec returns refusal-requires returns-2 read-rest-requires same-length returns-3)
