@@ -7,6 +7,7 @@ use borrow.Author.Tests.{ltb-false, eq-eqb, ne-eqb}
 use Rattle.railway.specs.declared.edit.Edit.{Edit}
 use Rattle.timetable.specs.declared.Answer.{Answer}
 use Rattle.timetable.specs.declared.Tally.{Tally}
+use Rattle.timetable.specs.Refusals.{or-else, call-refusal}
 use Rattle.timetable.specs.Machine.{meaning, added-by}
 use Rattle.timetable.specs.Count.{overfull, unlikely, raise-refusal, raised, raise}
 
@@ -36,23 +37,23 @@ module _ (y : Tally) (e : Edit) (a : Answer) where
   Ends n z = (n ≡ raise-refusal y a) × (z ≡ raise y e a)
 
   pub when-overfull : overfull y ≡ true → Ends 5 y
-  unfolding raise-refusal raise
+  unfolding call-refusal or-else raise-refusal raise
   when-overfull o = (simp o, simp o)
 
   module _ (o : overfull y ≡ false) where
     pub when-unlikely : unlikely a ≡ true → Ends 3 y
-    unfolding raise-refusal raise
+    unfolding call-refusal or-else raise-refusal raise
     when-unlikely u = (simp (o, u), simp (o, u))
 
     module _ (u : unlikely a ≡ false) where
       pub when-accepted : (n : ℕ) → n ≡ added-by (meaning e) → a .refusal ≡ 0 → Ends 0 (record { accepted = y .accepted + 1; refused = y .refused; added = y .added + n; removed = y .removed + a .removed })
-      unfolding raise-refusal raise raised
+      unfolding call-refusal or-else raise-refusal raise raised
       when-accepted n m z = (simp (o, u), simp (m, o, u, eq-eqb _ _ z))
 
       pub when-five : a .refusal ≡ 5 → Ends 0 y
-      unfolding raise-refusal raise raised
+      unfolding call-refusal or-else raise-refusal raise raised
       when-five f = (simp (o, u), simp (o, u, f))
 
       pub when-refused : (a .refusal ≡ 0 → ⊥) → (a .refusal ≡ 5 → ⊥) → Ends 0 (record { accepted = y .accepted; refused = y .refused + 1; added = y .added; removed = y .removed })
-      unfolding raise-refusal raise raised
+      unfolding call-refusal or-else raise-refusal raise raised
       when-refused z f = (simp (o, u), simp (o, u, ne-eqb _ _ z, ne-eqb _ _ f))

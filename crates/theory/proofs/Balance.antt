@@ -12,7 +12,7 @@ use borrow.Author.Tests.{eqb-true, ltb-false}
 use Rattle.base.specs.Choice.{if_then_else_, _if_else_}
 use Rattle.base.specs.Lists.{each-two, sum}
 use Rattle.base.specs.Runs.{run, answers}
-use Rattle.base.proofs.Tests.{T-true, true-T, if-yes, and-l, parts, passed, rest-passed, held}
+use Rattle.base.proofs.Tests.{T-true, true-T, if-yes, and-l, parts, rest-passed, held}
 use Rattle.base.proofs.Counts.{sum-balance, sum-zero, count-sum}
 use Rattle.base.proofs.Sorted.{smaller, sum-once}
 use Rattle.railway.specs.declared.sorts.Train.{Train}
@@ -24,6 +24,7 @@ use Rattle.network.proofs.NetworkLaws.{station-number, network-facts, stations-
 use Rattle.timetable.specs.Tables.{Table, has-visit, add-relation, drop-relation, without}
 use Rattle.timetable.specs.Machine.{Timetable, put, Action, Meaning, local, throughout, as-it-was, meaning, known, refused-as, refusal, changed, removed-by, added-by, answer, after}
 use Rattle.timetable.specs.Good.{Whole}
+use Rattle.timetable.specs.Refusals.{or-else, call-refusal}
 use Rattle.timetable.specs.Count.{zero-tally, overfull, unlikely, raise-refusal, raised, raise, raise-all, counts-in-full, visit-count}
 use Rattle.timetable.proofs.Locality.{same-station-equal}
 use Rattle.timetable.proofs.TableLaws.{number, table-facts, add-visit-length, change-visit-length, without-length}
@@ -181,11 +182,18 @@ raised-by y e a h = go (eqb (a .refusal) 0) (eqb (a .refusal) 5) h
     go false true u = (omega arith, omega (arith, ltb-false 0 (a .removed) (second (ltb 16 (a .removed)) (ltb 0 (a .removed)) u)))
     go false false u = (omega arith, omega (arith, ltb-false 0 (a .removed) (second (ltb 16 (a .removed)) (ltb 0 (a .removed)) u)))
 
+-- what is counted is not unlikely
+likely-of : (o u : Bool) → call-refusal (not o) (3 if u else 0) true 0 ≡ 0 → u ≡ false
+unfolding call-refusal or-else
+likely-of true u e = absurd (omega (arith, e))
+likely-of false true e = absurd (omega (arith, e))
+likely-of false false e = refl
+
 counted : (y : Tally) (e : Edit) (a : Answer) → T (eqb (raise-refusal y a) 0) → Raised y e a
 unfolding raise raise-refusal
 counted y e a h =
     let plain : raise y e a ≡ raised y e a = if-yes (eqb (raise-refusal y a) 0) (raised y e a) y h in
-    let likely : unlikely a ≡ false = passed 2 (unlikely a) 0 (rest-passed 4 (overfull y) _ (eqb→eq (raise-refusal y a) 0 h)) in
+    let likely : unlikely a ≡ false = likely-of (overfull y) (unlikely a) (eqb→eq (raise-refusal y a) 0 h) in
     record {
       added = ap (λ (x : Tally). x .added) plain ∙ raised-by y e a likely .0;
       removed = ap (λ (x : Tally). x .removed) plain ∙ raised-by y e a likely .1;
