@@ -10,7 +10,7 @@ use borrow.Author.Tests.{eq-eqb, ne-eqb}
 use Rattle.base.specs.Choice.{if_then_else_}
 use Rattle.timetable.specs.Formats.{Outcome, accepted, refused, number, place-of, value-or, read, read-file, ended}
 use Rattle.timetable.specs.declared.Fault.{Fault}
-use Rattle.timetable.specs.NetworkFile.{blank-network, network-format, network-of, network-fault, unless-fault, read-network}
+use Rattle.timetable.specs.NetworkFile.{blank-network, network-format, network-of, network-fault, unless-fault, read-network-as, read-network}
 use Rattle.timetable.specs.EditsFile.{edit-entry}
 use Rattle.network_files.specs.Answers.{network-answer}
 use Rattle.machine.proofs.FileRefusals.{Told, behind-told, read-told, ended-told}
@@ -34,7 +34,7 @@ fault-told f n next k p q z = go (eqb (f .number) 0) refl q
         omega (arith, v)
 
 network-told : (file : List ℕ) → Told (read-network file)
-unfolding read-network read-file
+unfolding read-network read-network-as read-file
 network-told file =
     behind-told (ended file (read network-format file 0)) (λ x next. unless-fault (network-fault x) (accepted (network-of x) next))
     (ended-told file (read network-format file 0) (read-told network-format file 0)) (λ x next. fault-told (network-fault x) (network-of x) next)
