@@ -1,7 +1,7 @@
 -- Rows in use, gone through from an index on: the first that passes a test, whether each passes, and whether each is in
 -- range with a number above the one before it. A loop's turn looks at one row; what is asked of the rest is asked of
 -- the rows from the next index on. Assumes nothing.
-use Prim.Native.Nat.{ℕ, _+_, _<_, _≤_, min}
+use Prim.Native.Nat.{ℕ, zero, suc, _+_, _<_, _≤_, min}
 use mathlib.Core.Path.{_≡_, refl, sym, _∙_, ap}
 use mathlib.Core.Bool.{Bool, true, false, false≢true, _&&_, _||_}
 use mathlib.Core.List.{List, [], _∷_, map}
@@ -10,7 +10,7 @@ use native.Mathlib.Omega.{arith}
 use lib.Dec.{ltb, leb, eqb, ltb→lt, lt→ltb}
 use lib.ListN.{length, getD, take, drop, drop-of-length-le, length-take}
 use lib.Seq.{getD-take, take-all}
-use borrow.Author.Tests.{lt-ltb, le-ltb, ltb-true, leb-true, leb-false}
+use borrow.Author.Tests.{eq-eqb, lt-ltb, le-ltb, ltb-true, leb-true, leb-false}
 use Rattle.base.specs.Choice.{if_then_else_}
 use Rattle.base.specs.Lists.{any, every, first, is, each-two, rising}
 use Rattle.base.proofs.Lengths.{drop-next}
@@ -177,3 +177,18 @@ listed-found n s = go (station-rows n)
     go : (rows : List StationRow) → any (same-station s) (map (λ r. r .station) rows) ≡ is (λ r. true) (first (λ r. same-station (r .station) s) rows)
     go [] = refl
     go (r ∷ rows) = rw (eqb-turned (s .0) (r .station .0)) (one (eqb (r .station .0) (s .0)) r (any (same-station s) (map (λ r. r .station) rows)) (first (λ r. same-station (r .station) s) rows) (go rows))
+
+-- and where a row in use, whichever, has its number
+pub listed-at : (n : Network) (s : Station) (i : ℕ) (d : StationRow) → i < n .stationcount → i < length (n .stations) → getD (n .stations) i d .station .0 ≡ s .0 → listed n s ≡ true
+unfolding listed stations-of station-rows any
+listed-at n s i d h g e = go (n .stationcount) (n .stations) i h g e
+  where
+    go : (k : ℕ) (rows : List StationRow) (i : ℕ) → i < k → i < length rows → getD rows i d .station .0 ≡ s .0 → any (same-station s) (map (λ r. r .station) (take k rows)) ≡ true
+    go zero rows i h g e = absurd (omega arith)
+    go (suc k) [] i h g e = absurd (omega arith)
+    go (suc k) (r ∷ rows) zero h g e = rw (eq-eqb (s .0) (r .station .0) (sym e))
+    go (suc k) (r ∷ rows) (suc i) h g e = rw (go k rows i (omega arith) (omega arith) e) (or-so (eqb (s .0) (r .station .0)))
+      where
+        or-so : (b : Bool) → (b || true) ≡ true
+        or-so true = refl
+        or-so false = refl

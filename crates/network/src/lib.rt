@@ -1,6 +1,6 @@
 // A network by value: rows of stations and lines with their counts. Rows past the count are not read.
 ghost use mathlib.Core.Path.{_≡_};
-ghost use mathlib.Core.Bool.{_&&_};
+ghost use mathlib.Core.Bool.{true, _&&_};
 ghost use Prim.Native.Nat.{min};
 ghost use Rattle.network.specs.Networks.{station-row-ok, line-row-ok, way-open, row-runs, station-found, line-found, area-found, station-row, line-row};
 ghost use Rattle.network.specs.Networks.{listed, area-of, track-known, runs, stations-rise, lines-rise, network-in-range, ends-listed, lines-joined, network-refusal};
@@ -155,10 +155,29 @@ impl Network {
         LineFound::Nothing
     }
 
+    // The row in use at the index of its number is the station's, as in a network that lists its stations without a gap.
+    fn stands_in_place(self, s: Station) -> bool
+        ensures { λ r. ⌜ (r ≡ true → listed self s ≡ true) ⌝ }
+    {
+        let rows = self.stations;
+        let n = in_use(self.stationcount, 16);
+        let k = s.0 as usize;
+        if 0 < k {
+            if k <= n {
+                let row = rows[k - 1];
+                return row.station.0 == s.0;
+            }
+        }
+        false
+    }
+
     // The station is listed.
     pub fn listed(self, s: Station) -> bool
         ensures { λ r. ⌜ r ≡ listed self s ⌝ }
     {
+        if self.stands_in_place(s) {
+            return true;
+        }
         let found = self.station_row(s);
         match found {
             StationFound::Row(_) => true,
