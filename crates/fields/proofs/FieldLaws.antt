@@ -5,11 +5,14 @@ use mathlib.Core.Bool.{Bool, true, false}
 use mathlib.Core.List.{List, [], _∷_}
 use native.Mathlib.Omega.{arith}
 use lib.Dec.{ltb, eqb}
-use lib.ListN.{length, take, drop, drop-of-length-le, length-drop}
-use borrow.Author.Tests.{le-leb, lt-leb, ne-eqb}
+use lib.ListN.{length, getD, take, drop, drop-of-length-le, length-drop}
+use lib.Seq.{getD-drop}
+use borrow.Author.Tests.{ne-eqb}
 use Rattle.base.specs.Choice.{if_then_else_}
+use Rattle.base.specs.Lists.{within}
 use Rattle.base.proofs.Lengths.{rest-whole}
 use Rattle.numbers.specs.Numbers.{NumberRead, Value, Refused, group-before, read-groups, read-number}
+use Rattle.numbers.proofs.GroupLaws.{read-last}
 use Rattle.timetable.specs.Formats.{accepted, refused, placed-field, field-at}
 
 -- a number takes bytes that are there
@@ -37,9 +40,18 @@ unfolding read-number
 number-within b n w e = groups-within 3 b n w e
 
 module _ (lo hi : ℕ) (file : List ℕ) (at : ℕ) where
-  pub field-past : length file < at → field-at lo hi file at ≡ refused 1 (length file)
+  pub field-past : length file ≤ at → field-at lo hi file at ≡ refused 1 (length file)
   unfolding field-at placed-field read-number read-groups
-  field-past h = rw (drop-of-length-le file {i = at} (omega arith))
+  field-past h = rw (drop-of-length-le file {i = at} h)
+
+  -- a byte below 128 is the number
+  pub field-byte : at < length file → getD file at 0 < 128
+      → field-at lo hi file at ≡ (if within lo hi (getD file at 0) then accepted (getD file at 0) (at + 1) else refused 3 at)
+  unfolding field-at placed-field read-number
+  field-byte h k =
+      let first : getD (drop at file) 0 0 ≡ getD file at 0 = getD-drop at file 0 0 ∙ ap (λ (i : ℕ). getD file i 0) (omega arith) in
+      ap (placed-field lo hi (length file) at)
+      (read-last 3 (drop at file) (omega arith) (omega (arith, length-drop at file)) (omega arith) ∙ ap (λ (n : ℕ). Value n 1) first)
 
   -- the number is read from the part behind the place
   module _ (r : NumberRead) (e : r ≡ read-number (take (length file - at) (drop at file))) where
@@ -58,14 +70,6 @@ module _ (lo hi : ℕ) (file : List ℕ) (at : ℕ) where
       pub field-fits : at ≤ length file → at + w ≤ length file
       field-fits h = omega (arith, number-within (drop at file) n w (at-hand (Value n w) p), length-drop at file)
 
-      pub field-in : lo ≤ n → n ≤ hi → field-at lo hi file at ≡ accepted n (at + w)
+      pub field-value : field-at lo hi file at ≡ (if within lo hi n then accepted n (at + w) else refused 3 at)
       unfolding field-at placed-field
-      field-in h k = ap (placed-field lo hi (length file) at) (at-hand (Value n w) p) ∙ rw (le-leb lo n h, le-leb n hi k)
-
-      pub field-low : n < lo → field-at lo hi file at ≡ refused 3 at
-      unfolding field-at placed-field
-      field-low h = ap (placed-field lo hi (length file) at) (at-hand (Value n w) p) ∙ rw (lt-leb lo n h)
-
-      pub field-high : lo ≤ n → hi < n → field-at lo hi file at ≡ refused 3 at
-      unfolding field-at placed-field
-      field-high h k = ap (placed-field lo hi (length file) at) (at-hand (Value n w) p) ∙ rw (le-leb lo n h, lt-leb n hi k)
+      field-value = ap (placed-field lo hi (length file) at) (at-hand (Value n w) p)

@@ -2,7 +2,9 @@
 ghost use mathlib.Core.Path.{_≡_};
 ghost use mathlib.Core.List.{[]};
 ghost use Prim.Native.Nat.{min, _%_};
-ghost use Rattle.timetable.specs.Formats.{field-at, read, row, refused};
+ghost use Rattle.base.specs.Choice.{if_then_else_};
+ghost use Rattle.base.specs.Lists.{within};
+ghost use Rattle.timetable.specs.Formats.{field-at, read, row, accepted, refused};
 ghost use Rattle.fields.specs.between.Answers.{field-outcome, ranges-of, row-read};
 use numbers::Reading;
 
@@ -46,13 +48,30 @@ pub fn narrow(n: u16) -> u8
     (n % 256) as u8
 }
 
-// The number of lo..hi at a place of the file.
+// A number that stands at a place, with the place behind it, where it is of lo..hi.
+fn ranged(n: u32, at: usize, next: usize, lo: u32, hi: u16) -> FieldRead
+    ensures { λ r. ⌜ field-outcome r ≡ (if within lo hi n then accepted n next else refused 3 at) ⌝ }
+{
+    if lo <= n {
+        if n <= (hi as u32) {
+            return FieldRead::Value(n as u16, next);
+        }
+    }
+    FieldRead::Refused(3, at)
+}
+
+// The number of lo..hi at a place of the file. Most numbers are below 128, a byte: for them no part of the file is
+// lent, and no function that calls itself is called, as that is not merged into its caller.
 pub fn field(file: &[u8], at: usize, lo: u32, hi: u16) -> FieldRead
     ensures { λ r. ⌜ field-outcome r ≡ field-at lo hi (now (file .entry)) at ⌝ }
 {
     let end = file.len();
-    if end < at {
+    if end <= at {
         return FieldRead::Refused(1, end);
+    }
+    let first = file[at];
+    if first < 128 {
+        return ranged(first as u32, at, at + 1, lo, hi);
     }
     let number = numbers::read(&file[at..end]);
     match number {
@@ -62,14 +81,7 @@ pub fn field(file: &[u8], at: usize, lo: u32, hi: u16) -> FieldRead
             }
             FieldRead::Refused(k, at)
         }
-        Reading::Value(n, w) => {
-            if lo <= n {
-                if n <= (hi as u32) {
-                    return FieldRead::Value(n as u16, at + w);
-                }
-            }
-            FieldRead::Refused(3, at)
-        }
+        Reading::Value(n, w) => ranged(n, at, at + w, lo, hi),
     }
 }
 
