@@ -1,39 +1,56 @@
 // Which sheets of a division are to be good: those of the areas that an edit names.
 ghost use mathlib.Core.Path.{_≡_};
-ghost use mathlib.Core.Bool.{_&&_};
-ghost use lib.Dec.{eqb};
-ghost use Rattle.network.specs.Networks.{area-of};
-ghost use Rattle.actions.specs.between.Shapes.{shape-touches};
-ghost use Rattle.named_sheets.specs.between.Named.{touches-area, area-passes, named-pass};
+ghost use Rattle.timetable.specs.Machine.{meaning};
+ghost use Rattle.actions.specs.between.Shapes.{shape-of};
+ghost use Rattle.named_sheets.specs.between.Named.{reach-of, found-in, has-station, reaches-area, reach-passes, touches-area, named-pass};
 use actions::shape;
-use actions::shape::Shape;
+use network::AreaFound;
 use network::Network;
 use railway::edit::Edit;
 use railway::sorts::Area;
-use railway::sorts::Station;
 use sheet::test;
 use sheet::test::Extent;
 
-fn is_named(n: Network, x: Shape, a: u8, s: Station) -> bool
-    ensures { λ r. ⌜ r ≡ (shape-touches x s && eqb a (area-of n s)) ⌝ }
-{
-    if shape::is_at(x, s) {
-        return a == n.group_of(s);
-    }
-    false
+// Where an edit works: at every station, or in the areas of its two stations, where they are listed.
+pub struct Reach {
+    pub everywhere: bool,
+    pub home: AreaFound,
+    pub away: AreaFound,
 }
 
-// The edit names a station of the area.
-pub fn names_area(n: Network, e: Edit, a: u8) -> bool
-    ensures { λ r. ⌜ r ≡ touches-area n e a ⌝ }
+fn reach_of(n: Network, e: Edit) -> Reach
+    ensures { λ r. ⌜ r ≡ reach-of n (shape-of (meaning e)) ⌝ }
 {
     let x = shape::shape_of(e);
+    let home = n.area_of(x.home);
+    let away = n.area_of(x.away);
+    Reach {
+        everywhere: x.everywhere,
+        home: home,
+        away: away,
+    }
+}
+
+// The area that was found is this one.
+fn is_found(found: AreaFound, a: Area) -> bool
+    ensures { λ r. ⌜ r ≡ found-in (a .0) found ⌝ }
+{
+    match found {
+        AreaFound::Is(b) => a.0 == b.0,
+        AreaFound::Nothing => false,
+    }
+}
+
+// A listed station is in the area.
+fn has_station(n: Network, a: Area) -> bool
+    ensures { λ r. ⌜ r ≡ has-station n (a .0) ⌝ }
+{
     let rows = n.stations;
     let k = network::in_use(n.stationcount, 16);
     let mut i: usize = 0;
     while i < k {
         let row = rows[i];
-        if is_named(n, x, a, row.station) {
+        if a.0 == n.group_of(row.station) {
             return true;
         }
         i += 1;
@@ -41,12 +58,33 @@ pub fn names_area(n: Network, e: Edit, a: u8) -> bool
     false
 }
 
-// The area's sheet is good, where the edit names the area.
-fn area_good(part: &[u8], n: Network, e: Edit, a: u8) -> bool
-    ensures { λ r. ⌜ r ≡ area-passes n e a (now (part .entry)) ⌝ }
+fn is_reached(n: Network, x: Reach, a: Area) -> bool
+    ensures { λ r. ⌜ r ≡ reaches-area n x (a .0) ⌝ }
 {
-    if names_area(n, e, a) {
-        return test::good_sheet(part, n, Extent::Of(Area(a)));
+    if x.everywhere {
+        return has_station(n, a);
+    }
+    let home = x.home;
+    if is_found(home, a) {
+        return true;
+    }
+    let away = x.away;
+    is_found(away, a)
+}
+
+// The edit names a station of the area.
+pub fn names_area(n: Network, e: Edit, a: Area) -> bool
+    ensures { λ r. ⌜ r ≡ touches-area n e (a .0) ⌝ }
+{
+    is_reached(n, reach_of(n, e), a)
+}
+
+// The area's sheet is good, where the area is reached.
+fn area_good(part: &[u8], n: Network, x: Reach, a: Area) -> bool
+    ensures { λ r. ⌜ r ≡ reach-passes n x (a .0) (now (part .entry)) ⌝ }
+{
+    if is_reached(n, x, a) {
+        return test::good_sheet(part, n, Extent::Of(a));
     }
     true
 }
@@ -58,12 +96,13 @@ pub fn named_good(division: &[u8], n: Network, e: Edit) -> bool
     if division.len() != 49152 {
         return false;
     }
+    let x = reach_of(n, e);
     let mut i: usize = 0;
     let mut a: u8 = 1;
     while i < 6 {
         let at = 8192 * i;
         let end = at + 8192;
-        if area_good(&division[at..end], n, e, a) {
+        if area_good(&division[at..end], n, x, Area(a)) {
             i += 1;
             a += 1;
         } else {

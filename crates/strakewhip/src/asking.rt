@@ -12,6 +12,7 @@ use named_sheets::names_area;
 use network::Network;
 use network_files::reading::read_network;
 use railway::edit::Edit;
+use railway::sorts::Area;
 
 // Refusal and place of a network's file; `length` is what was read.
 #[no_mangle]
@@ -26,8 +27,8 @@ pub extern "C" fn strakewhip_network(network: &[u8]) -> Reply
 }
 
 // The area's bit where the edit names it, else 0.
-fn bit_of(n: Network, e: Edit, a: u8, bit: usize) -> usize
-    ensures { λ r. ⌜ (r ≡ (bit if touches-area n e a else 0)) × (r ≤ bit) ⌝ }
+fn bit_of(n: Network, e: Edit, a: Area, bit: usize) -> usize
+    ensures { λ r. ⌜ (r ≡ (bit if touches-area n e (a .0) else 0)) × (r ≤ bit) ⌝ }
 {
     if names_area(n, e, a) {
         return bit;
@@ -39,8 +40,8 @@ fn bit_of(n: Network, e: Edit, a: u8, bit: usize) -> usize
 fn named_areas(n: Network, e: Edit) -> usize
     ensures { λ r. ⌜ r ≡ bits (touches-area n e) ⌝ }
 {
-    let low = bit_of(n, e, 1, 1) + bit_of(n, e, 2, 2) + bit_of(n, e, 3, 4);
-    let high = bit_of(n, e, 4, 8) + bit_of(n, e, 5, 16) + bit_of(n, e, 6, 32);
+    let low = bit_of(n, e, Area(1), 1) + bit_of(n, e, Area(2), 2) + bit_of(n, e, Area(3), 4);
+    let high = bit_of(n, e, Area(4), 8) + bit_of(n, e, Area(5), 16) + bit_of(n, e, Area(6), 32);
     low + high
 }
 
