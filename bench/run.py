@@ -110,14 +110,16 @@ def turned(name, size, function):
 def tests():
     """Calls under a network that is read, and the test of the sheets within them.
 
-    Each asks twice what refuses the network: for its own order of refusals, and for the test of its sheets.
+    An edit asks once what refuses the network, for the test of its sheets. The others ask twice: for their own order of
+    refusals, and for the test.
     """
     head('Call', *SIZES)
-    for name in ('edit', 'divide', 'merge'):
+    for name, asked in (('edit', 1), ('divide', 2), ('merge', 2)):
         cells = []
         for size in SIZES:
             whole = of_call(name, size, 'library') - of_call('network', size, 'library')
-            tested = turned(name, size, 'sheet::test::sheet_under') + turned(name, size, 'network::Network::refusal') / 2
+            refusal = turned(name, size, 'network::Network::refusal') / asked
+            tested = turned(name, size, 'sheet::test::sheet_under') + refusal
             cells.append(f'{short(whole)}, {short(tested)} ({whole / tested:.2f})')
         row(f'`{name}`', *cells)
 

@@ -1,5 +1,6 @@
 // The calls of the central machine: an edit on a sheet, an edit on a division. Refusals in document 01's order: 5, 3,
-// 4, 7, 6, then 8 to 12.
+// 4, 7, 6, then 8 to 12. An edit that nothing refuses under a good network has 3 and 4 of its network from the test of
+// its sheets, so that the network is tested once.
 ghost use mathlib.Core.Path.{_≡_};
 ghost use Rattle.machine.specs.Calls.{refused-with, sheet-answer, sheet-after, division-answer, division-after};
 use crate::pages;
@@ -25,14 +26,14 @@ pub fn edit_sheet(sheet: &mut [u8], n: Network, e: Edit) -> Answer
     if sheet.len() != 8192 {
         return refused(5);
     }
-    let first = early::early_refusal(n, e);
-    if first != 0 {
-        return refused(first);
+    if early::refusal_under(n, 0, e) != 0 {
+        return refused(early::early_refusal(n, e));
     }
-    if test::good_sheet(sheet, n, Extent::Whole) {
+    let later = test::sheet_refusal(sheet, n, Extent::Whole);
+    if later == 0 {
         return pages::edit_pages(sheet, false, n, e);
     }
-    refused(6)
+    refused(later)
 }
 
 pub fn edit_division(division: &mut [u8], n: Network, e: Edit) -> Answer
@@ -41,12 +42,12 @@ pub fn edit_division(division: &mut [u8], n: Network, e: Edit) -> Answer
     if division.len() != 49152 {
         return refused(5);
     }
-    let first = early::early_refusal(n, e);
-    if first != 0 {
-        return refused(first);
+    if early::refusal_under(n, 0, e) != 0 {
+        return refused(early::early_refusal(n, e));
     }
-    if named_sheets::named_good(division, n, e) {
+    let later = named_sheets::named_refusal(division, n, e);
+    if later == 0 {
         return pages::edit_pages(division, true, n, e);
     }
-    refused(6)
+    refused(later)
 }

@@ -3,23 +3,25 @@
 -- of the named areas are good, sheet by sheet. Assumes nothing.
 use Prim.Native.Nat.{ℕ, _+_, _*_, _-_, _<_, _≤_, min}
 use mathlib.Core.Path.{_≡_, refl, sym, _∙_, ap, ap₂, fun-ext}
-use mathlib.Core.Bool.{Bool, true, false, _&&_, _||_}
+use mathlib.Core.Bool.{Bool, true, false, not, _&&_, _||_}
 use mathlib.Core.List.{List, [], _∷_, map}
 use mathlib.Core.Option.{Option, none, some}
 use native.Mathlib.Nat.{add-sub-cancel-left}
 use native.Mathlib.Omega.{arith}
 use lib.Dec.{eqb}
 use lib.ListN.{length, getD, take, drop, drop-of-length-le}
-use borrow.Author.Tests.{eqb-true, eq-eqb}
-use Rattle.base.specs.Choice.{if_then_else_}
+use borrow.Author.Tests.{eqb-true, eq-eqb, ne-eqb}
+use Rattle.base.specs.Choice.{if_then_else_, _if_else_}
 use Rattle.base.specs.Lists.{any, every, is}
-use Rattle.base.proofs.Tests.{and-turned, eqb-turned}
+use Rattle.base.proofs.Tests.{T-true, and-turned, eqb-turned, held}
 use Rattle.base.proofs.Lengths.{every-next}
 use Rattle.railway.specs.Ranges.{same-station}
-use Rattle.network.specs.Networks.{blank-station, station-rows, station-row, stations-of, listed, row-area, area-of, area-found}
+use Rattle.network.specs.Networks.{blank-station, station-rows, station-row, stations-of, listed, row-area, area-of, area-found, network-refusal}
 use Rattle.network.specs.declared.StationRow.{StationRow}
 use Rattle.network.proofs.RowsInUse.{listed-found}
 use Rattle.timetable.specs.Groups.{six}
+use Rattle.timetable.specs.Refusals.{or-else}
+use Rattle.timetable.proofs.RefusalLaws.{or-first, or-none, or-passed}
 use Rattle.timetable.specs.Machine.{Meaning, local, throughout, meaning}
 use Rattle.actions.specs.between.Shapes.{shape-of, touches}
 use Rattle.sheet.specs.Sheets.{sheet-at}
@@ -28,7 +30,7 @@ use Rattle.sheet.specs.between.Passes.{sheet-passes}
 use Rattle.sheet.proofs.SheetLaws.{area-at}
 use Rattle.page_edits.proofs.RowSteps.{in-use, row-on, rows-over}
 use Rattle.named_sheets.specs.Types.{Station, Edit, Network, Reach}
-use Rattle.named_sheets.specs.between.Named.{touches-at, touches-area, reach-of, found-in, has-station, reaches-area, reach-passes, area-passes, named-pass}
+use Rattle.named_sheets.specs.between.Named.{touches-at, touches-area, reach-of, found-in, has-station, reaches-area, reach-passes, area-passes, named-pass, named-refusal}
 
 any-map : {A B : Type 0} (f : B → Bool) (g : A → B) (xs : List A) → any f (map g xs) ≡ any (λ x. f (g x)) xs
 unfolding any
@@ -176,3 +178,42 @@ module _ (n : Network) (x : Reach) (d : List ℕ) (i a : ℕ) (e : a ≡ i + 1) 
 pub sheets-end : (f : ℕ → Bool) (i : ℕ) → 6 ≤ i → every f (drop i six) ≡ true
 unfolding every
 sheets-end f i h = rw (drop-of-length-le six {i = i} h)
+
+-- what the test of one area says of its sheet
+module _ (n : Network) (x : Reach) (a : ℕ) (part : List ℕ) where
+  pub reached-passes : reaches-area n x a ≡ true → reach-passes n x a part ≡ sheet-passes n (Extent.Of (record { 0 = a })) part
+  unfolding reach-passes
+  reached-passes e = rw e
+
+  pub unreached-passes : reaches-area n x a ≡ false → reach-passes n x a part ≡ true
+  unfolding reach-passes
+  unreached-passes e = rw e
+
+-- what refuses, by the sheets that were tested
+
+-- a sheet that is not refused passes, and so does its network
+pub both-passed : (r : ℕ) (p : Bool) (k : ℕ) → k ≡ or-else r (6 if not p else 0) → k ≡ 0 → (r ≡ 0) × (p ≡ true)
+both-passed r p k e z =
+    let x = or-passed r (6 if not p else 0) (sym e ∙ z) in
+    (x .0, T-true p (held 5 p 0 (x .1)))
+
+-- a refusal of one sheet is that of all
+stopped : (r : ℕ) (p q : Bool) (k : ℕ) → k ≡ or-else r (6 if not p else 0) → ¬ (k ≡ 0) → (p ≡ false → q ≡ false) → k ≡ or-else r (6 if not q else 0)
+stopped r true q k e z f =
+    let same : k ≡ r = e ∙ or-none r in
+    same ∙ sym (or-first r (6 if not q else 0) (λ y. z (same ∙ y)))
+stopped r false q k e z f = e ∙ sym (rw (f refl))
+
+module _ (n : Network) (e : Edit) (d : List ℕ) where
+  pub refused-unfit : ¬ (length d ≡ 49152) → named-refusal n e d ≡ or-else (network-refusal n) 6
+  unfolding named-refusal named-pass
+  refused-unfit h = rw (ne-eqb (length d) 49152 h)
+
+  pub refused-at : (p : Bool) (k : ℕ) → k ≡ or-else (network-refusal n) (6 if not p else 0) → ¬ (k ≡ 0)
+      → (p ≡ false → named-pass n e d ≡ false) → k ≡ named-refusal n e d
+  unfolding named-refusal
+  refused-at p k q z f = stopped (network-refusal n) p (named-pass n e d) k q z f
+
+  pub refused-none : named-pass n e d ≡ true → named-refusal n e d ≡ network-refusal n
+  unfolding named-refusal
+  refused-none q = rw q (or-none (network-refusal n))

@@ -1,8 +1,9 @@
 // Which sheets of a division are to be good: those of the areas that an edit names.
 ghost use mathlib.Core.Path.{_≡_};
 ghost use Rattle.timetable.specs.Machine.{meaning};
+ghost use Rattle.timetable.specs.Refusals.{or-else};
 ghost use Rattle.actions.specs.between.Shapes.{shape-of};
-ghost use Rattle.named_sheets.specs.between.Named.{reach-of, found-in, has-station, reaches-area, reach-passes, touches-area, named-pass};
+ghost use Rattle.named_sheets.specs.between.Named.{reach-of, found-in, has-station, reaches-area, touches-area, named-refusal};
 use actions::shape;
 use network::AreaFound;
 use network::Network;
@@ -79,35 +80,43 @@ pub fn names_area(n: Network, e: Edit, a: Area) -> bool
     is_reached(n, reach_of(n, e), a)
 }
 
-// The area's sheet is good, where the area is reached.
-fn area_good(part: &[u8], n: Network, x: Reach, a: Area) -> bool
-    ensures { λ r. ⌜ r ≡ reach-passes n x (a .0) (now (part .entry)) ⌝ }
+// The one, or what comes behind it.
+fn first_of(one: u8, later: u8) -> u8
+    ensures { λ r. ⌜ r ≡ or-else one later ⌝ }
 {
-    if is_reached(n, x, a) {
-        return test::good_sheet(part, n, Extent::Of(a));
+    if one != 0 {
+        return one;
     }
-    true
+    later
 }
 
-// They are, in a division of the right length.
-pub fn named_good(division: &[u8], n: Network, e: Edit) -> bool
-    ensures { λ r. ⌜ r ≡ named-pass n e (now (division .entry)) ⌝ }
+// What refuses the network, or else 6 where the sheet of an area that the edit names is not good. The test of the first
+// such sheet asks for the network's refusal: where there is none, it is asked for at the end.
+pub fn named_refusal(division: &[u8], n: Network, e: Edit) -> u8
+    ensures { λ r. ⌜ r ≡ named-refusal n e (now (division .entry)) ⌝ }
 {
     if division.len() != 49152 {
-        return false;
+        return first_of(n.refusal(), 6);
     }
     let x = reach_of(n, e);
+    let mut tested = false;
     let mut i: usize = 0;
     let mut a: u8 = 1;
     while i < 6 {
         let at = 8192 * i;
         let end = at + 8192;
-        if area_good(&division[at..end], n, x, Area(a)) {
-            i += 1;
-            a += 1;
-        } else {
-            return false;
+        if is_reached(n, x, Area(a)) {
+            let refused = test::sheet_refusal(&division[at..end], n, Extent::Of(Area(a)));
+            if refused != 0 {
+                return refused;
+            }
+            tested = true;
         }
+        i += 1;
+        a += 1;
     }
-    true
+    if tested {
+        return 0;
+    }
+    n.refusal()
 }

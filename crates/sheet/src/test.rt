@@ -2,13 +2,15 @@
 // layout's order, with no visit or relation twice". A record is read, written anew and compared: what is not byte for
 // byte its own is found so.
 ghost use mathlib.Core.Path.{_≡_};
-ghost use mathlib.Core.Bool.{true, _||_};
+ghost use mathlib.Core.Bool.{true, not, _||_};
 ghost use Prim.Native.Nat.{_*_, _≤_};
 ghost use lib.Dec.{eqb};
 ghost use lib.ListN.{length, getD};
+ghost use Rattle.base.specs.Choice.{_if_else_};
 ghost use Rattle.base.specs.Lists.{same};
 ghost use Rattle.network.specs.Networks.{runs, network-refusal};
 ghost use Rattle.timetable.specs.Good.{visit-good};
+ghost use Rattle.timetable.specs.Refusals.{or-else};
 ghost use Rattle.railway.specs.Relations.{precedes};
 ghost use Rattle.records.specs.Records.{decode-relation};
 ghost use Rattle.page.specs.Pages.{good-page};
@@ -410,6 +412,20 @@ pub fn good_sheet(sheet: &[u8], network: Network, extent: Extent) -> bool
     ensures { λ r. ⌜ r ≡ sheet-passes network extent (now (sheet .entry)) ⌝ }
 {
     sheet_under(sheet, network, extent, network.refusal() == 0)
+}
+
+// What refuses a sheet under a network, which is asked once: 3 and 4 of the network, then 6.
+pub fn sheet_refusal(sheet: &[u8], network: Network, extent: Extent) -> u8
+    ensures { λ r. ⌜ r ≡ or-else (network-refusal network) (6 if not (sheet-passes network extent (now (sheet .entry))) else 0) ⌝ }
+{
+    let refused = network.refusal();
+    if refused != 0 {
+        return refused;
+    }
+    if sheet_under(sheet, network, extent, true) {
+        return 0;
+    }
+    6
 }
 
 pub fn good_division(division: &[u8], network: Network) -> bool

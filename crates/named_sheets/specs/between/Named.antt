@@ -1,15 +1,16 @@
 -- Which sheets of a division are to be good, as the code tests them: of the areas of the stations that an edit names.
 -- Assumes nothing.
 use Prim.Native.Nat.{ℕ}
-use mathlib.Core.Bool.{Bool, true, false, _&&_, _||_}
+use mathlib.Core.Bool.{Bool, true, false, not, _&&_, _||_}
 use mathlib.Core.List.{List}
 use lib.Dec.{eqb}
 use lib.ListN.{length}
-use Rattle.base.specs.Choice.{if_then_else_}
+use Rattle.base.specs.Choice.{if_then_else_, _if_else_}
 use Rattle.base.specs.Lists.{any, every}
-use Rattle.network.specs.Networks.{area-found, area-of, station-row, stations-of}
+use Rattle.network.specs.Networks.{area-found, area-of, station-row, stations-of, network-refusal}
 use Rattle.timetable.specs.Groups.{six}
 use Rattle.timetable.specs.Machine.{meaning}
+use Rattle.timetable.specs.Refusals.{or-else}
 use Rattle.actions.specs.declared.shape.Shape.{Shape}
 use Rattle.actions.specs.between.Shapes.{touches}
 use Rattle.sheet.specs.Sheets.{sheet-at}
@@ -52,7 +53,11 @@ area-passes n e a part = if touches-area n e a then sheet-passes n (Extent.Of (r
 unfoldable pub named-pass : Network → Edit → List ℕ → Bool
 named-pass n e division = eqb (length division) 49152 && every (λ a. area-passes n e a (sheet-at division a)) six
 
+-- what refuses the network, or else 6 for a sheet of an area that the edit names
+unfoldable pub named-refusal : Network → Edit → List ℕ → ℕ
+named-refusal n e division = or-else (network-refusal n) (6 if not (named-pass n e division) else 0)
+
 -- The key ring of this module: `unfolding opened` opens every definition above.
 unfoldable pub opened : Unit {0}
-unfolding touches-at touches-area reach-of found-in has-station reaches-area reach-passes area-passes named-pass
+unfolding touches-at touches-area reach-of found-in has-station reaches-area reach-passes area-passes named-pass named-refusal
 opened = tt
