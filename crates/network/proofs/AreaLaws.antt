@@ -2,7 +2,7 @@
 -- the first with the station gives its area. Assumes nothing.
 use Prim.Native.Nat.{ℕ, _≤_}
 use mathlib.Core.Path.{_≡_, refl, sym}
-use mathlib.Core.Bool.{Bool, true, false, not, _&&_, _||_}
+use mathlib.Core.Bool.{Bool, true, false, _&&_, _||_}
 use mathlib.Core.List.{List, [], _∷_, map}
 use mathlib.Core.Option.{some}
 use native.Mathlib.Omega.{arith}
@@ -12,10 +12,11 @@ use Rattle.base.specs.Choice.{if_then_else_, _if_else_}
 use Rattle.base.specs.Lists.{any, every, first, within}
 use Rattle.base.proofs.Tests.{and-l, and-r, or-cases, eqb-turned, every-head, every-tail}
 use Rattle.railway.specs.Ranges.{same-station, station-ok, area-ok}
-use Rattle.network.specs.Networks.{network-refusal, network-in-range, stations-in-range, stations-rise, station-rows, station-row-ok, stations-of, row-area}
-use Rattle.network.specs.Networks.{line-rows, ends-listed, lines-joined, listed, station-row, area-of}
+use Rattle.network.specs.Networks.{network-refusal, station-rows, station-row-ok, stations-of, row-area}
+use Rattle.network.specs.Networks.{listed, station-row, area-of}
 use Rattle.network.specs.declared.StationRow.{StationRow}
 use Rattle.network.specs.Types.{Station, Network}
+use Rattle.network.proofs.NetworkLaws.{network-facts}
 
 abbrev Placed : Bool → ℕ → Type 0
 Placed true x = T (within 1 6 x)
@@ -35,17 +36,9 @@ row-placed k (r ∷ rows) ok =
         (and-r (station-ok (r .station)) (area-ok (r .area) && within 1 8 (r .tracks)) (and-l (station-row-ok r) (every station-row-ok rows) ok))
     go false later = later
 
--- a network that 3 and 4 do not refuse is in range
-not-refused : (b c : Bool) → (3 if not b else 4 if c else 0) ≡ 0 → T b
-not-refused true c h = tt
-not-refused false c h = absurd (omega arith)
-
 module _ (n : Network) (good : network-refusal n ≡ 0) where
   rows-ok : T (every station-row-ok (station-rows n))
-  unfolding network-refusal network-in-range stations-in-range stations-rise lines-joined
-  rows-ok =
-      let range = not-refused (network-in-range n) (not (every (ends-listed n) (line-rows n))) good in
-      search (and-l, and-r)
+  rows-ok = network-facts n good .station-rows-ok
 
   placed : (k : Station) → Placed (listed n k) (area-of n k)
   unfolding listed stations-of station-row area-of

@@ -3,7 +3,10 @@ ghost use mathlib.Core.Path.{_≡_};
 ghost use mathlib.Core.Bool.{true, _&&_};
 ghost use Prim.Native.Nat.{min};
 ghost use Rattle.network.specs.Networks.{station-row-ok, line-row-ok, way-open, row-runs, station-found, line-found, area-found, station-row, line-row};
-ghost use Rattle.network.specs.Networks.{listed, area-of, track-known, runs, stations-rise, lines-rise, network-in-range, ends-listed, lines-joined, network-refusal};
+ghost use Rattle.network.specs.Networks.{listed, area-of, track-known, runs, stations-rise, lines-rise, lines-in-range, network-in-range, ends-listed, lines-joined, network-refusal};
+ghost use Rattle.network.specs.Networks.{closure-ok, closure-number, closures-rise, closures-in-range, ends-after, closures-end, line-listed, closures-listed};
+use railway::minute::Minute;
+use railway::minute::WindowEnd;
 use railway::sorts::Area;
 use railway::sorts::Line;
 use railway::sorts::Station;
@@ -27,12 +30,21 @@ pub struct LineRow {
     pub capacity: u8,
 }
 
+// A line shut both ways "from a first minute up to but not including an end".
+pub struct Closure {
+    pub line: Line,
+    pub start: Minute,
+    pub end: WindowEnd,
+}
+
 pub struct Network {
     pub stationcount: u8,
     pub stations: [StationRow; 16],
     pub headway: u8,
     pub linecount: u8,
     pub lines: [LineRow; 32],
+    pub closurecount: u8,
+    pub closures: [Closure; 32],
 }
 
 // The row of a station or of a line, or nothing where it is not listed.
@@ -95,6 +107,31 @@ impl LineRow {
             return true;
         }
         runs_on(self.kind, 1, self.second, from, self.first, to)
+    }
+}
+
+impl Closure {
+    pub fn valid(self) -> bool
+        ensures { λ r. ⌜ r ≡ closure-ok self ⌝ }
+    {
+        both(
+            self.line.valid(),
+            both(self.start.valid(), self.end.valid()),
+        )
+    }
+
+    // Closures rise by line and start: a start is below 2880, so the two are one number.
+    pub fn number(self) -> u32
+        ensures { λ r. ⌜ r ≡ closure-number self ⌝ }
+    {
+        2880 * (self.line.0 as u32) + self.start.0 as u32
+    }
+
+    // The end is after the start.
+    pub fn ends_after(self) -> bool
+        ensures { λ r. ⌜ r ≡ ends-after self ⌝ }
+    {
+        self.start.0 < self.end.0
     }
 }
 
@@ -279,14 +316,56 @@ impl Network {
         true
     }
 
+    fn closures_rise(self) -> bool
+        ensures { λ r. ⌜ r ≡ closures-rise self ⌝ }
+    {
+        let rows = self.closures;
+        let n = in_use(self.closurecount, 32);
+        let mut least: u32 = 0;
+        let mut i: usize = 0;
+        while i < n {
+            let row = rows[i];
+            if row.valid() {
+                let number = row.number();
+                if least < number {
+                    least = number;
+                } else {
+                    return false;
+                }
+            } else {
+                return false;
+            }
+            i += 1;
+        }
+        true
+    }
+
+    fn lines_in_range(self) -> bool
+        ensures { λ r. ⌜ r ≡ lines-in-range self ⌝ }
+    {
+        if self.linecount <= 32 {
+            return self.lines_rise();
+        }
+        false
+    }
+
+    fn closures_in_range(self) -> bool
+        ensures { λ r. ⌜ r ≡ closures-in-range self ⌝ }
+    {
+        if self.closurecount <= 32 {
+            return self.closures_rise();
+        }
+        false
+    }
+
     fn in_range(self) -> bool
         ensures { λ r. ⌜ r ≡ network-in-range self ⌝ }
     {
         if base::is_within(1, 16, self.stationcount as u16) {
             if self.stations_rise() {
                 if base::is_within(1, 30, self.headway as u16) {
-                    if self.linecount <= 32 {
-                        return self.lines_rise();
+                    if self.lines_in_range() {
+                        return self.closures_in_range();
                     }
                 }
             }
@@ -322,15 +401,65 @@ impl Network {
         true
     }
 
-    // "A good network is one that 3 and 4 don't refuse": 0 for a good one, else 3 or 4.
+    // The end of each closure is after its start.
+    fn closures_end(self) -> bool
+        ensures { λ r. ⌜ r ≡ closures-end self ⌝ }
+    {
+        let rows = self.closures;
+        let n = in_use(self.closurecount, 32);
+        let mut i: usize = 0;
+        while i < n {
+            let row = rows[i];
+            if row.ends_after() {
+                i += 1;
+            } else {
+                return false;
+            }
+        }
+        true
+    }
+
+    // The line is listed.
+    pub fn line_listed(self, l: Line) -> bool
+        ensures { λ r. ⌜ r ≡ line-listed self l ⌝ }
+    {
+        let found = self.line_row(l);
+        match found {
+            LineFound::Row(_) => true,
+            LineFound::Nothing => false,
+        }
+    }
+
+    // Each closure is of a listed line.
+    fn closures_listed(self) -> bool
+        ensures { λ r. ⌜ r ≡ closures-listed self ⌝ }
+    {
+        let rows = self.closures;
+        let n = in_use(self.closurecount, 32);
+        let mut i: usize = 0;
+        while i < n {
+            let row = rows[i];
+            if self.line_listed(row.line) {
+                i += 1;
+            } else {
+                return false;
+            }
+        }
+        true
+    }
+
+    // "A good network's closures are ones that 3, 4 and 14 don't refuse": 0 for a good network, else 3, 14 or 4.
     pub fn refusal(self) -> u8
         ensures { λ r. ⌜ r ≡ network-refusal self ⌝ }
     {
         if self.in_range() {
-            if self.lines_joined() {
-                return 0;
+            if self.closures_end() {
+                if both(self.lines_joined(), self.closures_listed()) {
+                    return 0;
+                }
+                return 4;
             }
-            return 4;
+            return 14;
         }
         3
     }

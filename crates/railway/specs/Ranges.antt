@@ -5,7 +5,7 @@ use mathlib.Core.Bool.{Bool}
 use lib.Dec.{leb, eqb}
 use lib.IntN.{ℤ, subℕ}
 use Rattle.base.specs.Lists.{within}
-use Rattle.railway.specs.Types.{Station, Train, Track, Line, Area, Minute}
+use Rattle.railway.specs.Types.{Station, Train, Track, Line, Area, Minute, WindowEnd}
 
 -- "Station 1..16, area 1..6, train 1..9999, line 1..32, track 1..8"
 abbrev pub station-ok : Station → Bool
@@ -29,6 +29,13 @@ last-minute = 2879
 
 abbrev pub minute-ok : Minute → Bool
 minute-ok m = leb (m .0) last-minute
+
+-- "from a first minute up to but not including an end"; "ends 1..2880"
+abbrev pub last-end : ℕ
+last-end = 2880
+
+abbrev pub window-end-ok : WindowEnd → Bool
+window-end-ok e = within 1 last-end (e .0)
 
 -- how many minutes the second is after the first, with its sign
 abbrev pub minutes-after : Minute → Minute → ℤ

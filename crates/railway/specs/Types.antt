@@ -5,6 +5,7 @@ pub use Rattle.railway.specs.declared.sorts.Track.{Track}
 pub use Rattle.railway.specs.declared.sorts.Line.{Line}
 pub use Rattle.railway.specs.declared.sorts.Area.{Area}
 pub use Rattle.railway.specs.declared.minute.Minute.{Minute}
+pub use Rattle.railway.specs.declared.minute.WindowEnd.{WindowEnd}
 pub use Rattle.railway.specs.declared.relation.Trains.{Trains}
 pub use Rattle.railway.specs.declared.relation.Pair.{Pair}
 pub use Rattle.railway.specs.declared.relation.Relation.{Relation}
