@@ -8,12 +8,12 @@ use mathlib.Core.Option.{Option, none, some}
 use native.Mathlib.Omega.{arith}
 use lib.Dec.{leb, eqb}
 use lib.ListN.{length}
-use borrow.Author.Tests.{eq-eqb, ne-eqb, eqb-true}
+use borrow.Author.Tests.{eq-eqb, ne-eqb, eqb-true, eqb-false}
 use Rattle.base.specs.Choice.{if_then_else_, _if_else_}
-use Rattle.timetable.specs.Types.{LineRow, Fault}
+use Rattle.timetable.specs.Types.{Fault}
 use Rattle.timetable.specs.Formats.{Outcome, accepted, refused, number, behind, ended, Placed}
 use Rattle.timetable.specs.Refusals.{or-else, early}
-use Rattle.timetable.specs.NetworkFile.{Listed, unjoined, unjoined-fault, network-fault, unless-fault, under}
+use Rattle.timetable.specs.NetworkFile.{Listed, unended, unjoined, unlisted, fault-of, or-fault, network-fault, unless-fault, under}
 
 -- accepted is not refused
 pub clash {ℓ} : {P : Type ℓ} {A : Type 0} (a : A) (next k p : ℕ) → refused k p ≡ accepted a next → P
@@ -98,15 +98,47 @@ unfolding under behind unless-fault
 under-free k (accepted a next) both z = rw z
 under-free k (refused j p) both z = rw z
 
--- a network has no fault if every line is joined
-pub joined-free : (x : Listed) → unjoined x ≡ none → network-fault x .number ≡ 0
-unfolding network-fault unjoined-fault
-joined-free x e = ap (λ (l : Option (Placed LineRow)). unjoined-fault l .number) e
+-- the number of no fault is 0, and of a fault it is not
+no-fault : {A : Type 0} (k : ℕ) (o : Option (Placed A)) → o ≡ none → fault-of k o .number ≡ 0
+unfolding fault-of
+no-fault k o e = ap (λ (x : Option (Placed _)). fault-of k x .number) e
 
-pub free-joined : (x : Listed) → network-fault x .number ≡ 0 → unjoined x ≡ none
-unfolding network-fault unjoined-fault
-free-joined x e = go (unjoined x) e
+none-of : {A : Type 0} (k : ℕ) → ¬ (k ≡ 0) → (o : Option (Placed A)) → fault-of k o .number ≡ 0 → o ≡ none
+unfolding fault-of
+none-of k d none e = refl
+none-of k d (some x) e = absurd (d e)
+
+or-free : (f later : Fault) → f .number ≡ 0 → later .number ≡ 0 → or-fault f later .number ≡ 0
+unfolding or-fault
+or-free f later a b = rw (eq-eqb (f .number) 0 a) b
+
+free-or : (f later : Fault) → or-fault f later .number ≡ 0 → (f .number ≡ 0) × (later .number ≡ 0)
+unfolding or-fault
+free-or f later e = go (eqb (f .number) 0) refl e
   where
-    go : (l : Option (Placed LineRow)) → unjoined-fault l .number ≡ 0 → l ≡ none
-    go none q = refl
-    go (some l) q = absurd (omega (arith, q))
+    go : (b : Bool) → eqb (f .number) 0 ≡ b → (if b then later else f) .number ≡ 0 → (f .number ≡ 0) × (later .number ≡ 0)
+    go true q z = (eqb-true (f .number) 0 q, z)
+    go false q z = absurd (eqb-false (f .number) 0 q z)
+
+-- a network has no fault if every closure ends after its start and is of a listed line, and every line is joined
+pub record Faultless (x : Listed) : Type 0 where
+  pub ended : unended x ≡ none
+  pub joined : unjoined x ≡ none
+  pub listed : unlisted x ≡ none
+
+pub fault-none : (x : Listed) → Faultless x → network-fault x .number ≡ 0
+unfolding network-fault
+fault-none x f =
+    or-free (fault-of 14 (unended x)) _ (no-fault 14 (unended x) (f .ended))
+    (or-free (fault-of 4 (unjoined x)) (fault-of 4 (unlisted x)) (no-fault 4 (unjoined x) (f .joined)) (no-fault 4 (unlisted x) (f .listed)))
+
+pub none-fault : (x : Listed) → network-fault x .number ≡ 0 → Faultless x
+unfolding network-fault
+none-fault x e =
+    let (a, b) = free-or (fault-of 14 (unended x)) _ e in
+    let (c, d) = free-or (fault-of 4 (unjoined x)) (fault-of 4 (unlisted x)) b in
+    record {
+      ended = none-of 14 (λ z. omega (arith, z)) (unended x) a;
+      joined = none-of 4 (λ z. omega (arith, z)) (unjoined x) c;
+      listed = none-of 4 (λ z. omega (arith, z)) (unlisted x) d;
+    }

@@ -116,7 +116,7 @@ unfoldable pub line : ℕ → ℕ → ℕ → ℕ → ℕ → ℕ → LineRow
 line l a b k r c = record { line = ln l; first = st a; second = st b; kind = k; least = r; capacity = c }
 
 unfoldable pub network : List StationRow → ℕ → List LineRow → Network
-network ss h ls = network-with (record { stations = ss; headway = h; lines = ls })
+network ss h ls = network-with (record { stations = ss; headway = h; lines = ls; closures = [] })
 
 -- the network of the listing: `2, 1 1 2, 2 2 1, 3, 1, 1 1 2 3 10 1`
 unfoldable pub with-capacity : ℕ → Network

@@ -12,7 +12,7 @@ use Rattle.timetable.specs.Visits.{ins, outs}
 use Rattle.timetable.specs.Tables.{Entry, Table}
 use Rattle.timetable.specs.Machine.{Timetable}
 use Rattle.timetable.specs.Groups.{Grouping, in-group, Divided, gather}
-use Rattle.timetable.specs.Rules.{breaks-1, breaks-2, breaks-3, met, breaks-5, breaks-6, out-answered, in-answered, breaks-9, breaks-10}
+use Rattle.timetable.specs.Rules.{breaks-1, breaks-2, breaks-3, met, breaks-5, breaks-6, out-answered, in-answered, breaks-9, breaks-10, breaks-11, out-line}
 
 -- "Each is four numbers: station, rule, first, second (0 if unused)"
 unfoldable pub finding : Station → ℕ → ℕ → ℕ → Finding
@@ -25,7 +25,7 @@ numbers f = f .station .0 ∷ f .rule ∷ f .first ∷ f .second ∷ []
 unfoldable pub numbers-of : List Finding → List ℕ
 numbers-of fs = flatMap numbers fs
 
--- a finding with the far station that it speaks of; s itself in rules 1 to 6
+-- a finding with the far station that it speaks of; s itself in rules 1 to 6 and 11
 pub record Spanning : Type 0 where
   pub far : Station
   pub found : Finding
@@ -87,6 +87,7 @@ rules n s here =
     ∷ of-in (λ there t i. not (in-answered s (t .train) i there))
     ∷ of-out (λ there t o. breaks-9 s t o there)
     ∷ of-facing (breaks-10 n s here)
+    ∷ of-one (λ t. breaks-11 n (t .visit)) (λ t. out-line (t .visit .outward))
     ∷ []
 
 -- what the rule with the number k finds at s
@@ -118,7 +119,8 @@ picked f xs = map (λ x. x .found) (keep f xs)
 unfoldable pub findings : Network → Timetable → List Finding
 findings n m = map (λ x. x .found) (spanning n m)
 
--- "An area's findings, at its stations: rules 1 to 6, and 7 to 10 where the far station is its own too."
+-- "An area's findings, at its stations: rules 1 to 6, and 7 to 10 where the far station is its own too."; W1: "Rule 11
+-- reads one station, so it belongs to the area lists"
 unfoldable pub inside : Grouping → ℕ → Spanning → Bool
 inside γ g x = in-group γ g (x .found .station) && in-group γ g (x .far)
 

@@ -1,5 +1,7 @@
 -- The network file. Document 01, "Files": "Network: station count, stations rising, headway, line count, lines rising,
--- fields as listed; rising is strict, for stations and lines by their number alone." Assumes nothing.
+-- fields as listed; rising is strict, for stations and lines by their number alone." Document 02, W1: "Up to 32
+-- closures, with their count before them, stand in each file right after its network, rising by line and start".
+-- Assumes nothing.
 use Prim.Native.Nat.{ℕ, _-_}
 use mathlib.Core.Bool.{not}
 use mathlib.Core.List.{List, [], _∷_, _++_, map, flatMap}
@@ -8,8 +10,9 @@ use lib.Dec.{eqb}
 use lib.ListN.{length, getD, replicate}
 use Rattle.base.specs.Choice.{if_then_else_}
 use Rattle.base.specs.Lists.{first}
-use Rattle.network.specs.Networks.{blank-station, blank-line, station-rows, line-rows, ends-listed}
-use Rattle.timetable.specs.Types.{StationRow, LineRow, Network, Fault}
+use Rattle.railway.specs.Ranges.{last-minute, last-end}
+use Rattle.network.specs.Networks.{blank-station, blank-line, blank-closure, station-rows, line-rows, closure-rows, ends-after, ends-listed, line-listed}
+use Rattle.timetable.specs.Types.{StationRow, LineRow, Closure, Network, Fault}
 use Rattle.timetable.specs.Formats.{Format, done, field, _and-then_, Outcome, accepted, refused, behind, read-file, Range, _to_, row, entries, Placed, placed}
 
 -- rows
@@ -50,6 +53,22 @@ line-fields floor = row line-ranges floor and-then (λ ns. done (line-of ns))
 unfoldable pub line-entry : List ℕ → Format (Placed LineRow)
 line-entry floor = placed (line-fields floor)
 
+-- W1: line, start, end; "starts are 0..2879, ends 1..2880"
+unfoldable pub closure-ranges : List Range
+closure-ranges = 1 to 32 ∷ 0 to last-minute ∷ 1 to last-end ∷ []
+
+unfoldable pub closure-of : List ℕ → Closure
+closure-of ns = record { line = record { 0 = getD ns 0 0 }; start = record { 0 = getD ns 1 0 }; end = record { 0 = getD ns 2 0 } }
+
+unfoldable pub closure-numbers : Closure → List ℕ
+closure-numbers c = c .line .0 ∷ c .start .0 ∷ c .end .0 ∷ []
+
+unfoldable pub closure-fields : List ℕ → Format Closure
+closure-fields floor = row closure-ranges floor and-then (λ ns. done (closure-of ns))
+
+unfoldable pub closure-entry : List ℕ → Format (Placed Closure)
+closure-entry floor = placed (closure-fields floor)
+
 -- the network
 
 -- the rows of a network, those that are in use
@@ -57,12 +76,14 @@ pub record Rows : Type 0 where
   pub stations : List StationRow
   pub headway : ℕ
   pub lines : List LineRow
+  pub closures : List Closure
 
--- what a network file lists: its rows, the lines with their places
+-- what a network file lists: its rows, the lines and the closures with their places
 pub record Listed : Type 0 where
   pub stations : List StationRow
   pub headway : ℕ
   pub lines : List (Placed LineRow)
+  pub closures : List (Placed Closure)
 
 unfoldable pub station-floor : StationRow → List ℕ
 station-floor r = r .station .0 ∷ []
@@ -70,17 +91,30 @@ station-floor r = r .station .0 ∷ []
 unfoldable pub line-floor : Placed LineRow → List ℕ
 line-floor l = l .entry .line .0 ∷ []
 
--- the first entry is compared with 0
+-- "rising by line and start"
+unfoldable pub closure-floor : Placed Closure → List ℕ
+closure-floor c = c .entry .line .0 ∷ c .entry .start .0 ∷ []
+
+-- the first entry is compared with 0, and of closures with none
 unfoldable pub stations-format : ℕ → Format (List StationRow)
 stations-format k = entries station-entry station-floor k (0 ∷ [])
 
 unfoldable pub lines-format : ℕ → Format (List (Placed LineRow))
 lines-format k = entries line-entry line-floor k (0 ∷ [])
 
--- station count, stations, headway, line count, lines: each with what is behind it, given what stands before it. A part
--- behind the lines takes the place of `done`.
+unfoldable pub closures-format : ℕ → Format (List (Placed Closure))
+closures-format k = entries closure-entry closure-floor k []
+
+-- station count, stations, headway, line count, lines, closure count, closures: each with what is behind it, given what
+-- stands before it. A part behind the closures takes the place of `done`.
+unfoldable pub closures-part : List StationRow → ℕ → List (Placed LineRow) → ℕ → Format Listed
+closures-part ss h ls m = closures-format m and-then (λ cs. done (record { stations = ss; headway = h; lines = ls; closures = cs }))
+
+unfoldable pub closure-count-part : List StationRow → ℕ → List (Placed LineRow) → Format Listed
+closure-count-part ss h ls = field 0 32 (λ m. closures-part ss h ls m)
+
 unfoldable pub lines-part : List StationRow → ℕ → ℕ → Format Listed
-lines-part ss h m = lines-format m and-then (λ ls. done (record { stations = ss; headway = h; lines = ls }))
+lines-part ss h m = lines-format m and-then (λ ls. closure-count-part ss h ls)
 
 unfoldable pub count-part : List StationRow → ℕ → Format Listed
 count-part ss h = field 0 32 (λ m. lines-part ss h m)
@@ -102,34 +136,54 @@ network-with x = record {
   headway = x .headway;
   linecount = length (x .lines);
   lines = x .lines ++ replicate (32 - length (x .lines)) blank-line;
+  closurecount = length (x .closures);
+  closures = x .closures ++ replicate (32 - length (x .closures)) blank-closure;
 }
 
 -- the rows of a network, and those that are listed
 unfoldable pub rows-in : Network → Rows
-rows-in n = record { stations = station-rows n; headway = n .headway; lines = line-rows n }
+rows-in n = record { stations = station-rows n; headway = n .headway; lines = line-rows n; closures = closure-rows n }
 
 unfoldable pub rows-listed : Listed → Rows
-rows-listed x = record { stations = x .stations; headway = x .headway; lines = map (λ l. l .entry) (x .lines) }
+rows-listed x = record {
+  stations = x .stations;
+  headway = x .headway;
+  lines = map (λ l. l .entry) (x .lines);
+  closures = map (λ c. c .entry) (x .closures);
+}
 
 unfoldable pub network-of : Listed → Network
 network-of x = network-with (rows-listed x)
 
 -- the network that stands in an answer beside a refusal
 unfoldable pub blank-network : Network
-blank-network = network-with (record { stations = []; headway = 0; lines = [] })
+blank-network = network-with (record { stations = []; headway = 0; lines = []; closures = [] })
+
+-- "It refuses, with 14, a closure (at its first byte) whose end isn't after its start": the first such closure
+unfoldable pub unended : Listed → Option (Placed Closure)
+unended x = first (λ c. not (ends-after (c .entry))) (x .closures)
 
 -- "4 a line's ends aren't two different listed stations": the first such line
 unfoldable pub unjoined : Listed → Option (Placed LineRow)
 unjoined x = first (λ l. not (ends-listed (network-of x) (l .entry))) (x .lines)
 
--- "4, 7, 12: the entry's first"
-unfoldable pub unjoined-fault : Option (Placed LineRow) → Fault
-unjoined-fault none = record { number = 0; place = 0 }
-unjoined-fault (some l) = record { number = 4; place = l .place }
+-- "A closure of an unlisted line is refused with 4.": the first such closure
+unfoldable pub unlisted : Listed → Option (Placed Closure)
+unlisted x = first (λ c. not (line-listed (network-of x) (c .entry .line))) (x .closures)
 
--- what only the whole network shows: the first such fault by its number and place
+-- "4, 7, 12: the entry's first"
+unfoldable pub fault-of : {A : Type 0} → ℕ → Option (Placed A) → Fault
+fault-of k none = record { number = 0; place = 0 }
+fault-of k (some e) = record { number = k; place = e .place }
+
+-- the one, or what comes behind it
+unfoldable pub or-fault : Fault → Fault → Fault
+or-fault f later = if eqb (f .number) 0 then later else f
+
+-- what only the whole network shows: the first such fault by its number and place; 14 comes before 4, and lines before
+-- closures
 unfoldable pub network-fault : Listed → Fault
-network-fault x = unjoined-fault (unjoined x)
+network-fault x = or-fault (fault-of 14 (unended x)) (or-fault (fault-of 4 (unjoined x)) (fault-of 4 (unlisted x)))
 
 -- "in files the first faulty number by place, then 4": the fault of a file whose numbers are read; number 0 where there
 -- is none
@@ -154,11 +208,13 @@ read-network file = read-network-as network-format file
 unfoldable pub network-numbers : Network → List ℕ
 network-numbers n =
     n .stationcount ∷ (flatMap station-numbers (station-rows n)
-    ++ (n .headway ∷ n .linecount ∷ flatMap line-numbers (line-rows n)))
+    ++ (n .headway ∷ n .linecount ∷ (flatMap line-numbers (line-rows n)
+    ++ (n .closurecount ∷ flatMap closure-numbers (closure-rows n)))))
 
 -- The key ring of this module: `unfolding opened` opens every definition above.
 unfoldable pub opened : Unit {0}
-unfolding station-ranges station-of station-numbers station-entry line-ranges line-of line-numbers line-fields line-entry station-floor line-floor stations-format lines-format
-    lines-part count-part headway-part stations-part network-format network-with rows-in rows-listed network-of
-    blank-network unjoined unjoined-fault network-fault unless-fault under read-network-as read-network network-numbers
+unfolding station-ranges station-of station-numbers station-entry line-ranges line-of line-numbers line-fields line-entry closure-ranges closure-of closure-numbers
+    closure-fields closure-entry station-floor line-floor closure-floor stations-format lines-format closures-format
+    closures-part closure-count-part lines-part count-part headway-part stations-part network-format network-with rows-in rows-listed network-of
+    blank-network unended unjoined unlisted fault-of or-fault network-fault unless-fault under read-network-as read-network network-numbers
 opened = tt

@@ -29,9 +29,19 @@ line-row l a b k r c = l ∷ a ∷ b ∷ k ∷ r ∷ c ∷ []
 unfoldable pub up-to-lines : List (List ℕ) → ℕ → ℕ → List ℕ
 up-to-lines ss h m = length ss ∷ (all ss ++ (h ∷ m ∷ []))
 
--- a network file
+-- line, start, end
+unfoldable pub closure-row : ℕ → ℕ → ℕ → List ℕ
+closure-row l a b = l ∷ a ∷ b ∷ []
+
+-- what stands before the closures, with their count; a network file, and one without closures
+unfoldable pub up-to-closures : List (List ℕ) → ℕ → List (List ℕ) → ℕ → List ℕ
+up-to-closures ss h ls m = up-to-lines ss h (length ls) ++ (all ls ++ (m ∷ []))
+
+unfoldable pub closed-row : List (List ℕ) → ℕ → List (List ℕ) → List (List ℕ) → List ℕ
+closed-row ss h ls cs = up-to-closures ss h ls (length cs) ++ all cs
+
 unfoldable pub network-row : List (List ℕ) → ℕ → List (List ℕ) → List ℕ
-network-row ss h ls = up-to-lines ss h (length ls) ++ all ls
+network-row ss h ls = closed-row ss h ls []
 
 -- one station, with a headway and no lines; the place of that headway, and of the count behind it
 unfoldable pub one-station : ℕ → ℕ → ℕ → ℕ → List ℕ
@@ -118,6 +128,6 @@ connected from (suc k) = 1 ∷ 1 ∷ from ∷ 2 ∷ 7 ∷ 8 ∷ connected (suc f
 
 -- The key ring of this module: `unfolding opened` opens every definition above.
 unfoldable pub opened : Unit {0}
-unfolding all cut size station-row line-row up-to-lines network-row one-station headway-place two-stations joined-by first-line second-line net-numbers loop-numbers
+unfolding all cut size station-row line-row up-to-lines closure-row up-to-closures closed-row network-row one-station headway-place two-stations joined-by first-line second-line net-numbers loop-numbers
     plan-row extension-row report-row edit-row listed-numbers each-kind crowd-visits connected flatMap
 opened = tt

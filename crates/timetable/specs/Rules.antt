@@ -1,4 +1,4 @@
--- The rules of document 01, "Findings", one by one, as tests of visits and tables. t and u are the trains, v and w
+-- The rules of document 01, "Findings", and of document 02, W1, one by one, as tests of visits and tables. t and u are the trains, v and w
 -- their visits; `here` is the table of s, `there` that of the far station. Assumes nothing.
 use Prim.Native.Nat.{ℕ, _+_, min, max}
 use mathlib.Core.Bool.{Bool, true, not, _&&_, _||_}
@@ -10,8 +10,8 @@ use Rattle.base.specs.Choice.{if_then_else_}
 use Rattle.base.specs.Lists.{any, every, keep, is, each-two}
 use Rattle.railway.specs.Ranges.{same-station, same-train, same-track, same-line}
 use Rattle.railway.specs.Relations.{used}
-use Rattle.network.specs.Networks.{line-row}
-use Rattle.timetable.specs.Types.{Station, Train, Inward, Outward, Visit, Relation, Connection, Disconnection, Dependency, LineRow, Network}
+use Rattle.network.specs.Networks.{line-row, closure-rows}
+use Rattle.timetable.specs.Types.{Station, Train, Inward, Outward, OutLink, Visit, Relation, Connection, Disconnection, Dependency, LineRow, Closure, Network}
 use Rattle.timetable.specs.Visits.{arr, dep, stops, leaves, comes-from, leaves-to}
 use Rattle.timetable.specs.Tables.{Entry, Table, visit-of}
 
@@ -130,8 +130,21 @@ single n t o = not (t .visit .departed) && is (λ r. eqb (r .kind) 3) (line-row 
 unfoldable pub breaks-10 : Network → Station → Table → Entry → Outward → Entry → Bool
 breaks-10 n s here t o u = single n t o && opposes here s t o u
 
+-- 11. W1: "A pending departure whose occupation, from departure up to but not including departure + run, shares a minute
+-- with a closure of its line"
+unfoldable pub shuts : Visit → Outward → Closure → Bool
+shuts v o c = same-line (c .line) (o .line) && (ltb (dep v) (c .end .0) && ltb (c .start .0) (due v o))
+
+unfoldable pub breaks-11 : Network → Visit → Bool
+breaks-11 n v = not (v .departed) && leaves (λ o. any (shuts v o) (closure-rows n)) v
+
+-- "first the train, second the line"
+unfoldable pub out-line : OutLink → ℕ
+out-line OutLink.Nothing = 0
+out-line (OutLink.To o) = o .line .0
+
 -- The key ring of this module: `unfolding opened` opens every definition above.
 unfoldable pub opened : Unit {0}
 unfolding breaks-1 comes-too-soon breaks-2 on-one-line breaks-3 connected disconnected depends both-visit met breaks-5 due ahead caught crowded others
-    breaks-6 out-answered in-answered misses breaks-9 arrival-of opposes single breaks-10
+    breaks-6 out-answered in-answered misses breaks-9 arrival-of opposes single breaks-10 shuts breaks-11 out-line
 opened = tt
