@@ -21,7 +21,7 @@ use Rattle.timetable.specs.Types.{Station, Train, Line, Minute, InLink, 
 use Rattle.timetable.specs.Types.{Relation, Connection, Plan}
 use Rattle.timetable.specs.Types.{Edit, Place, Prepend, Append, DeleteFirst, DeleteLast}
 use Rattle.timetable.specs.Types.{ReportArrival, ReportDeparture, AddRelation, RemoveRelation, DeleteTrain}
-use Rattle.timetable.specs.Types.{StationRow, LineRow, Network, Answer, Finding, Row, Tally}
+use Rattle.timetable.specs.Types.{StationRow, LineRow, Closure, Network, Answer, Finding, Row, Tally}
 use Rattle.timetable.specs.Refusals as Refusals
 use Rattle.timetable.specs.Formats as Formats
 use Rattle.timetable.specs.Formats.{Outcome, accepted, refused, Placed}
@@ -117,6 +117,22 @@ line l a b k r c = record { line = ln l; first = st a; second = st b; kind = k; 
 
 unfoldable pub network : List StationRow → ℕ → List LineRow → Network
 network ss h ls = network-with (record { stations = ss; headway = h; lines = ls; closures = [] })
+
+-- line, start, end
+unfoldable pub closure : ℕ → ℕ → ℕ → Closure
+closure l a b = record { line = ln l; start = at a; end = record { 0 = b } }
+
+-- the listing's stations, a line between them, and closures
+unfoldable pub closed-line : LineRow → List Closure → Network
+closed-line l cs = network-with (record { stations = station 1 1 2 ∷ station 2 2 1 ∷ []; headway = 3; lines = l ∷ []; closures = cs })
+
+unfoldable pub closed : List Closure → Network
+closed cs = closed-line (line 1 1 2 3 10 1) cs
+
+-- so many closures of line 1, a minute each
+unfoldable pub windows : ℕ → List Closure
+windows zero = []
+windows (suc k) = windows k ++ (closure 1 k (suc k) ∷ [])
 
 -- the network of the listing: `2, 1 1 2, 2 2 1, 3, 1, 1 1 2 3 10 1`
 unfoldable pub with-capacity : ℕ → Network
@@ -291,7 +307,7 @@ failing k (c ∷ cs) = if passes c then failing (suc k) cs else k ∷ failing (s
 
 -- The key ring of this module and of all that it computes with.
 unfoldable pub opened : Unit {0}
-unfolding st tr ln at plan place prepend append delete-first delete-last arrives departs relate unrelate delete-train four two pair station line network
+unfolding st tr ln at plan place prepend append delete-first delete-last arrives departs relate unrelate delete-train four two pair station line network closure closed-line closed windows
     with-capacity net branch leaving inbound crowd connections visiting by to tabled standing bare counted told run-of listed-edits
     outcome-numbers placed-edits shift-numbers reads-as reads-refused lists answer-numbers signed row-numbers each-before passes failing
     Lists.opened Runs.opened Numbers.opened Relations.opened Edits.opened Networks.opened

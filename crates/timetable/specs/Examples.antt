@@ -1,6 +1,6 @@
 -- The examples' table: (a) to (k) of document 01 and the listing of `shift`, then the edges that they leave open, as
 -- rows of one table with one computed test. Where a row fails, the error shows its place. Assumes nothing.
-use Prim.Native.Nat.{_+_}
+use Prim.Native.Nat.{_+_, _-_}
 use mathlib.Core.Path.{_≡_, refl}
 use mathlib.Core.Bool.{true, false}
 use mathlib.Core.List.{List, [], _∷_, _++_}
@@ -8,11 +8,11 @@ use Rattle.timetable.specs.Types.{Connection, Disconnection, Dependency,
 use Rattle.timetable.specs.Findings.{finding}
 use Rattle.timetable.specs.Machine.{nothing-placed}
 use Rattle.timetable.specs.Formats.{bytes-of}
-use Rattle.timetable.specs.Pieces.{cut, size, station-row, line-row, up-to-lines, network-row, one-station, headway-place, joined-by, first-line, second-line}
+use Rattle.timetable.specs.Pieces.{cut, size, station-row, line-row, up-to-lines, network-row, one-station, headway-place, joined-by, first-line, second-line, closure-row, up-to-closures, closed-row, closed-by, first-closure, second-closure, two-stations}
 use Rattle.timetable.specs.Pieces.{net-numbers, loop-numbers, listed-numbers, each-kind, crowd-visits, connected}
 use Rattle.timetable.specs.Cases as Cases
 use Rattle.timetable.specs.Cases.{st, plan, place, prepend, append, delete-first, delete-last, arrives, departs, relate, unrelate, delete-train}
-use Rattle.timetable.specs.Cases.{four, two, pair, station, line, network, with-capacity, net, branch, leaving, inbound, crowd, connections}
+use Rattle.timetable.specs.Cases.{four, two, pair, station, line, network, closure, closed-line, closed, windows, with-capacity, net, branch, leaving, inbound, crowd, connections}
 use Rattle.timetable.specs.Cases.{visiting, by, to, tabled, standing, bare, counted, told}
 use Rattle.timetable.specs.Cases.{Case, bytes, unread, found, stands, related, answered, answered-on, ordered, network-is, naming, table-is}
 use Rattle.timetable.specs.Cases.{network-file, edits-file, shift-file, timetable-file}
@@ -465,9 +465,84 @@ files =
     ∷ timetable-file (network (station 1 1 2 ∷ station 2 2 1 ∷ []) 3 (line 1 1 1 3 10 1 ∷ [])) (bytes-of (1 ∷ (crowd-visits 1 1 ++ (0 ∷ [])))) (4 ∷ 0 ∷ [])
     ∷ []
 
+-- W1: closures, in files and in memory, and rule 11
+pub closures : List Case
+closures =
+    -- the run occupies the line from 100 up to 112: a closure that touches it, and one minute more, at either end
+    found (closed (closure 1 90 100 ∷ [])) (leaving 7 100 12) (finding (st 1) 11 7 1) false
+    ∷ found (closed (closure 1 90 101 ∷ [])) (leaving 7 100 12) (finding (st 1) 11 7 1) true
+    ∷ found (closed (closure 1 112 120 ∷ [])) (leaving 7 100 12) (finding (st 1) 11 7 1) false
+    ∷ found (closed (closure 1 111 120 ∷ [])) (leaving 7 100 12) (finding (st 1) 11 7 1) true
+    -- inside, around, and of another line
+    ∷ found (closed (closure 1 103 105 ∷ [])) (leaving 7 100 12) (finding (st 1) 11 7 1) true
+    ∷ found (closed (closure 1 0 2880 ∷ [])) (leaving 7 100 12) (finding (st 1) 11 7 1) true
+    ∷ found net (leaving 7 100 12) (finding (st 1) 11 7 1) false
+    -- two closures give one finding, in the area's list and in no pair's
+    ∷ area-has (closed (closure 1 100 103 ∷ closure 1 105 107 ∷ [])) (run-of (leaving 7 100 12)) 1 (1 ∷ 11 ∷ 7 ∷ 1 ∷ [])
+    ∷ pair-has (closed (closure 1 100 103 ∷ closure 1 105 107 ∷ [])) (run-of (leaving 7 100 12)) 1 2 []
+    -- behind the other rules of its station, by train
+    ∷ area-has (closed (closure 1 0 2880 ∷ [])) (run-of (leaving 8 101 12 ++ leaving 7 100 12)) 1
+    (1 ∷ 3 ∷ 7 ∷ 8 ∷ 1 ∷ 6 ∷ 8 ∷ 0 ∷ 1 ∷ 11 ∷ 7 ∷ 1 ∷ 1 ∷ 11 ∷ 8 ∷ 1 ∷ [])
+    -- the departure occurred; it is pending though the arrival occurred; the link is not answered; no link
+    ∷ stands (closed (closure 1 90 101 ∷ [])) (standing (tabled (visiting 7 100 true 100 true InLink.Nothing (to 2 1 12) ∷ []) []) bare) (finding (st 1) 11 7 1) false
+    ∷ stands (closed (closure 1 90 101 ∷ [])) (standing (tabled (visiting 7 100 true 100 false InLink.Nothing (to 2 1 12) ∷ []) []) bare) (finding (st 1) 11 7 1) true
+    ∷ stands (closed (closure 1 90 101 ∷ [])) (standing (tabled (visiting 7 100 false 100 false (by 2 1) OutLink.Nothing ∷ []) []) bare) (finding (st 1) 11 7 0) false
+    -- the line used the other way; a run past the last minute
+    ∷ found (closed (closure 1 90 101 ∷ [])) (inbound 7 112) (finding (st 2) 11 7 1) true
+    ∷ stands (closed (closure 1 0 5 ∷ [])) (standing (tabled (visiting 7 2879 false 2879 false InLink.Nothing (to 2 1 12) ∷ []) []) bare) (finding (st 1) 11 7 1) false
+    ∷ stands (closed (closure 1 2879 2880 ∷ [])) (standing (tabled (visiting 7 2879 false 2879 false InLink.Nothing (to 2 1 12) ∷ []) []) bare) (finding (st 1) 11 7 1) true
+    -- networks in memory: 3 before 14 before 4
+    ∷ network-is (closed (closure 1 0 1 ∷ closure 1 1 2880 ∷ [])) 0
+    ∷ network-is (closed (windows 32)) 0
+    ∷ network-is (closed (windows 33)) 3
+    ∷ network-is (closed (closure 33 0 1 ∷ [])) 3
+    ∷ network-is (closed (closure 1 2880 2880 ∷ [])) 3
+    ∷ network-is (closed (closure 1 0 0 ∷ [])) 3
+    ∷ network-is (closed (closure 1 0 2881 ∷ [])) 3
+    ∷ network-is (closed (closure 1 5 6 ∷ closure 1 5 7 ∷ [])) 3
+    ∷ network-is (closed (closure 1 5 6 ∷ closure 1 4 7 ∷ [])) 3
+    ∷ network-is (closed (closure 2 5 6 ∷ closure 1 6 7 ∷ [])) 3
+    ∷ network-is (closed (closure 1 5 5 ∷ [])) 14
+    ∷ network-is (closed (closure 1 5 4 ∷ closure 2 0 0 ∷ [])) 3
+    ∷ network-is (closed (closure 1 0 1 ∷ closure 2 5 5 ∷ [])) 14
+    ∷ network-is (closed (closure 2 5 6 ∷ [])) 4
+    ∷ network-is (closed-line (line 1 1 1 3 10 1) (closure 1 5 5 ∷ [])) 14
+    -- files: good ones; windows may overlap or touch, and a later line may be closed earlier
+    ∷ network-file (bytes-of (closed-by (closure-row 1 0 2880 ∷ closure-row 1 100 110 ∷ closure-row 1 110 120 ∷ [])))
+    (0 ∷ size (closed-by (closure-row 1 0 2880 ∷ closure-row 1 100 110 ∷ closure-row 1 110 120 ∷ [])) ∷ closed-by (closure-row 1 0 2880 ∷ closure-row 1 100 110 ∷ closure-row 1 110 120 ∷ []))
+    -- 1: no count, a closure too few; 3: the count, each number, the order
+    ∷ network-file (bytes-of (up-to-lines two-stations 3 1 ++ line-row 1 1 2 3 10 1)) (1 ∷ (first-closure - 1) ∷ [])
+    ∷ network-file (bytes-of (up-to-closures two-stations 3 (line-row 1 1 2 3 10 1 ∷ []) 1)) (1 ∷ first-closure ∷ [])
+    ∷ network-file (bytes-of (up-to-closures two-stations 3 (line-row 1 1 2 3 10 1 ∷ []) 33)) (3 ∷ (first-closure - 1) ∷ [])
+    ∷ network-file (bytes-of (closed-by (closure-row 33 0 1 ∷ []))) (3 ∷ first-closure ∷ [])
+    ∷ network-file (bytes-of (closed-by (closure-row 0 0 1 ∷ []))) (3 ∷ first-closure ∷ [])
+    ∷ network-file (bytes-of (closed-by (closure-row 1 2880 2880 ∷ []))) (3 ∷ (first-closure + 1) ∷ [])
+    ∷ network-file (bytes-of (closed-by (closure-row 1 0 0 ∷ []))) (3 ∷ (first-closure + 2) ∷ [])
+    ∷ network-file (bytes-of (closed-by (closure-row 1 0 2881 ∷ []))) (3 ∷ (first-closure + 2) ∷ [])
+    ∷ network-file (bytes-of (closed-by (closure-row 1 100 110 ∷ closure-row 1 100 120 ∷ []))) (3 ∷ (second-closure + 1) ∷ [])
+    ∷ network-file (bytes-of (closed-by (closure-row 1 100 110 ∷ closure-row 1 99 120 ∷ []))) (3 ∷ (second-closure + 1) ∷ [])
+    ∷ network-file (bytes-of (closed-by (closure-row 2 100 110 ∷ closure-row 1 101 120 ∷ []))) (3 ∷ second-closure ∷ [])
+    -- 14 at the closure's first byte, the first such closure; before 4 of a line and of a closure, behind a faulty number
+    ∷ network-file (bytes-of (closed-by (closure-row 1 100 100 ∷ []))) (14 ∷ first-closure ∷ [])
+    ∷ network-file (bytes-of (closed-by (closure-row 1 100 110 ∷ closure-row 1 110 99 ∷ closure-row 1 111 1 ∷ []))) (14 ∷ second-closure ∷ [])
+    ∷ network-file (bytes-of (closed-row two-stations 3 (line-row 1 1 1 3 10 1 ∷ []) (closure-row 1 100 100 ∷ []))) (14 ∷ first-closure ∷ [])
+    ∷ network-file (bytes-of (closed-by (closure-row 2 100 110 ∷ closure-row 2 101 101 ∷ []))) (14 ∷ second-closure ∷ [])
+    ∷ network-file (bytes-of (closed-by (closure-row 1 100 100 ∷ closure-row 1 101 0 ∷ []))) (3 ∷ (second-closure + 2) ∷ [])
+    ∷ shift-file (bytes-of (closed-by (closure-row 1 100 100 ∷ []) ++ (1 ∷ 12 ∷ []))) (3 ∷ (size (closed-by (closure-row 1 100 100 ∷ [])) + 1) ∷ [])
+    ∷ shift-file (bytes-of (closed-by (closure-row 1 100 100 ∷ []) ++ (0 ∷ []))) (14 ∷ first-closure ∷ [])
+    ∷ shift-file (bytes-of (closed-by (closure-row 1 100 100 ∷ []) ++ (0 ∷ 0 ∷ []))) (1 ∷ (size (closed-by (closure-row 1 100 100 ∷ [])) + 1) ∷ [])
+    -- 4 of an unlisted line at the closure's first byte, behind a line's 4
+    ∷ network-file (bytes-of (closed-by (closure-row 1 100 110 ∷ closure-row 2 100 110 ∷ []))) (4 ∷ second-closure ∷ [])
+    ∷ network-file (bytes-of (closed-row two-stations 3 (line-row 1 1 1 3 10 1 ∷ []) (closure-row 2 100 110 ∷ []))) (4 ∷ first-line ∷ [])
+    -- a timetable file under a network in memory: 14 at place 0, behind the file's faulty numbers
+    ∷ timetable-file (closed (closure 1 5 5 ∷ [])) (bytes-of (0 ∷ [])) (1 ∷ 1 ∷ [])
+    ∷ timetable-file (closed (closure 1 5 5 ∷ [])) (bytes-of (0 ∷ 0 ∷ [])) (14 ∷ 0 ∷ [])
+    ∷ timetable-file (closed (closure 2 5 6 ∷ [])) (bytes-of (0 ∷ 0 ∷ [])) (4 ∷ 0 ∷ [])
+    ∷ []
+
 pub table : List Case
-unfolding document ranges edits rules relations others files
-table = document ++ (ranges ++ (edits ++ (rules ++ (relations ++ (others ++ files)))))
+unfolding document ranges edits rules relations others files closures
+table = document ++ (ranges ++ (edits ++ (rules ++ (relations ++ (others ++ (files ++ closures))))))
 
 pub examples-hold : failing 1 table ≡ []
 unfolding table Cases.opened

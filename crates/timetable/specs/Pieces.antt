@@ -70,6 +70,16 @@ net-numbers = joined-by (line-row 1 1 2 3 10 1 ∷ [])
 unfoldable pub loop-numbers : List ℕ
 loop-numbers = joined-by (line-row 1 1 1 3 10 1 ∷ [])
 
+-- the listing's network with closures; the places of the first, of the second
+unfoldable pub closed-by : List (List ℕ) → List ℕ
+closed-by cs = closed-row two-stations 3 (line-row 1 1 2 3 10 1 ∷ []) cs
+
+unfoldable pub first-closure : ℕ
+first-closure = size (up-to-closures two-stations 3 (line-row 1 1 2 3 10 1 ∷ []) 1)
+
+unfoldable pub second-closure : ℕ
+second-closure = first-closure + size (closure-row 1 100 110)
+
 -- edits: the kind, then the fields
 
 -- s, t, track, arrival, departure
@@ -128,6 +138,6 @@ connected from (suc k) = 1 ∷ 1 ∷ from ∷ 2 ∷ 7 ∷ 8 ∷ connected (suc f
 
 -- The key ring of this module: `unfolding opened` opens every definition above.
 unfoldable pub opened : Unit {0}
-unfolding all cut size station-row line-row up-to-lines closure-row up-to-closures closed-row network-row one-station headway-place two-stations joined-by first-line second-line net-numbers loop-numbers
+unfolding all cut size station-row line-row up-to-lines closure-row up-to-closures closed-row network-row one-station headway-place two-stations joined-by first-line second-line net-numbers loop-numbers closed-by first-closure second-closure
     plan-row extension-row report-row edit-row listed-numbers each-kind crowd-visits connected flatMap
 opened = tt
