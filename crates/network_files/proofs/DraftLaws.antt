@@ -7,6 +7,7 @@ use mathlib.Core.List.{List, [], _∷_, _++_, map}
 use mathlib.Core.Option.{none, some}
 use native.Mathlib.Omega.{arith}
 use lib.Dec.{T, leb, ltb, leb→le, ltb→lt}
+use borrow.Author.Tests.{ne-eqb}
 use native.Mathlib.Numerals.{add-one}
 use lib.ListN.{length, take, set, getD, length-map, List·getD-map}
 use lib.Seq.{take-all, take-suc, take-suc-set}
@@ -15,19 +16,22 @@ use Rattle.base.specs.Lists.{first, every}
 use Rattle.base.proofs.Tests.{every-head, every-tail}
 use Rattle.network.specs.declared.StationRow.{StationRow}
 use Rattle.network.specs.declared.LineRow.{LineRow}
+use Rattle.network.specs.declared.Closure.{Closure}
 use Rattle.network.specs.declared.Network.{Network}
-use Rattle.network.specs.Networks.{blank-station, blank-line, station-rows, stations-of, listed, ends-listed}
+use Rattle.network.specs.Networks.{blank-station, blank-line, blank-closure, station-rows, line-rows, stations-of, listed, ends-after, ends-listed, line-row, line-listed}
 use Rattle.timetable.specs.declared.Fault.{Fault}
 use Rattle.timetable.specs.Formats.{Format, done, Outcome, accepted, refused, _and-then_, read, Range, row, Placed}
 use Rattle.timetable.specs.NetworkFile.{station-of, station-entry, station-floor, line-of, line-entry, line-floor}
-use Rattle.timetable.specs.NetworkFile.{Listed, stations-format, lines-format, lines-part, network-with, rows-listed, network-of, unjoined, unjoined-fault, network-fault}
+use Rattle.timetable.specs.NetworkFile.{closure-entry, closure-floor, Listed, stations-format, lines-format, closures-format, closures-part, network-with, rows-listed, network-of, unended, unjoined, unlisted, fault-of, or-fault, network-fault}
 use Rattle.network_files.specs.declared.draft.StationsRead.{StationsRead}
 use Rattle.network_files.specs.declared.draft.LinesRead.{LinesRead}
+use Rattle.network_files.specs.declared.closures.ClosuresRead.{ClosuresRead}
 use Rattle.network_files.specs.declared.draft.Draft.{Draft}
 use Rattle.fields.specs.declared.field.RowRead.{RowRead}
 use Rattle.fields.specs.between.Answers.{padded, row-read}
 use Rattle.network_files.specs.between.Rows.{above, as-bytes}
-use Rattle.network_files.specs.Answers.{stations-read, fault-next, lines-read, before-lines, draft-read}
+use Rattle.network_files.specs.between.Faults.{fault-next}
+use Rattle.network_files.specs.Answers.{stations-read, lines-read, closures-read, before-lines, before-closures, lines-fault, draft-read}
 use Rattle.fields.proofs.EntryLaws.{row-above, padded-at, row-took, row-refusal, made, unmade, entries-many}
 
 -- rows of any ranges
@@ -106,23 +110,24 @@ pub line-padded : (ns : List ℕ) → line-of (padded 12 0 ns) ≡ line-of ns
 unfolding line-of
 line-padded ns = simp (padded-at 12 ns)
 
--- the first line that is not joined, one line more
-pub fault-snoc : (n : Network) (ls : List (Placed LineRow)) (l : Placed LineRow)
-    → fault-next n (l .entry) (l .place) (unjoined-fault (first (λ l. not (ends-listed n (l .entry))) ls)) ≡ unjoined-fault (first (λ l. not (ends-listed n (l .entry))) (ls ++ (l ∷ [])))
-unfolding unjoined-fault fault-next first
-fault-snoc n [] l = go (ends-listed n (l .entry))
-  where
-    go : (b : Bool) → (if b then unjoined-fault none else record { number = 4; place = l .place }) ≡ unjoined-fault (if not b then some l else none)
-    go true = refl
-    go false = refl
-fault-snoc n (x ∷ ls) l = go (ends-listed n (x .entry)) (fault-snoc n ls l)
-  where
-    go : (b : Bool)
-        → fault-next n (l .entry) (l .place) (unjoined-fault (first (λ l. not (ends-listed n (l .entry))) ls)) ≡ unjoined-fault (first (λ l. not (ends-listed n (l .entry))) (ls ++ (l ∷ [])))
-        → fault-next n (l .entry) (l .place) (unjoined-fault (if not b then some x else first (λ l. not (ends-listed n (l .entry))) ls))
-        ≡ unjoined-fault (if not b then some x else first (λ l. not (ends-listed n (l .entry))) (ls ++ (l ∷ [])))
-    go true ih = ih
-    go false ih = refl
+-- the first fault, one entry more
+module _ {A : Type 0} (k : ℕ) (some-number : ¬ (k ≡ 0)) (ok : A → Bool) where
+  abbrev faulty : Placed A → Bool
+  faulty e = not (ok (e .entry))
+
+  pub fault-snoc : (es : List (Placed A)) (e : Placed A) → fault-next k (ok (e .entry)) (e .place) (fault-of k (first faulty es)) ≡ fault-of k (first faulty (es ++ (e ∷ [])))
+  unfolding fault-of fault-next first
+  fault-snoc [] e = go (ok (e .entry))
+    where
+      go : (b : Bool) → (if b then record { number = 0; place = 0 } else record { number = k; place = e .place }) ≡ fault-of {A = A} k (if not b then some e else none)
+      go true = refl
+      go false = refl
+  fault-snoc (x ∷ es) e = go (ok (x .entry)) (fault-snoc es e)
+    where
+      go : (b : Bool) → fault-next k (ok (e .entry)) (e .place) (fault-of k (first faulty es)) ≡ fault-of k (first faulty (es ++ (e ∷ [])))
+          → fault-next k (ok (e .entry)) (e .place) (fault-of k (if not b then some x else first faulty es)) ≡ fault-of k (if not b then some x else first faulty (es ++ (e ∷ [])))
+      go true ih = ih
+      go false ih = rw (ne-eqb k 0 some-number)
 
 -- what the answers of lists say of their outcomes
 
@@ -146,13 +151,13 @@ module _ (o : Outcome (List StationRow)) (r : StationsRead) (e : r ≡ stations-
 module _ (n : Network) (o : Outcome (List (Placed LineRow))) (r : LinesRead) (e : r ≡ lines-read n o) where
   pub lines-value : r .accepted ≡ true
       → (ls : List (Placed LineRow)) × (o ≡ accepted ls (r .place)) × (r .rows ≡ padded 32 blank-line (map (λ l. l .entry) ls))
-      × (r .fault ≡ unjoined-fault (first (λ l. not (ends-listed n (l .entry))) ls))
+      × (r .fault ≡ fault-of 4 (first (λ l. not (ends-listed n (l .entry))) ls))
   unfolding lines-read
   lines-value t = go o e
     where
       go : (o : Outcome (List (Placed LineRow))) → r ≡ lines-read n o
           → (ls : List (Placed LineRow)) × (o ≡ accepted ls (r .place)) × (r .rows ≡ padded 32 blank-line (map (λ l. l .entry) ls))
-          × (r .fault ≡ unjoined-fault (first (λ l. not (ends-listed n (l .entry))) ls))
+          × (r .fault ≡ fault-of 4 (first (λ l. not (ends-listed n (l .entry))) ls))
       go (accepted ls next) q =
           (ls, ap (accepted ls) (ap (λ (x : LinesRead). x .place) (sym q)), ap (λ (x : LinesRead). x .rows) q, ap (λ (x : LinesRead). x .fault) q)
       go (refused k p) q = absurd (false≢true (sym (ap (λ (x : LinesRead). x .accepted) q) ∙ t))
@@ -165,33 +170,74 @@ module _ (n : Network) (o : Outcome (List (Placed LineRow))) (r : LinesRead) (e 
       go (accepted ns next) q = absurd (false≢true (sym t ∙ ap (λ (x : LinesRead). x .accepted) q))
       go (refused k p) q = rw q
 
-lines-many : (file : List ℕ) (at m : ℕ) (ls : List (Placed LineRow)) (next : ℕ) → read (lines-format m) file at ≡ accepted ls next → length ls ≡ m
+pub lines-many : (file : List ℕ) (at m : ℕ) (ls : List (Placed LineRow)) (next : ℕ) → read (lines-format m) file at ≡ accepted ls next → length ls ≡ m
 unfolding lines-format
 lines-many file at m ls next o = entries-many line-entry line-floor m (0 ∷ []) file at ls next o
 
--- an accepted draft with this network and the lines' fault
-abbrev pub drafted : Network → LinesRead → Draft
-drafted n r = record { accepted = true; refusal = 0; place = r .place; network = n; fault = r .fault }
+module _ (n : Network) (o : Outcome (List (Placed Closure))) (r : ClosuresRead) (e : r ≡ closures-read n o) where
+  pub closures-value : r .accepted ≡ true
+      → (cs : List (Placed Closure)) × (o ≡ accepted cs (r .place)) × (r .rows ≡ padded 32 blank-closure (map (λ c. c .entry) cs))
+      × (r .unended ≡ fault-of 14 (first (λ c. not (ends-after (c .entry))) cs)) × (r .unlisted ≡ fault-of 4 (first (λ c. not (line-listed n (c .entry .line))) cs))
+  unfolding closures-read
+  closures-value t = go o e
+    where
+      go : (o : Outcome (List (Placed Closure))) → r ≡ closures-read n o
+          → (cs : List (Placed Closure)) × (o ≡ accepted cs (r .place)) × (r .rows ≡ padded 32 blank-closure (map (λ c. c .entry) cs))
+          × (r .unended ≡ fault-of 14 (first (λ c. not (ends-after (c .entry))) cs)) × (r .unlisted ≡ fault-of 4 (first (λ c. not (line-listed n (c .entry .line))) cs))
+      go (accepted cs next) q =
+          (cs, ap (accepted cs) (ap (λ (x : ClosuresRead). x .place) (sym q)), ap (λ (x : ClosuresRead). x .rows) q, ap (λ (x : ClosuresRead). x .unended) q, ap (λ (x : ClosuresRead). x .unlisted) q)
+      go (refused k p) q = absurd (false≢true (sym (ap (λ (x : ClosuresRead). x .accepted) q) ∙ t))
 
--- what is listed up to the lines
-abbrev pub listed-with : List StationRow → ℕ → List (Placed LineRow) → Listed
-listed-with ss h ls = record { stations = ss; headway = h; lines = ls }
+  pub closures-refusal : r .accepted ≡ false → o ≡ refused (r .refusal) (r .place)
+  unfolding closures-read
+  closures-refusal t = go o e
+    where
+      go : (o : Outcome (List (Placed Closure))) → r ≡ closures-read n o → o ≡ refused (r .refusal) (r .place)
+      go (accepted ns next) q = absurd (false≢true (sym t ∙ ap (λ (x : ClosuresRead). x .accepted) q))
+      go (refused k p) q = rw q
 
-module _ (ss : List StationRow) (h m : ℕ) (known : Network) (r : LinesRead) (file : List ℕ) (at : ℕ) (e : known ≡ before-lines ss h) (q : r ≡ lines-read known (read (lines-format m) file at)) (t : r .accepted ≡ true) where
-  -- lines fault alike whether lines are known yet or not: only stations are asked for
-  fault-behind : (ls : List (Placed LineRow)) → unjoined-fault (first (λ l. not (ends-listed (before-lines ss h) (l .entry))) ls) ≡ network-fault (listed-with ss h ls)
-  unfolding before-lines network-with rows-listed network-of network-fault unjoined ends-listed listed stations-of station-rows
-  fault-behind ls = refl
+pub closures-many : (file : List ℕ) (at m : ℕ) (cs : List (Placed Closure)) (next : ℕ) → read (closures-format m) file at ≡ accepted cs next → length cs ≡ m
+unfolding closures-format
+closures-many file at m cs next o = entries-many closure-entry closure-floor m (0 ∷ 0 ∷ []) file at cs next o
 
-  -- the lines put behind the stations and the headway
-  pub lines-drafted : (n : Network) → ((x : Listed) → length (x .lines) ≡ m → r .rows ≡ padded 32 blank-line (map (λ l. l .entry) (x .lines)) → known ≡ before-lines (x .stations) (x .headway) → n ≡ network-of x)
-      → drafted n r ≡ draft-read (read (lines-part ss h m) file at)
-  unfolding lines-part draft-read
-  lines-drafted n made-of =
-      let (ls, o, u, v) = lines-value (before-lines ss h) (read (lines-format m) file at) r (q ∙ ap (λ (n : Network). lines-read n (read (lines-format m) file at)) e) t in
-      let w = made {A = Listed} (λ (ls : List (Placed LineRow)). listed-with ss h ls) (lines-format m) file at ls (r .place) o in
-      let n-is = made-of (listed-with ss h ls) (lines-many file at m ls (r .place) o) u e in
-      ap₂ (λ (n : Network) (f : Fault). record { accepted = true; refusal = 0; place = r .place; network = n; fault = f }) n-is (v ∙ fault-behind ls) ∙ sym (ap draft-read w)
+-- what lines that were read behind the stations say
+pub lines-known : (ss : List StationRow) (h m : ℕ) (known : Network) (r : LinesRead) (file : List ℕ) (at : ℕ) → known ≡ before-lines ss h
+    → r ≡ lines-read known (read (lines-format m) file at) → r .accepted ≡ true
+    → (ls : List (Placed LineRow)) × (read (lines-format m) file at ≡ accepted ls (r .place)) × (r .rows ≡ padded 32 blank-line (map (λ l. l .entry) ls))
+    × (r .fault ≡ fault-of 4 (first (λ l. not (ends-listed (before-lines ss h) (l .entry))) ls))
+lines-known ss h m known r file at e q t =
+    lines-value (before-lines ss h) (read (lines-format m) file at) r (q ∙ ap (λ (n : Network). lines-read n (read (lines-format m) file at)) e) t
+
+-- what is listed up to the closures
+abbrev pub listed-with : List StationRow → ℕ → List (Placed LineRow) → List (Placed Closure) → Listed
+listed-with ss h ls cs = record { stations = ss; headway = h; lines = ls; closures = cs }
+
+-- lines are faulty alike whether lines and closures are known yet or not, and closures alike whether closures are
+module _ (ss : List StationRow) (h : ℕ) (ls : List (Placed LineRow)) (cs : List (Placed Closure)) where
+  lines-alike : lines-fault ss h ls ≡ fault-of 4 (unjoined (listed-with ss h ls cs))
+  unfolding lines-fault before-lines network-with rows-listed network-of unjoined ends-listed listed stations-of station-rows
+  lines-alike = refl
+
+  closures-alike : fault-of 4 (first (λ c. not (line-listed (before-closures ss h ls) (c .entry .line))) cs) ≡ fault-of 4 (unlisted (listed-with ss h ls cs))
+  unfolding before-closures network-with rows-listed network-of unlisted line-listed line-row line-rows
+  closures-alike = refl
+
+-- the closures put behind the stations, the headway and the lines
+module _ (ss : List StationRow) (h : ℕ) (ls : List (Placed LineRow)) (m : ℕ) (known : Network) (r : ClosuresRead) (file : List ℕ) (at : ℕ)
+    (e : known ≡ before-closures ss h ls) (q : r ≡ closures-read known (read (closures-format m) file at)) (t : r .accepted ≡ true) where
+  pub closures-drafted : (n : Network) (f l u : Fault)
+      → ((x : Listed) → length (x .closures) ≡ m → r .rows ≡ padded 32 blank-closure (map (λ c. c .entry) (x .closures)) → known ≡ before-closures (x .stations) (x .headway) (x .lines) → n ≡ network-of x)
+      → l ≡ lines-fault ss h ls → u ≡ or-fault l (r .unlisted) → f ≡ or-fault (r .unended) u
+      → _≡_ {A = Draft} (record { accepted = true; refusal = 0; place = r .place; network = n; fault = f }) (draft-read (read (closures-part ss h ls m) file at))
+  unfolding closures-part draft-read network-fault unended
+  closures-drafted n f l u made-of a b d =
+      let (cs, o, rows, v, w) = closures-value (before-closures ss h ls) (read (closures-format m) file at) r (q ∙ ap (λ (n : Network). closures-read n (read (closures-format m) file at)) e) t in
+      let x = listed-with ss h ls cs in
+      let given = made {A = Listed} (listed-with ss h ls) (closures-format m) file at cs (r .place) o in
+      let n-is = made-of x (closures-many file at m cs (r .place) o) rows e in
+      let u-is = b ∙ ap₂ or-fault (a ∙ lines-alike ss h ls cs) (w ∙ closures-alike ss h ls cs) in
+      let f-is = d ∙ ap₂ or-fault v u-is in
+      ap₂ (λ (n : Network) (f : Fault). record { accepted = true; refusal = 0; place = r .place; network = n; fault = f }) n-is f-is ∙ sym (ap draft-read given)
 
 pub stations-many : (file : List ℕ) (at k : ℕ) (ss : List StationRow) (next : ℕ) → read (stations-format k) file at ≡ accepted ss next → length ss ≡ k
 unfolding stations-format

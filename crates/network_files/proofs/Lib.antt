@@ -1,3 +1,4 @@
+pub mod ClosureLaws
 pub mod DraftLaws
 pub mod ReadingLaws
 pub mod PlaceLaws

@@ -9,16 +9,16 @@ use mathlib.Core.Option.{Option, none, some}
 use native.Mathlib.Omega.{arith}
 use lib.Dec.{T, ltb, leb, eqb, leb→le}
 use lib.ListN.{length, drop, length-drop}
-use borrow.Author.Tests.{le-leb}
+use borrow.Author.Tests.{ne-eqb, le-leb}
 use Rattle.base.specs.Choice.{if_then_else_}
 use Rattle.base.specs.Lists.{every, first, within}
 use Rattle.base.proofs.Tests.{true-T, every-head, every-tail, every-cons}
 use Rattle.numbers.specs.Numbers.{NumberRead, Value, Refused, group-before, read-groups, read-number}
-use Rattle.network.specs.declared.LineRow.{LineRow}
-use Rattle.network.specs.Networks.{ends-listed}
+use Rattle.network.specs.Networks.{ends-after, ends-listed, line-listed}
 use Rattle.timetable.specs.Formats.{Format, done, field, here, Outcome, accepted, refused, _and-then_, placed-field, field-at, behind, read, ended, entries, Placed, placed}
-use Rattle.timetable.specs.NetworkFile.{Listed, line-fields, line-entry, line-floor, stations-format, lines-format, lines-part, count-part, headway-part, stations-part, network-format}
-use Rattle.timetable.specs.NetworkFile.{network-of, unjoined, unjoined-fault, network-fault, unless-fault}
+use Rattle.timetable.specs.declared.Fault.{Fault}
+use Rattle.timetable.specs.NetworkFile.{line-fields, line-entry, line-floor, closure-fields, closure-entry, closure-floor, Listed, stations-format, lines-format, closures-format, closures-part, closure-count-part, lines-part}
+use Rattle.timetable.specs.NetworkFile.{count-part, headway-part, stations-part, network-format, network-of, unended, unjoined, unlisted, fault-of, or-fault, network-fault, unless-fault}
 use Rattle.timetable.proofs.OutcomeLaws.{behind-taken}
 use Rattle.fields.proofs.EntryLaws.{then-taken, placed-read}
 
@@ -132,33 +132,55 @@ first-passes f g (y ∷ ys) x t e = go (f y) e (first-passes f g ys x (every-tai
     go true q ih = let s : y ≡ x = cc in rw (← s) (every-head g y ys t)
     go false q ih = ih q
 
--- the lines of a network
-lines-within : (file : List ℕ) (x : Listed) (next : ℕ) → read network-format file 0 ≡ accepted x next → Placed-within (length file) (x .lines)
-unfolding read network-format stations-part headway-part count-part lines-part lines-format line-entry
-lines-within file x next e =
+-- the lines and the closures of a network
+entries-placed : (file : List ℕ) (x : Listed) (next : ℕ) → read network-format file 0 ≡ accepted x next → Placed-within (length file) (x .lines) × Placed-within (length file) (x .closures)
+unfolding read network-format stations-part headway-part count-part lines-part closure-count-part closures-part lines-format line-entry closures-format closure-entry
+entries-placed file x next e =
     let (k, p₁, u₁, v₁) = behind-taken (field-at 1 16 file 0) (λ k p. read (stations-part k) file p) x next e in
     let (ss, p₂, u₂, v₂) = then-taken (stations-format k) (λ ss. headway-part ss) file p₁ x next v₁ in
     let (h, p₃, u₃, v₃) = behind-taken (field-at 1 30 file p₂) (λ h p. read (count-part ss h) file p) x next v₂ in
     let (m, p₄, u₄, v₄) = behind-taken (field-at 0 32 file p₃) (λ m p. read (lines-part ss h m) file p) x next v₃ in
-    let (ls, p₅, u₅, v₅) = then-taken (lines-format m) (λ ls. done (record { stations = ss; headway = h; lines = ls })) file p₄ x next v₄ in
+    let (ls, p₅, u₅, v₅) = then-taken (lines-format m) (λ ls. closure-count-part ss h ls) file p₄ x next v₄ in
+    let (i, p₆, u₆, v₆) = behind-taken (field-at 0 32 file p₅) (λ i p. read (closures-part ss h ls i) file p) x next v₅ in
+    let (cs, p₇, u₇, v₇) = then-taken (closures-format i) (λ cs. done (record { stations = ss; headway = h; lines = ls; closures = cs })) file p₆ x next v₆ in
     let l₁ = number-within 1 16 file 0 (omega arith) k p₁ u₁ in
     let l₂ = next-within (stations-format k) file p₁ l₁ ss p₂ u₂ in
     let l₃ = number-within 1 30 file p₂ l₂ h p₃ u₃ in
     let l₄ = number-within 0 32 file p₃ l₃ m p₄ u₄ in
-    let z : record { stations = ss; headway = h; lines = ls } ≡ x = cc in
-    rw (← z) (entries-within line-fields line-floor file m (0 ∷ []) p₄ l₄ ls p₅ u₅)
+    let l₅ = next-within (lines-format m) file p₄ l₄ ls p₅ u₅ in
+    let l₆ = number-within 0 32 file p₅ l₅ i p₆ u₆ in
+    let z : record { stations = ss; headway = h; lines = ls; closures = cs } ≡ x = taken-same _ x p₇ next v₇ in (
+      rw (← z) (entries-within line-fields line-floor file m (0 ∷ []) p₄ l₄ ls p₅ u₅),
+      rw (← z) (entries-within closure-fields closure-floor file i (0 ∷ 0 ∷ []) p₆ l₆ cs p₇ u₇),
+    )
 
-unless-within : {A : Type 0} (end : ℕ) (f : Placed LineRow → Bool) (ls : List (Placed LineRow)) (o : Outcome A) → Placed-within end ls → Within end o
-    → Within end (unless-fault (unjoined-fault (first f ls)) o)
-unfolding unless-fault unjoined-fault Within Placed-within
-unless-within end f ls o t h = go (first f ls) refl
+unless-within : {A B : Type 0} (end k : ℕ) → ¬ (k ≡ 0) → (f : Placed B → Bool) (es : List (Placed B)) (o : Outcome A) → Placed-within end es → Within end o
+    → Within end (unless-fault (fault-of k (first f es)) o)
+unfolding unless-fault fault-of Within Placed-within
+unless-within {A} {B} end k d f es o t h = go (first f es) refl
   where
-    go : (l : Option (Placed LineRow)) → first f ls ≡ l → Within end (unless-fault (unjoined-fault l) o)
-    go none e = h
-    go (some l) e = (λ z. omega (arith, z), leb→le (l .place) end (first-passes f (λ p. leb (p .place) end) ls l t e))
+    go : (e : Option (Placed B)) → first f es ≡ e → Within end (unless-fault (fault-of k e) o)
+    go none q = h
+    go (some e) q = rw (ne-eqb k 0 d) (d, leb→le (e .place) end (first-passes f (λ p. leb (p .place) end) es e t q))
+
+-- the one fault, and then the other
+unless-or : {A : Type 0} (f later : Fault) (o : Outcome A) → unless-fault (or-fault f later) o ≡ unless-fault f (unless-fault later o)
+unfolding unless-fault or-fault
+unless-or f later o = go (eqb (f .number) 0) refl
+  where
+    go : (b : Bool) → eqb (f .number) 0 ≡ b
+        → (if eqb ((if b then later else f) .number) 0 then o else refused ((if b then later else f) .number) ((if b then later else f) .place))
+        ≡ (if b then (if eqb (later .number) 0 then o else refused (later .number) (later .place)) else refused (f .number) (f .place))
+    go true e = refl
+    go false e = rw e
 
 -- what only the whole network shows, found behind its reading
 pub network-within : {A : Type 0} (file : List ℕ) (x : Listed) (next : ℕ) → read network-format file 0 ≡ accepted x next → (o : Outcome A) → Within (length file) o
     → Within (length file) (unless-fault (network-fault x) o)
-unfolding network-fault unjoined
-network-within file x next e o h = unless-within (length file) (λ l. not (ends-listed (network-of x) (l .entry))) (x .lines) o (lines-within file x next e) h
+unfolding network-fault unended unjoined unlisted
+network-within file x next e o h =
+    let (ls, cs) = entries-placed file x next e in
+    let c = unless-within (length file) 4 (λ z. omega (arith, z)) (λ c. not (line-listed (network-of x) (c .entry .line))) (x .closures) o cs h in
+    let l = unless-within (length file) 4 (λ z. omega (arith, z)) (λ l. not (ends-listed (network-of x) (l .entry))) (x .lines) _ ls c in
+    let u = unless-within (length file) 14 (λ z. omega (arith, z)) (λ c. not (ends-after (c .entry))) (x .closures) _ cs (subst (Within (length file)) (sym (unless-or (fault-of 4 (unjoined x)) (fault-of 4 (unlisted x)) o)) l) in
+    subst (Within (length file)) (sym (unless-or (fault-of 14 (unended x)) _ o)) u

@@ -2,23 +2,26 @@
 // file comes before that.
 ghost use mathlib.Core.Path.{_≡_};
 ghost use mathlib.Core.List.{List, [], _∷_, map};
-ghost use mathlib.Core.Option.{none};
 ghost use Prim.Native.Nat.{ℕ, _≤_};
 ghost use lib.ListN.{length};
-ghost use Rattle.network.specs.Networks.{blank-station, blank-line, ends-listed};
-ghost use Rattle.timetable.specs.Formats.{refused, read};
+ghost use Rattle.network.specs.Networks.{blank-station, blank-line, blank-closure, ends-listed};
+ghost use Rattle.timetable.specs.Formats.{refused, read, Placed};
 ghost use Rattle.timetable.specs.NetworkFile.{station-ranges, station-of, station-entry, stations-format, line-ranges, line-of, line-fields, lines-format};
-ghost use Rattle.timetable.specs.NetworkFile.{Listed, lines-part, count-part, headway-part, stations-part, network-format, blank-network, network-of, unjoined-fault};
+ghost use Rattle.timetable.specs.NetworkFile.{Listed, closures-part, closure-count-part, lines-part, count-part, headway-part, stations-part, network-format, blank-network, network-of};
 ghost use Rattle.network.specs.declared.StationRow.{StationRow};
+ghost use Rattle.network.specs.declared.LineRow.{LineRow};
 ghost use Rattle.fields.specs.between.Answers.{padded, ranges-of};
 ghost use Rattle.network_files.specs.between.Rows.{above, as-bytes};
-ghost use Rattle.network_files.specs.Answers.{station-outcome, stations-read, line-outcome, fault-next, lines-read, before-lines, draft-read};
+ghost use Rattle.network_files.specs.Answers.{station-outcome, stations-read, line-outcome, lines-read, before-lines, before-closures, lines-fault, draft-read};
+use crate::closures;
+use crate::faults;
 use fields::field::FieldRead;
 use fields::field::Span;
 use fields::field::Spans;
 use fields::field::field;
 use fields::field::narrow;
 use fields::field::row;
+use network::Closure;
 use network::LineRow;
 use network::Network;
 use network::StationRow;
@@ -96,15 +99,8 @@ pub fn blank_network() -> Network
         headway: 0,
         linecount: 0,
         lines: [empty_line(); 32],
-    }
-}
-
-fn no_fault() -> Fault
-    ensures { λ r. ⌜ r ≡ unjoined-fault none ⌝ }
-{
-    Fault {
-        number: 0,
-        place: 0,
+        closurecount: 0,
+        closures: [closures::empty_closure(); 32],
     }
 }
 
@@ -258,21 +254,6 @@ fn joined(known: Network, row: LineRow) -> bool
     false
 }
 
-fn next_fault(known: Network, row: LineRow, at: usize, fault: Fault) -> Fault
-    ensures { λ r. ⌜ r ≡ fault-next known row at fault ⌝ }
-{
-    if fault.number != 0 {
-        return fault;
-    }
-    if joined(known, row) {
-        return fault;
-    }
-    Fault {
-        number: 4,
-        place: at,
-    }
-}
-
 fn refused_lines(known: Network, refusal: u8, place: usize) -> LinesRead
     ensures { λ r. ⌜ r ≡ lines-read known (refused refusal place) ⌝ }
 {
@@ -281,7 +262,7 @@ fn refused_lines(known: Network, refusal: u8, place: usize) -> LinesRead
         refusal: refusal,
         place: place,
         rows: [empty_line(); 32],
-        fault: no_fault(),
+        fault: faults::no_fault(),
     }
 }
 
@@ -292,7 +273,7 @@ fn lines(file: &[u8], at: usize, count: u8, known: Network) -> LinesRead
 {
     let n = count as usize;
     let mut rows: [LineRow; 32] = [empty_line(); 32];
-    let mut fault = no_fault();
+    let mut fault = faults::no_fault();
     let mut place = at;
     let mut before: u8 = 0;
     let mut i: usize = 0;
@@ -304,7 +285,7 @@ fn lines(file: &[u8], at: usize, count: u8, known: Network) -> LinesRead
             }
             LineRead::Row(row, next) => {
                 rows[i] = row;
-                fault = next_fault(known, row, place, fault);
+                fault = faults::next_fault(4, joined(known, row), place, fault);
                 before = row.line.0;
                 place = next;
             }
@@ -328,12 +309,12 @@ fn refused_draft(refusal: u8, place: usize) -> Draft
         refusal: refusal,
         place: place,
         network: blank_network(),
-        fault: no_fault(),
+        fault: faults::no_fault(),
     }
 }
 
-// A network with these stations and nothing else, with this headway, or with these lines: what stands behind a part is
-// as it was.
+// A network with these stations and nothing else, with this headway, with these lines, or with these closures: what
+// stands behind a part is as it was.
 fn with_stations(count: u8, rows: [StationRow; 16]) -> Network
     ensures { λ r. ⌜ ((ss : List StationRow) → length ss ≡ count → rows ≡ padded 16 blank-station ss → r ≡ before-lines ss 0) ⌝ }
 {
@@ -352,12 +333,52 @@ fn with_headway(known: Network, headway: u8) -> Network
 }
 
 fn with_lines(known: Network, count: u8, rows: [LineRow; 32]) -> Network
-    ensures { λ r. ⌜ ((x : Listed) → length (x .lines) ≡ count → rows ≡ padded 32 blank-line (map (λ l. l .entry) (x .lines)) → known ≡ before-lines (x .stations) (x .headway) → r ≡ network-of x) ⌝ }
+    ensures { λ r. ⌜ ((ss : List StationRow) (h : ℕ) (ls : List (Placed LineRow)) → length ls ≡ count → rows ≡ padded 32 blank-line (map (λ l. l .entry) ls) → known ≡ before-lines ss h → r ≡ before-closures ss h ls) ⌝ }
 {
     let mut network = known;
     network.linecount = count;
     network.lines = rows;
     network
+}
+
+fn with_closures(known: Network, count: u8, rows: [Closure; 32]) -> Network
+    ensures { λ r. ⌜ ((x : Listed) → length (x .closures) ≡ count → rows ≡ padded 32 blank-closure (map (λ c. c .entry) (x .closures)) → known ≡ before-closures (x .stations) (x .headway) (x .lines) → r ≡ network-of x) ⌝ }
+{
+    let mut network = known;
+    network.closurecount = count;
+    network.closures = rows;
+    network
+}
+
+// The closures behind what is known, whose lines have this fault.
+fn closures_draft(file: &[u8], at: usize, count: u8, known: Network, fault: Fault) -> Draft
+    requires { ⌜ count ≤ 32 ⌝ }
+    ensures { λ r. ⌜ ((ss : List StationRow) (h : ℕ) (ls : List (Placed LineRow)) → known ≡ before-closures ss h ls → fault ≡ lines-fault ss h ls → r ≡ draft-read (read (closures-part ss h ls count) (now (file .entry)) at)) ⌝ }
+{
+    let read = closures::closures(file, at, count, known);
+    if read.accepted {
+        let rows = read.rows;
+        let unended = read.unended;
+        let unlisted = read.unlisted;
+        return Draft {
+            accepted: true,
+            refusal: 0,
+            place: read.place,
+            network: with_closures(known, count, rows),
+            fault: faults::earlier(unended, faults::earlier(fault, unlisted)),
+        };
+    }
+    refused_draft(read.refusal, read.place)
+}
+
+fn closure_count_draft(file: &[u8], at: usize, known: Network, fault: Fault) -> Draft
+    ensures { λ r. ⌜ ((ss : List StationRow) (h : ℕ) (ls : List (Placed LineRow)) → known ≡ before-closures ss h ls → fault ≡ lines-fault ss h ls → r ≡ draft-read (read (closure-count-part ss h ls) (now (file .entry)) at)) ⌝ }
+{
+    let count = field(file, at, 0, 32);
+    match count {
+        FieldRead::Refused(k, p) => refused_draft(k, p),
+        FieldRead::Value(n, next) => closures_draft(file, next, narrow(n), known, fault),
+    }
 }
 
 // The lines behind the stations and the headway that are known.
@@ -369,13 +390,7 @@ fn lines_draft(file: &[u8], at: usize, count: u8, known: Network) -> Draft
     if read.accepted {
         let rows = read.rows;
         let fault = read.fault;
-        return Draft {
-            accepted: true,
-            refusal: 0,
-            place: read.place,
-            network: with_lines(known, count, rows),
-            fault: fault,
-        };
+        return closure_count_draft(file, read.place, with_lines(known, count, rows), fault);
     }
     refused_draft(read.refusal, read.place)
 }

@@ -95,7 +95,7 @@ line-floor l = l .entry .line .0 ∷ []
 unfoldable pub closure-floor : Placed Closure → List ℕ
 closure-floor c = c .entry .line .0 ∷ c .entry .start .0 ∷ []
 
--- the first entry is compared with 0, and of closures with none
+-- the first entry is compared with 0
 unfoldable pub stations-format : ℕ → Format (List StationRow)
 stations-format k = entries station-entry station-floor k (0 ∷ [])
 
@@ -103,7 +103,7 @@ unfoldable pub lines-format : ℕ → Format (List (Placed LineRow))
 lines-format k = entries line-entry line-floor k (0 ∷ [])
 
 unfoldable pub closures-format : ℕ → Format (List (Placed Closure))
-closures-format k = entries closure-entry closure-floor k []
+closures-format k = entries closure-entry closure-floor k (0 ∷ 0 ∷ [])
 
 -- station count, stations, headway, line count, lines, closure count, closures: each with what is behind it, given what
 -- stands before it. A part behind the closures takes the place of `done`.

@@ -10,9 +10,12 @@ empty-station-requires c κs = search needs
 empty-line-requires : tie.Need-empty-line-requires
 empty-line-requires c κs = search needs
 
+empty-closure-requires : tie.Need-empty-closure-requires
+empty-closure-requires c κs = search needs
+
 returns : tie.Need-returns
 unfolding blank-network network-with
-returns c = rw (c .before .empty-station .ensures, c .empty-line .ensures)
+returns c = rw (c .before .before .empty-station .ensures, c .before .empty-line .ensures, c .empty-closure .ensures)
 
 pub blank-network-spec : {M : Type 1} → statement M
-blank-network-spec = tie.close (tie.spec empty-station-requires empty-line-requires returns)
+blank-network-spec = tie.close (tie.spec empty-station-requires empty-line-requires empty-closure-requires returns)

@@ -1,7 +1,7 @@
 -- `network_files::draft::lines` meets its contract. The loop's invariant: the rows read stand in the first places, the
 -- list is those rows and then what is left, and the fault is that of the rows read. Assumes nothing.
 use Prim.Native.Nat.{ℕ, suc, _+_, _-_, _<_, _≤_}
-use mathlib.Core.Path.{_≡_, sym, _∙_, ap}
+use mathlib.Core.Path.{_≡_, sym, _∙_, ap, ap₂}
 use mathlib.Core.Bool.{Bool, true, not}
 use mathlib.Core.List.{List, [], _∷_, map}
 use native.Mathlib.Omega.{arith}
@@ -13,11 +13,12 @@ use Rattle.network.specs.declared.LineRow.{LineRow}
 use Rattle.network.specs.declared.Network.{Network}
 use Rattle.network.specs.Networks.{blank-line, ends-listed}
 use Rattle.timetable.specs.Formats.{Outcome, accepted, refused, read, entries, Placed}
-use Rattle.timetable.specs.NetworkFile.{unjoined-fault, line-fields, line-entry, line-floor, lines-format}
+use Rattle.timetable.specs.NetworkFile.{fault-of, line-fields, line-entry, line-floor, lines-format}
 use Rattle.network_files.specs.declared.draft.LinesRead.{LinesRead}
 use Rattle.timetable.specs.declared.Fault.{Fault}
 use Rattle.fields.specs.between.Answers.{padded}
-use Rattle.network_files.specs.Answers.{fault-next, lines-read, line-outcome}
+use Rattle.network_files.specs.Answers.{lines-read, line-outcome}
+use Rattle.network_files.specs.between.Faults.{fault-next}
 use Rattle.fields.proofs.ReadLaws.{prefixed, SoFar, start, turn, stop, over, padded-next, map-snoc, entries-next, entries-stop, entries-over}
 use Rattle.fields.proofs.EntryLaws.{placed-some, placed-none}
 use Rattle.network_files.proofs.DraftLaws.{fault-snoc}
@@ -57,7 +58,7 @@ module _ (file : List ℕ) (n i before place : ℕ) where
 abbrev Inv-loop : tie.InvT-loop
 Inv-loop file at count known n rows₀ fault₀ place₀ before₀ i₀ rows fault place before i =
     (i ≤ n) × ((s : SoFar (left-at file n 0 at) i (left-at file (n - i) before place))
-    × (rows ≡ padded 32 blank-line (rows-of (s .elements))) × (fault ≡ unjoined-fault (first (loose known) (s .elements))))
+    × (rows ≡ padded 32 blank-line (rows-of (s .elements))) × (fault ≡ fault-of 4 (first (loose known) (s .elements))))
 
 abbrev μ-loop : tie.MeasureT-loop
 μ-loop file at count known n rows₀ fault₀ place₀ before₀ i₀ rows fault place before i = n - i
@@ -69,7 +70,7 @@ no-fault-requires : tie.Need-no-fault-requires Inv-loop μ-loop
 no-fault-requires c κs = search needs
 
 loop-holds : tie.Need-loop-holds Inv-loop μ-loop
-unfolding padded start unjoined-fault first
+unfolding padded start fault-of first
 loop-holds c =
     let b = c .before .empty-line .ensures in
     let m : c .before .before .before .args .count - 0 ≡ c .before .before .before .args .count = omega arith in
@@ -103,6 +104,9 @@ mul-rows c = omega (arith, c .before .before .before .before .before .before .be
 array-set-from-rows : tie.Need-array-set-from-rows Inv-loop μ-loop
 array-set-from-rows c = omega (arith, c .before .before .before .before .before .before .before .before .before .pre)
 
+joined-requires : tie.Need-joined-requires Inv-loop μ-loop
+joined-requires c κs = search needs
+
 next-fault-requires : tie.Need-next-fault-requires Inv-loop μ-loop
 next-fault-requires c κs = search needs
 
@@ -115,10 +119,10 @@ loop-less c = omega arith
 loop-again : tie.Need-loop-again Inv-loop μ-loop
 unfolding turn line-outcome
 loop-again c =
-    let s = c .before .before .before .before .before .before .before .before .before .before .args in
-    let l = c .before .before .before .before .before .before .loop in
-    let g = c .before .before .found2 .given in
-    let o = sym (c .before .before .before .before .line-row .ensures) ∙ ap line-outcome (g .1) in
+    let s = c .before .before .before .before .before .before .before .before .before .before .before .args in
+    let l = c .before .before .before .before .before .before .before .loop in
+    let g = c .before .before .before .found2 .given in
+    let o = sym (c .before .before .before .before .before .line-row .ensures) ∙ ap line-outcome (g .1) in
     let q = taken (now (s .file)) (s .count) (l .i) (l .before) (l .place) (omega arith) (g .0 .0) (g .0 .1 .0) o in
     let f = l .inv .1 .0 in
     let x : Placed LineRow = record { place = l .place; entry = g .0 .0 } in (
@@ -126,9 +130,9 @@ loop-again c =
       (
         turn _ _ _ f x _ q,
         (ap (λ (v : List LineRow). set v (l .i) (g .0 .0)) (l .inv .1 .1)
-            ∙ padded-next 32 blank-line (rows-of (f .elements)) (l .i) (g .0 .0) (length-map (f .elements) (λ (y : Placed LineRow). y .entry) ∙ f .many) (omega (arith, c .before .before .before .before .before .before .before .before .before .before .pre))
+            ∙ padded-next 32 blank-line (rows-of (f .elements)) (l .i) (g .0 .0) (length-map (f .elements) (λ (y : Placed LineRow). y .entry) ∙ f .many) (omega (arith, c .before .before .before .before .before .before .before .before .before .before .before .pre))
             ∙ ap (padded 32 blank-line) (sym (map-snoc (λ (y : Placed LineRow). y .entry) (f .elements) x))),
-        (c .next-fault .ensures ∙ ap (fault-next (s .known) (g .0 .0) (l .place)) (l .inv .1 .2) ∙ fault-snoc (s .known) (f .elements) x),
+        (c .next-fault .ensures ∙ ap₂ (λ (b : Bool) (y : Fault). fault-next 4 b (l .place) y) (c .before .joined .ensures) (l .inv .1 .2) ∙ fault-snoc 4 (λ z. omega (arith, z)) (ends-listed (s .known)) (f .elements) x),
       ),
     )
 
@@ -140,12 +144,12 @@ returns-2 c =
     let f = l .inv .1 .0 in
     let q = ended (now (s .file)) (s .count) (l .i) (l .before) (l .place) (omega arith) in
     sym (ap (lines-read (s .known)) (over _ _ _ f (l .place) q)
-    ∙ ap (λ (v : List LineRow). lines-done (l .place) v (unjoined-fault (first (loose (s .known)) (f .elements)))) (sym (l .inv .1 .1))
+    ∙ ap (λ (v : List LineRow). lines-done (l .place) v (fault-of 4 (first (loose (s .known)) (f .elements)))) (sym (l .inv .1 .1))
     ∙ ap (lines-done (l .place) (l .rows)) (sym (l .inv .1 .2)))
 
 pub lines-spec : {M : Type 1} → statement M
 lines-spec =
     tie.close
     (tie.spec Inv-loop μ-loop empty-line-requires no-fault-requires loop-holds line-row-requires enum-known-found
-    refused-lines-requires returns enum-known-found-2 mul-rows array-set-from-rows next-fault-requires add-i loop-less
+    refused-lines-requires returns enum-known-found-2 mul-rows array-set-from-rows joined-requires next-fault-requires add-i loop-less
     loop-again returns-2)

@@ -1,15 +1,12 @@
 -- `network_files::draft::lines_draft` meets its contract: the lines decide, and accepted ones stand behind what is
 -- known. Assumes nothing.
 use mathlib.Core.Path.{sym, _∙_, ap}
-use mathlib.Core.List.{List}
 use denote.Ref.{now}
 use borrow.Author.Needs.{needs}
-use Rattle.network.specs.declared.LineRow.{LineRow}
-use Rattle.timetable.specs.NetworkFile.{Listed, lines-format, lines-part}
-use Rattle.timetable.specs.Formats.{Placed}
-use Rattle.network_files.specs.Answers.{draft-read}
-use Rattle.fields.proofs.EntryLaws.{unmade}
-use Rattle.network_files.proofs.DraftLaws.{lines-refusal, listed-with, lines-drafted}
+use Rattle.timetable.specs.NetworkFile.{lines-format, lines-part, closure-count-part}
+use Rattle.network_files.specs.Answers.{draft-read, lines-fault}
+use Rattle.fields.proofs.EntryLaws.{then-on, then-stop}
+use Rattle.network_files.proofs.DraftLaws.{lines-refusal, lines-known, lines-many}
 use Rattle.network_files.proofs.draft.lines_draft.Statement.{statement}
 use Rattle.network_files.proofs.draft.lines_draft.Tie as tie
 
@@ -19,12 +16,18 @@ lines-requires c κs = c .before .pre
 with-lines-requires : tie.Need-with-lines-requires
 with-lines-requires c κs = search needs
 
+closure-count-draft-requires : tie.Need-closure-count-draft-requires
+closure-count-draft-requires c κs = search needs
+
 returns : tie.Need-returns
+unfolding lines-part lines-fault
 returns c ss h k =
-    let s = c .before .before .before .before .before .before .args in
-    let r = c .before .before .before .before .lines in
-    let w = c .with-lines in
-    lines-drafted ss h (s .count) (s .known) (r .result) (now (s .file)) (s .at) k (r .ensures) (c .before .before .before .if1 .taken) (w .result) (w .ensures)
+    let s = c .before .before .before .before .before .before .before .args in
+    let r = c .before .before .before .before .before .lines in
+    let (ls, o, u, v) = lines-known ss h (s .count) (s .known) (r .result) (now (s .file)) (s .at) k (r .ensures) (c .before .before .before .before .if1 .taken) in
+    let m = lines-many (now (s .file)) (s .at) (s .count) ls (r .result .place) o in
+    c .closure-count-draft .ensures ss h ls (c .before .with-lines .ensures ss h ls m u k) v
+    ∙ sym (ap draft-read (then-on (lines-format (s .count)) (λ ls. closure-count-part ss h ls) (now (s .file)) (s .at) ls (r .result .place) o))
 
 refused-draft-requires : tie.Need-refused-draft-requires
 refused-draft-requires c κs = search needs
@@ -35,8 +38,7 @@ returns-2 c ss h k =
     let s = c .before .before .before .before .args in
     let r = c .before .before .lines in
     let o = lines-refusal (s .known) _ (r .result) (r .ensures) (c .before .if1 .left) in
-    let u = unmade {A = Listed} (λ (ls : List (Placed LineRow)). listed-with ss h ls) (lines-format (s .count)) (now (s .file)) (s .at) (r .result .refusal) (r .result .place) o in
-    c .refused-draft .ensures ∙ sym (ap draft-read u)
+    c .refused-draft .ensures ∙ sym (ap draft-read (then-stop (lines-format (s .count)) (λ ls. closure-count-part ss h ls) (now (s .file)) (s .at) (r .result .refusal) (r .result .place) o))
 
 pub lines-draft-spec : {M : Type 1} → statement M
-lines-draft-spec = tie.close (tie.spec lines-requires with-lines-requires returns refused-draft-requires returns-2)
+lines-draft-spec = tie.close (tie.spec lines-requires with-lines-requires closure-count-draft-requires returns refused-draft-requires returns-2)
