@@ -1,12 +1,13 @@
 -- Networks and the input of `shift` read back, and only the written file reads to them. A network whose unused rows are
 -- blank is that of its rows in use; the rows that walk the format are those of a good network once every line joins two
 -- listed stations. Assumes nothing.
-use Prim.Native.Nat.{ℕ, _+_, _-_, _≤_}
+use Prim.Native.Nat.{ℕ, _+_, _-_, _*_, _≤_}
 use mathlib.Core.Path.{_≡_, sym, _∙_, ap, ap₂, subst}
-use mathlib.Core.List.{List, _∷_, _++_, map, flatMap}
+use mathlib.Core.Bool.{Bool, not}
+use mathlib.Core.List.{List, _++_, map}
 use mathlib.Core.Option.{none}
 use native.Mathlib.Omega.{arith}
-use lib.Dec.{T, ltb, leb→le, lt→ltb}
+use lib.Dec.{T, ltb, leb, leb→le, lt→ltb}
 use lib.ListN.{length, replicate}
 use lib.Seq.{take-append-seam}
 use Rattle.base.specs.Lists.{every, first, rising}
@@ -14,21 +15,21 @@ use Rattle.base.proofs.Tests.{T-true, both, parts, every-weaker, every-map}
 use Rattle.base.proofs.Sorted.{smaller, rising-map, two-map}
 use Rattle.numbers.specs.Numbers.{width}
 use Rattle.railway.specs.Edits.{edit-ok}
-use Rattle.network.specs.Networks.{blank-station, blank-line, station-rows, line-rows, stations-of, station-row-ok, line-row-ok, stations-rise, lines-rise, stations-in-range, lines-in-range}
-use Rattle.network.specs.Networks.{network-in-range, ends-listed, lines-joined, network-refusal}
+use Rattle.network.specs.Networks.{blank-station, blank-line, blank-closure, station-rows, line-rows, closure-rows, stations-of, station-row-ok, line-row-ok, closure-ok, closure-number, stations-rise, lines-rise, closures-rise}
+use Rattle.network.specs.Networks.{stations-in-range, lines-in-range, closures-in-range, network-in-range, ends-listed, lines-joined, ends-after, closures-end, line-listed, closures-listed, network-refusal}
 use Rattle.network.proofs.NetworkLaws.{NetworkFacts, network-facts}
 use Rattle.timetable.specs.Formats.{Outcome, accepted, behind, _and-then_, done, read-file, bytes-of, Placed}
-use Rattle.timetable.specs.NetworkFile.{station-numbers, line-numbers, Rows, Listed, network-format, network-with, rows-in, rows-listed, network-of, unjoined, network-fault}
+use Rattle.timetable.specs.NetworkFile.{line-numbers, closure-numbers, Rows, Listed, network-format, network-with, rows-in, rows-listed, network-of, unended, unjoined, unlisted, network-fault}
 use Rattle.timetable.specs.NetworkFile.{unless-fault, read-network-as, read-network, network-numbers}
 use Rattle.timetable.specs.EditsFile.{edits-format, edits-numbers, Shift, Input, shift-format, read-shift}
-use Rattle.roundtrips.specs.Types.{Edit, StationRow, LineRow, Network}
+use Rattle.roundtrips.specs.Types.{Edit, LineRow, Closure, Network}
 use Rattle.roundtrips.proofs.Walks.{walks}
 use Rattle.roundtrips.specs.RoundTrips.{UnusedBlank, NetworkRead, NetworkRoundTrip, ShiftRead, ShiftRoundTrip}
 use Rattle.roundtrips.proofs.ListLaws.{first-none, none-first}
-use Rattle.timetable.proofs.OutcomeLaws.{behind-taken, fault-free, fault-taken, joined-free, free-joined}
+use Rattle.timetable.proofs.OutcomeLaws.{behind-taken, fault-free, fault-taken, Faultless, fault-none, none-fault}
 use Rattle.roundtrips.proofs.WalkLaws.{span, walks-then, then-walks, walks-made, made-walks, file-read, file-walks}
 use Rattle.roundtrips.proofs.RowsWalked.{in-test, test-in, most-test, test-most, values-entries}
-use Rattle.roundtrips.proofs.NetworkWalks.{station-number, line-number, rows-of, rows-numbers, RowsIn, lines-at, listed-at, walks-network, network-walks}
+use Rattle.roundtrips.proofs.NetworkWalks.{station-number, line-number, rows-of, rows-numbers, closures-of, RowsIn, lines-at, closures-at, listed-at, walks-network, network-walks}
 use Rattle.roundtrips.proofs.EditTrips.{walks-edits-format, edits-format-walks}
 
 -- the rows of a network made of rows
@@ -41,17 +42,23 @@ module _ (x : Rows) where
   unfolding line-rows network-with
   rows-lines = take-append-seam (x .lines) (replicate (32 - length (x .lines)) blank-line)
 
+  pub rows-closures : closure-rows (network-with x) ≡ x .closures
+  unfolding closure-rows network-with
+  rows-closures = take-append-seam (x .closures) (replicate (32 - length (x .closures)) blank-closure)
+
+  pub rows-back : rows-in (network-with x) ≡ x
+  unfolding rows-in network-with
+  rows-back = rw (rows-stations, rows-lines, rows-closures)
+
   pub numbers-with : network-numbers (network-with x) ≡ rows-numbers x
   unfolding network-numbers network-with
-  numbers-with =
-      ap₂ (λ (a : List StationRow) (b : List LineRow). length (x .stations) ∷ (flatMap station-numbers a ++ (x .headway ∷ length (x .lines) ∷ flatMap line-numbers b))) rows-stations rows-lines
+  numbers-with = rw (rows-stations, rows-lines, rows-closures)
 
   pub blank-with : UnusedBlank (network-with x)
-  unfolding network-with rows-in
-  blank-with = ap₂ (λ (a : List StationRow) (b : List LineRow). network-with (record { stations = a; headway = x .headway; lines = b })) rows-stations rows-lines
+  blank-with = ap network-with rows-back
 
   pub range-with : RowsIn x → T (network-in-range (network-with x))
-  unfolding network-in-range stations-in-range lines-in-range stations-rise lines-rise network-with
+  unfolding network-in-range stations-in-range lines-in-range closures-in-range stations-rise lines-rise closures-rise network-with
   range-with r =
       let s₁ = in-test 1 16 (length (x .stations)) (r .station-count) in
       let s₂ : T (every station-row-ok (station-rows (network-with x))) = rw rows-stations (r .stations .good) in
@@ -60,30 +67,42 @@ module _ (x : Rows) where
       let l₁ = most-test 32 (length (x .lines)) (r .line-count) in
       let l₂ : T (every line-row-ok (line-rows (network-with x))) = rw rows-lines (r .lines .good) in
       let l₃ : T (rising (map (λ r. r .line .0) (line-rows (network-with x)))) = rw (rows-lines, rising-map line-number (x .lines)) (r .lines .order) in
+      let c₁ = most-test 32 (length (x .closures)) (r .closure-count) in
+      let c₂ : T (every closure-ok (closure-rows (network-with x))) = rw rows-closures (r .closures .good) in
+      let c₃ : T (rising (map closure-number (closure-rows (network-with x)))) = rw (rows-closures, rising-map closure-number (x .closures)) (r .closures .order) in
       search both
 
--- a listing whose lines are joined is a good network's
+-- a listing without a fault is a good network's
 
-refusal-none : (n : Network) → T (network-in-range n) → T (lines-joined n) → network-refusal n ≡ 0
+refusal-none : (n : Network) → T (network-in-range n) → T (closures-end n) → T (lines-joined n) → T (closures-listed n) → network-refusal n ≡ 0
 unfolding network-refusal
-refusal-none n r j = rw (T-true (network-in-range n) r, T-true (lines-joined n) j)
+refusal-none n r e j l = rw (T-true (network-in-range n) r, T-true (closures-end n) e, T-true (lines-joined n) j, T-true (closures-listed n) l)
+
+-- every entry passes just if the first that does not is none
+module _ {A : Type 0} (ok : A → Bool) (es : List (Placed A)) where
+  passing : first (λ e. not (ok (e .entry))) es ≡ none → T (every ok (map (λ (e : Placed A). e .entry) es))
+  passing e = rw (every-map ok (λ (e : Placed A). e .entry) es) (first-none (λ (e : Placed A). ok (e .entry)) es e)
+
+  none-fails : T (every ok (map (λ (e : Placed A). e .entry) es)) → first (λ e. not (ok (e .entry))) es ≡ none
+  none-fails t = none-first (λ (e : Placed A). ok (e .entry)) es (rw (every-map ok (λ (e : Placed A). e .entry) es) at t)
 
 module _ (x : Listed) where
-  pub joined : unjoined x ≡ none → T (lines-joined (network-of x))
+  joined : unjoined x ≡ none → T (lines-joined (network-of x))
   unfolding unjoined lines-joined network-of rows-listed
-  joined e =
-      rw (rows-lines (rows-listed x), every-map (ends-listed (network-of x)) (λ (l : Placed LineRow). l .entry) (x .lines))
-      (first-none (λ (l : Placed LineRow). ends-listed (network-of x) (l .entry)) (x .lines) e)
+  joined e = rw (rows-lines (rows-listed x)) (passing (ends-listed (network-of x)) (x .lines) e)
 
-  pub joined-none : T (every (ends-listed (network-of x)) (rows-of (x .lines))) → unjoined x ≡ none
-  unfolding unjoined
-  joined-none t =
-      none-first (λ (l : Placed LineRow). ends-listed (network-of x) (l .entry)) (x .lines)
-      (rw (every-map (ends-listed (network-of x)) (λ (l : Placed LineRow). l .entry) (x .lines)) at t)
+  ended : unended x ≡ none → T (closures-end (network-of x))
+  unfolding unended closures-end network-of rows-listed
+  ended e = rw (rows-closures (rows-listed x)) (passing ends-after (x .closures) e)
 
-  pub listed-good : RowsIn (rows-listed x) → unjoined x ≡ none → network-refusal (network-of x) ≡ 0
+  known : unlisted x ≡ none → T (closures-listed (network-of x))
+  unfolding unlisted closures-listed network-of rows-listed
+  known e = rw (rows-closures (rows-listed x)) (passing (λ c. line-listed (network-of x) (c .line)) (x .closures) e)
+
+  pub listed-good : RowsIn (rows-listed x) → Faultless x → network-refusal (network-of x) ≡ 0
   unfolding network-of
-  listed-good r e = refusal-none (network-of x) (range-with (rows-listed x) r) (joined e)
+  listed-good r f =
+      refusal-none (network-of x) (range-with (rows-listed x) r) (ended (f .ended)) (joined (f .joined)) (known (f .listed))
 
   pub of-numbers : network-numbers (network-of x) ≡ rows-numbers (rows-listed x)
   unfolding network-of
@@ -94,6 +113,10 @@ module _ (x : Listed) where
   of-blank = blank-with (rows-listed x)
 
 -- the rows of a good network
+
+closure-above : (c : Closure) → T (closure-ok c) → T (ltb (closure-number blank-closure) (closure-number c))
+unfolding closure-ok closure-number
+closure-above c t = let l : T (leb 1 (c .line .0)) = search parts in lt→ltb 0 (2880 * c .line .0 + c .start .0) (omega (arith, leb→le 1 (c .line .0) l))
 
 module _ (n : Network) (g : network-refusal n ≡ 0) (u : UnusedBlank n) where
   facts : NetworkFacts n
@@ -106,6 +129,10 @@ module _ (n : Network) (g : network-refusal n ≡ 0) (u : UnusedBlank n) where
   line-many : length (line-rows n) ≡ n .linecount
   unfolding network-with rows-in
   line-many = ap (λ (m : Network). m .linecount) u
+
+  closure-many : length (closure-rows n) ≡ n .closurecount
+  unfolding network-with rows-in
+  closure-many = ap (λ (m : Network). m .closurecount) u
 
   pub rows-good : RowsIn (rows-in n)
   unfolding stations-of station-row-ok line-row-ok rows-in
@@ -125,6 +152,12 @@ module _ (n : Network) (g : network-refusal n ≡ 0) (u : UnusedBlank n) where
           (λ r t. lt→ltb 0 (line-number r) (leb→le 1 (line-number r) (search parts))) (line-rows n) (facts .line-rows-ok);
       order = facts .lines-rise;
     };
+    closure-count = rw closure-many (test-most 32 (n .closurecount) (omega arith) (facts .closure-count));
+    closures = record {
+      good = facts .closures-ok;
+      above = every-weaker closure-ok (λ c. ltb (closure-number blank-closure) (closure-number c)) closure-above (closure-rows n) (facts .closures-ok);
+      order = facts .closures-rise;
+    };
   }
 
   pub rows-written : network-numbers n ≡ rows-numbers (rows-in n)
@@ -134,19 +167,33 @@ module _ (n : Network) (g : network-refusal n ≡ 0) (u : UnusedBlank n) where
   abbrev pub listing : ℕ → Listed
   listing p = listed-at p (rows-in n)
 
-  listing-lines : (p : ℕ) → rows-of (listing p .lines) ≡ line-rows n
-  unfolding rows-in
-  listing-lines p = values-entries line-numbers (lines-at p (rows-in n)) (line-rows n)
+  listing-rows : (p : ℕ) → rows-listed (listing p) ≡ rows-in n
+  unfolding rows-listed rows-in
+  listing-rows p =
+      ap₂ (λ (ls : List LineRow) (cs : List Closure). record { stations = station-rows n; headway = n .headway; lines = ls; closures = cs })
+      (values-entries line-numbers (lines-at p (rows-in n)) (line-rows n)) (values-entries closure-numbers (closures-at p (rows-in n)) (closure-rows n))
 
   pub listing-network : (p : ℕ) → network-of (listing p) ≡ n
-  unfolding network-of rows-listed rows-in
-  listing-network p = ap (λ (ls : List LineRow). network-with (record { stations = station-rows n; headway = n .headway; lines = ls })) (listing-lines p) ∙ u
+  unfolding network-of
+  listing-network p = ap network-with (listing-rows p) ∙ u
 
-  pub listing-joined : (p : ℕ) → unjoined (listing p) ≡ none
-  listing-joined p =
-      joined-none (listing p)
-      (subst (λ (ls : List LineRow). T (every (ends-listed (network-of (listing p))) ls)) (sym (listing-lines p))
-      (subst (λ (m : Network). T (every (ends-listed m) (line-rows n))) (sym (listing-network p)) (facts .ends-listed)))
+  -- what every row of the network passes, every row of the listing does
+  module _ (p : ℕ) where
+    listed-lines : rows-of (listing p .lines) ≡ line-rows n
+    unfolding rows-listed rows-in
+    listed-lines = ap (λ (x : Rows). x .lines) (listing-rows p)
+
+    listed-closures : closures-of (listing p .closures) ≡ closure-rows n
+    unfolding rows-listed rows-in
+    listed-closures = ap (λ (x : Rows). x .closures) (listing-rows p)
+
+    pub listing-faultless : Faultless (listing p)
+    unfolding unended unjoined unlisted
+    listing-faultless = record {
+      ended = none-fails ends-after (listing p .closures) (rw listed-closures (facts .closures-end));
+      joined = none-fails (ends-listed (network-of (listing p))) (listing p .lines) (rw (listed-lines, listing-network p) (facts .ends-listed));
+      listed = none-fails (λ c. line-listed (network-of (listing p)) (c .line)) (listing p .closures) (rw (listed-closures, listing-network p) (facts .closures-listed));
+    }
 
   pub walks-listing : (p : ℕ) → walks network-format p (network-numbers n) (listing p)
   walks-listing p = rw rows-written (walks-network p (rows-in n) rows-good)
@@ -159,7 +206,7 @@ network-trip = record {
   back = λ n g u.
       let e = file-read network-format (network-numbers n) (listing n g u 0) (walks-listing n g u 0) in
       ap (λ (o : Outcome Listed). behind o (λ x next. unless-fault (network-fault x) (accepted (network-of x) next))) e
-      ∙ fault-free (network-fault (listing n g u 0)) (accepted (network-of (listing n g u 0)) (span (network-numbers n))) (joined-free (listing n g u 0) (listing-joined n g u 0))
+      ∙ fault-free (network-fault (listing n g u 0)) (accepted (network-of (listing n g u 0)) (span (network-numbers n))) (fault-none (listing n g u 0) (listing-faultless n g u 0))
       ∙ ap (λ (m : Network). accepted m (span (network-numbers n))) (listing-network n g u 0);
   only = λ file n next s e.
       let (x, p, r, v) = behind-taken (read-file network-format file) (λ x next. unless-fault (network-fault x) (accepted (network-of x) next)) n next e in
@@ -171,7 +218,7 @@ network-trip = record {
       subst (λ (n : Network). NetworkRead file n next) y (record {
         file-is = w .bytes ∙ ap bytes-of (k ∙ sym (of-numbers x));
         end = sym z ∙ w .end ∙ ap length (sym (w .bytes));
-        good = listed-good x i (free-joined x j);
+        good = listed-good x i (none-fault x j);
         unused = of-blank x;
       });
 }
@@ -202,7 +249,7 @@ shift-trip = record {
       let e = file-read shift-format (network-numbers n ++ edits-numbers es) v (walks-shift n g u es h t) in
       let z : 0 + span (network-numbers n) + width (length es) ≡ span (network-numbers n) + width (length es) = omega arith in
       ap (λ (o : Outcome Input). behind o (λ x next. unless-fault (network-fault (x .listed)) (accepted (shift-of x) next))) e
-      ∙ fault-free (network-fault (listing n g u 0)) (accepted (shift-of v) (span (network-numbers n ++ edits-numbers es))) (joined-free (listing n g u 0) (listing-joined n g u 0))
+      ∙ fault-free (network-fault (listing n g u 0)) (accepted (shift-of v) (span (network-numbers n ++ edits-numbers es))) (fault-none (listing n g u 0) (listing-faultless n g u 0))
       ∙ ap₂ (λ (m : Network) (k : ℕ). accepted (record { network = m; edits = record { place = k; entry = es } }) (span (network-numbers n ++ edits-numbers es))) (listing-network n g u 0) z;
   only = λ file y next s e.
       let (x, p, r, v) = behind-taken (read-file shift-format file) (λ x next. unless-fault (network-fault (x .listed)) (accepted (shift-of x) next)) y next e in
@@ -210,10 +257,10 @@ shift-trip = record {
       let f : shift-of x ≡ y = cc in
       let z : p ≡ next = cc in
       let w = file-walks shift-format file x p s r in
-      subst (λ (y : Shift). ShiftRead file y next) f (taken file x next (w .numbers) (w .walk) (w .bytes) (sym z ∙ w .end) (free-joined (x .listed) j));
+      subst (λ (y : Shift). ShiftRead file y next) f (taken file x next (w .numbers) (w .walk) (w .bytes) (sym z ∙ w .end) (none-fault (x .listed) j));
 }
   where
-    taken : (file : List ℕ) (x : Input) (next : ℕ) (ns : List ℕ) → walks shift-format 0 ns x → file ≡ bytes-of ns → next ≡ span ns → unjoined (x .listed) ≡ none
+    taken : (file : List ℕ) (x : Input) (next : ℕ) (ns : List ℕ) → walks shift-format 0 ns x → file ≡ bytes-of ns → next ≡ span ns → Faultless (x .listed)
         → ShiftRead file (shift-of x) next
     taken file x next ns w b e j =
         let s = then-walks network-format (λ x. edits-format and-then (λ es. done (input x es))) 0 ns x w in
@@ -224,7 +271,7 @@ shift-trip = record {
         subst (λ (x : Input). ShiftRead file (shift-of x) next) q (record {
           file-is = b ∙ ap bytes-of (s .whole ∙ ap₂ _++_ y l);
           end = e ∙ ap length (sym b);
-          good = listed-good (s .value) i (subst (λ (x : Input). unjoined (x .listed) ≡ none) (sym q) j);
+          good = listed-good (s .value) i (subst (λ (x : Input). Faultless (x .listed)) (sym q) j);
           unused = of-blank (s .value);
           few = h;
           edits-good = t;

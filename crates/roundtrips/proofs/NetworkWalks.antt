@@ -1,69 +1,85 @@
--- The network's format, walked: its numbers are the counts, the rows of stations and lines and the headway, each in
--- range, the rows rising by their number. Rows rise if each is above the one before it. Assumes nothing.
-use Prim.Native.Nat.{ℕ, _+_, _<_}
+-- The network's format, walked: its numbers are the counts, the rows of stations, lines and closures and the headway,
+-- each in range, the rows rising by their number. Rows rise if each is above the one before it. Assumes nothing.
+use Prim.Native.Nat.{ℕ, _+_, _*_, _<_, _≤_, max}
 use mathlib.Core.Path.{_≡_, refl, sym, _∙_, ap, ap₂, subst}
-use mathlib.Core.Bool.{Bool}
+use mathlib.Core.Bool.{Bool, true, false}
 use mathlib.Core.List.{List, [], _∷_, _++_, map, flatMap}
 use native.Mathlib.Omega.{arith}
-use lib.Dec.{T, ltb, ltb→lt, lt→ltb}
+use lib.Dec.{T, ltb, leb, eqb, ltb→lt, lt→ltb, leb→le}
+use borrow.Author.Tests.{eqb-true, eqb-false}
 use lib.ListN.{length, drop, length-map}
+use Rattle.base.specs.Choice.{if_then_else_}
 use Rattle.base.specs.Lists.{every, each-two}
-use Rattle.base.proofs.Tests.{every-head, every-tail, every-cons, every-weaker}
+use Rattle.base.proofs.Tests.{parts, every-head, every-tail, every-cons, every-weaker}
 use Rattle.base.proofs.Sorted.{smaller, two-head, two-tail, two-cons}
 use Rattle.numbers.specs.Numbers.{width}
-use Rattle.network.specs.Networks.{station-row-ok, line-row-ok}
+use Rattle.railway.specs.Ranges.{last-minute}
+use Rattle.network.specs.Networks.{blank-station, blank-line, blank-closure, station-row-ok, line-row-ok, closure-ok, closure-number}
 use Rattle.timetable.specs.Formats.{least, floor-after, Placed}
 use Rattle.timetable.specs.NetworkFile.{station-ranges, station-of, station-numbers, station-entry, line-ranges, line-of, line-numbers, line-fields, line-entry}
-use Rattle.timetable.specs.NetworkFile.{Rows, Listed, station-floor, line-floor, stations-format, lines-format, lines-part, count-part, headway-part, stations-part, network-format, rows-listed}
-use Rattle.roundtrips.specs.Types.{StationRow, LineRow}
+use Rattle.timetable.specs.NetworkFile.{closure-ranges, closure-of, closure-numbers, closure-fields, closure-entry, Rows, Listed, station-floor, line-floor, closure-floor, stations-format, lines-format}
+use Rattle.timetable.specs.NetworkFile.{closures-format, closures-part, closure-count-part, lines-part, count-part, headway-part, stations-part, network-format, rows-listed}
+use Rattle.roundtrips.specs.Types.{StationRow, LineRow, Closure}
 use Rattle.roundtrips.proofs.Walks.{InRange, walks}
 use Rattle.roundtrips.proofs.WalkLaws.{span, walks-then, then-walks, walks-made, made-walks}
 use Rattle.roundtrips.proofs.RowsWalked.{Over, over-none, by-index, row-test, Fields, tested-fields, and-assoc, and-true, nought-least, walks-fields, fields-walk}
 use Rattle.roundtrips.proofs.RowsWalked.{Chain, values, Entry, walks-plain, plain-walks, walks-places, places-walk}
 
--- rows that rise by their first number
+-- rows that rise by a number of theirs
 
-module _ {A : Type 0} (number : A → ℕ) (more : A → List ℕ) (ok : A → Bool) where
-  -- in range, and above the floor
-  abbrev pub RowFits : List ℕ → A → Type 0
-  RowFits floor x = T (ok x) × Over floor (number x ∷ more x)
+-- a row is above the floor that another sets just if its number is above the other's; `low` is what that asks of the
+-- other, which may be blank
+pub record Order {A : Type 0} (number : A → ℕ) (floor-by numbers : A → List ℕ) (ok low : A → Bool) : Type 0 where
+  pub lows : (x : A) → T (ok x) → T (low x)
+  pub over : (x y : A) → T (low x) → T (ok y) → number x < number y → Over (floor-by x) (numbers y)
+  pub under : (x y : A) → T (low x) → T (ok y) → Over (floor-by x) (numbers y) → number x < number y
 
-  abbrev pub first-floor : A → List ℕ
-  first-floor x = number x ∷ []
-
-  over-one : (b : ℕ) (x : A) → b < number x → Over (b ∷ []) (number x ∷ more x)
-  unfolding Over least floor-after
-  over-one b x h = (omega arith, over-none (more x))
-
-  one-over : (b : ℕ) (x : A) → Over (b ∷ []) (number x ∷ more x) → b < number x
-  unfolding Over least floor-after
-  one-over b x (h, o) = omega arith
-
-  pub rising-chain : (b : ℕ) (xs : List A) → T (every ok xs) → T (every (λ x. ltb b (number x)) xs) → T (each-two (smaller number) xs) → Chain first-floor RowFits (b ∷ []) xs
-  unfolding Chain
-  rising-chain b [] t a r = tt
-  rising-chain b (x ∷ xs) t a r = (
-    (every-head ok x xs t, over-one b x (ltb→lt b (number x) (every-head (λ x. ltb b (number x)) x xs a))),
-    rising-chain (number x) xs (every-tail ok x xs t) (two-head (smaller number) x xs r) (two-tail (smaller number) x xs r),
-  )
-
-  pub record Rises (b : ℕ) (xs : List A) : Type 0 where
+module _ {A : Type 0} (number : A → ℕ) (ok : A → Bool) where
+  pub record Rises (b : A) (xs : List A) : Type 0 where
     pub good : T (every ok xs)
-    pub above : T (every (λ x. ltb b (number x)) xs)
+    pub above : T (every (λ x. ltb (number b) (number x)) xs)
     pub order : T (each-two (smaller number) xs)
 
-  pub chain-rising : (b : ℕ) (xs : List A) → Chain first-floor RowFits (b ∷ []) xs → Rises b xs
+module _ {A : Type 0} {number : A → ℕ} {floor-by numbers : A → List ℕ} {ok low : A → Bool} (o : Order number floor-by numbers ok low) where
+  -- in range, and above the floor
+  abbrev pub RowFits : List ℕ → A → Type 0
+  RowFits floor x = T (ok x) × Over floor (numbers x)
+
+  pub rising-chain : (b : A) (xs : List A) → T (low b) → Rises number ok b xs → Chain floor-by RowFits (floor-by b) xs
+  unfolding Chain
+  rising-chain b [] l r = tt
+  rising-chain b (x ∷ xs) l r =
+      let good = every-head ok x xs (r .good) in (
+        (good, o .over b x l good (ltb→lt (number b) (number x) (every-head (λ x. ltb (number b) (number x)) x xs (r .above)))),
+        rising-chain x xs (o .lows x good) (record {
+          good = every-tail ok x xs (r .good);
+          above = two-head (smaller number) x xs (r .order);
+          order = two-tail (smaller number) x xs (r .order);
+        }),
+      )
+
+  pub chain-rising : (b : A) (xs : List A) → T (low b) → Chain floor-by RowFits (floor-by b) xs → Rises number ok b xs
   unfolding Chain every each-two
-  chain-rising b [] c = record { good = tt; above = tt; order = tt }
-  chain-rising b (x ∷ xs) ((t, o), c) =
-      let r = chain-rising (number x) xs c in
-      let h : b < number x = one-over b x o in
+  chain-rising b [] l c = record { good = tt; above = tt; order = tt }
+  chain-rising b (x ∷ xs) l ((t, u), c) =
+      let r = chain-rising x xs (o .lows x t) c in
+      let h : number b < number x = o .under b x l t u in
       record {
         good = every-cons ok x xs t (r .good);
-        above = every-cons (λ x. ltb b (number x)) x xs (lt→ltb b (number x) h)
-            (every-weaker (smaller number x) (λ y. ltb b (number y)) (λ y l. lt→ltb b (number y) (omega (arith, ltb→lt (number x) (number y) l))) xs (r .above));
+        above = every-cons (λ x. ltb (number b) (number x)) x xs (lt→ltb (number b) (number x) h)
+            (every-weaker (smaller number x) (λ y. ltb (number b) (number y)) (λ y l. lt→ltb (number b) (number y) (omega (arith, ltb→lt (number x) (number y) l))) xs (r .above));
         order = two-cons (smaller number) x xs (r .above) (r .order);
       }
+
+-- by the first number
+module _ {A : Type 0} (number : A → ℕ) (more : A → List ℕ) (ok : A → Bool) where
+  pub by-first : Order number (λ x. number x ∷ []) (λ x. number x ∷ more x) ok (λ x. true)
+  unfolding Over least floor-after
+  by-first = record {
+    lows = λ x t. tt;
+    over = λ x y l t h. (omega arith, over-none (more y));
+    under = λ x y l t o. omega (arith, o .0);
+  }
 
 -- stations and lines
 
@@ -89,19 +105,73 @@ unfolding row-test by-index every line-ranges line-of line-numbers line-row-ok
 line-row-fields =
     tested-fields line-ranges line-of line-numbers line-row-ok tt (λ ns. refl) (λ r. refl) (λ r. simp (and-assoc, and-true, nought-least))
 
+-- a closure's numbers are above a floor just if its line and start, as one number, are
+pub closure-row-fields : Fields closure-ranges closure-of closure-numbers closure-ok
+unfolding row-test by-index every closure-ranges closure-of closure-numbers closure-ok
+closure-row-fields =
+    tested-fields closure-ranges closure-of closure-numbers closure-ok tt (λ ns. refl) (λ r. refl) (λ r. simp (and-assoc, and-true, nought-least))
+
+abbrev pub floor-by : Closure → List ℕ
+floor-by c = c .line .0 ∷ c .start .0 ∷ []
+
+abbrev pub low-start : Closure → Bool
+low-start c = leb (c .start .0) last-minute
+
+closures-over : (c d : Closure) → T (low-start c) → T (closure-ok d) → closure-number c < closure-number d → Over (floor-by c) (closure-numbers d)
+unfolding Over least floor-after closure-ok closure-number closure-numbers
+closures-over c d l t h =
+    let low = leb→le (c .start .0) last-minute l in
+    let high : T (leb (d .start .0) last-minute) = search parts in
+    go (eqb (d .line .0) (c .line .0)) refl low (leb→le (d .start .0) last-minute high)
+  where
+    go : (b : Bool) → eqb (d .line .0) (c .line .0) ≡ b → c .start .0 ≤ last-minute → d .start .0 ≤ last-minute
+        → (max 0 (c .line .0) ≤ d .line .0) × ((least 0 (if b then c .start .0 ∷ [] else []) ≤ d .start .0) × ((least 0 (floor-after (d .start .0) (if b then c .start .0 ∷ [] else [])) ≤ d .end .0) × Unit {0}))
+    go true e x y = let q = eqb-true (d .line .0) (c .line .0) e in (omega arith, (omega arith, (omega arith, tt)))
+    go false e x y = let q = eqb-false (d .line .0) (c .line .0) e in (omega arith, (omega arith, (omega arith, tt)))
+
+closures-under : (c d : Closure) → T (low-start c) → T (closure-ok d) → Over (floor-by c) (closure-numbers d) → closure-number c < closure-number d
+unfolding Over least floor-after closure-ok closure-number closure-numbers
+closures-under c d l t o =
+    let low = leb→le (c .start .0) last-minute l in
+    go (eqb (d .line .0) (c .line .0)) refl low o
+  where
+    go : (b : Bool) → eqb (d .line .0) (c .line .0) ≡ b → c .start .0 ≤ last-minute
+        → (max 0 (c .line .0) ≤ d .line .0) × ((least 0 (if b then c .start .0 ∷ [] else []) ≤ d .start .0) × ((least 0 (floor-after (d .start .0) (if b then c .start .0 ∷ [] else [])) ≤ d .end .0) × Unit {0}))
+        → 2880 * c .line .0 + c .start .0 < 2880 * d .line .0 + d .start .0
+    go true e x (a, (b, z)) = let q = eqb-true (d .line .0) (c .line .0) e in omega arith
+    go false e x (a, (b, z)) = let q = eqb-false (d .line .0) (c .line .0) e in omega arith
+
+pub closure-order : Order closure-number floor-by closure-numbers closure-ok low-start
+unfolding closure-ok
+closure-order = record { lows = λ c t. search parts; over = closures-over; under = closures-under }
+
 -- the parts of the format
 
+pub station-order : Order station-number (λ r. station-number r ∷ []) station-numbers station-row-ok (λ r. true)
+unfolding station-numbers
+station-order = by-first station-number station-more station-row-ok
+
+pub line-order : Order line-number (λ r. line-number r ∷ []) line-numbers line-row-ok (λ r. true)
+unfolding line-numbers
+line-order = by-first line-number line-more line-row-ok
+
 abbrev pub StationFits : List ℕ → StationRow → Type 0
-StationFits = RowFits station-number station-more station-row-ok
+StationFits = RowFits station-order
 
 abbrev pub LineFits : List ℕ → LineRow → Type 0
-LineFits = RowFits line-number line-more line-row-ok
+LineFits = RowFits line-order
+
+abbrev pub ClosureFits : List ℕ → Closure → Type 0
+ClosureFits = RowFits closure-order
 
 abbrev pub StationsRise : List StationRow → Type 0
-StationsRise ss = Rises station-number station-more station-row-ok 0 ss
+StationsRise ss = Rises station-number station-row-ok blank-station ss
 
 abbrev pub LinesRise : List LineRow → Type 0
-LinesRise ls = Rises line-number line-more line-row-ok 0 ls
+LinesRise ls = Rises line-number line-row-ok blank-line ls
+
+abbrev pub ClosuresRise : List Closure → Type 0
+ClosuresRise cs = Rises closure-number closure-ok blank-closure cs
 
 pub station-law : Entry station-entry station-numbers StationFits
 unfolding station-entry station-numbers
@@ -121,17 +191,26 @@ line-law = record {
       rw (← q) (e, (t, o));
 }
 
+pub closure-law : Entry closure-fields closure-numbers ClosureFits
+unfolding closure-fields
+closure-law = record {
+  walk = λ floor p x f. walks-fields closure-row-fields (λ x. x) floor p x (f .0) (f .1);
+  back = λ floor p ns x w.
+      let (a, e, t, o, q) = fields-walk closure-row-fields (λ x. x) floor p ns x w in
+      rw (← q) (e, (t, o));
+}
+
 pub walks-stations : (p : ℕ) (ss : List StationRow) → StationsRise ss → walks (stations-format (length ss)) p (flatMap station-numbers ss) ss
 unfolding stations-format station-floor
 walks-stations p ss r =
     walks-plain station-entry station-numbers station-floor StationFits station-law ss (0 ∷ []) p
-    (rising-chain station-number station-more station-row-ok 0 ss (r .good) (r .above) (r .order))
+    (rising-chain station-order blank-station ss tt r)
 
 pub stations-walk : (k p : ℕ) (ns : List ℕ) (ss : List StationRow) → walks (stations-format k) p ns ss → (ns ≡ flatMap station-numbers ss) × StationsRise ss × (length ss ≡ k)
 unfolding stations-format station-floor
 stations-walk k p ns ss w =
     let (x, c, l) = plain-walks station-entry station-numbers station-floor StationFits station-law k (0 ∷ []) p ns ss w in
-    (x, chain-rising station-number station-more station-row-ok 0 ss c, l)
+    (x, chain-rising station-order blank-station ss tt c, l)
 
 -- lines with their places
 abbrev pub line-places : ℕ → List LineRow → List (Placed LineRow)
@@ -143,21 +222,45 @@ rows-of ls = map (λ (l : Placed LineRow). l .entry) ls
 pub walks-lines : (p : ℕ) (ls : List LineRow) → LinesRise ls → walks (lines-format (length ls)) p (flatMap line-numbers ls) (line-places p ls)
 unfolding lines-format line-floor line-entry
 walks-lines p ls r =
-    walks-places line-fields line-numbers (first-floor line-number line-more line-row-ok) LineFits line-law ls (0 ∷ []) p
-    (rising-chain line-number line-more line-row-ok 0 ls (r .good) (r .above) (r .order))
+    walks-places line-fields line-numbers (λ r. line-number r ∷ []) LineFits line-law ls (0 ∷ []) p
+    (rising-chain line-order blank-line ls tt r)
 
 pub lines-walk : (k p : ℕ) (ns : List ℕ) (ls : List (Placed LineRow)) → walks (lines-format k) p ns ls
     → (ns ≡ flatMap line-numbers (rows-of ls)) × LinesRise (rows-of ls) × (length ls ≡ k)
 unfolding lines-format line-floor line-entry
 lines-walk k p ns ls w =
-    let (x, c, l) = places-walk line-fields line-numbers (first-floor line-number line-more line-row-ok) LineFits line-law k (0 ∷ []) p ns ls w in
-    (x, chain-rising line-number line-more line-row-ok 0 (rows-of ls) c, l)
+    let (x, c, l) = places-walk line-fields line-numbers (λ r. line-number r ∷ []) LineFits line-law k (0 ∷ []) p ns ls w in
+    (x, chain-rising line-order blank-line (rows-of ls) tt c, l)
+
+-- closures with their places
+abbrev pub closure-places : ℕ → List Closure → List (Placed Closure)
+closure-places p cs = values closure-numbers (λ p x. record { place = p; entry = x }) p cs
+
+abbrev pub closures-of : List (Placed Closure) → List Closure
+closures-of cs = map (λ (c : Placed Closure). c .entry) cs
+
+pub walks-closures : (p : ℕ) (cs : List Closure) → ClosuresRise cs → walks (closures-format (length cs)) p (flatMap closure-numbers cs) (closure-places p cs)
+unfolding closures-format closure-floor closure-entry
+walks-closures p cs r = walks-places closure-fields closure-numbers floor-by ClosureFits closure-law cs (0 ∷ 0 ∷ []) p (rising-chain closure-order blank-closure cs tt r)
+
+pub closures-walk : (k p : ℕ) (ns : List ℕ) (cs : List (Placed Closure)) → walks (closures-format k) p ns cs
+    → (ns ≡ flatMap closure-numbers (closures-of cs)) × ClosuresRise (closures-of cs) × (length cs ≡ k)
+unfolding closures-format closure-floor closure-entry
+closures-walk k p ns cs w =
+    let (x, c, l) = places-walk closure-fields closure-numbers floor-by ClosureFits closure-law k (0 ∷ 0 ∷ []) p ns cs w in
+    (x, chain-rising closure-order blank-closure (closures-of cs) tt c, l)
 
 -- the whole format
 
--- the numbers of a network's rows
+-- the numbers of a network's rows, from the closures, the headway and the stations on
+abbrev closure-part : Rows → List ℕ
+closure-part x = length (x .closures) ∷ flatMap closure-numbers (x .closures)
+
+abbrev headway-on : Rows → List ℕ
+headway-on x = x .headway ∷ length (x .lines) ∷ (flatMap line-numbers (x .lines) ++ closure-part x)
+
 abbrev pub rows-numbers : Rows → List ℕ
-rows-numbers x = length (x .stations) ∷ (flatMap station-numbers (x .stations) ++ (x .headway ∷ length (x .lines) ∷ flatMap line-numbers (x .lines)))
+rows-numbers x = length (x .stations) ∷ (flatMap station-numbers (x .stations) ++ headway-on x)
 
 pub record RowsIn (x : Rows) : Type 0 where
   pub station-count : InRange 1 16 (length (x .stations))
@@ -165,31 +268,56 @@ pub record RowsIn (x : Rows) : Type 0 where
   pub headway : InRange 1 30 (x .headway)
   pub line-count : InRange 0 32 (length (x .lines))
   pub lines : LinesRise (x .lines)
+  pub closure-count : InRange 0 32 (length (x .closures))
+  pub closures : ClosuresRise (x .closures)
 
--- where the lines start, and the rows listed from a place on
+-- where the lines start, and the closures, and the rows listed from a place on
 abbrev pub lines-at : ℕ → Rows → ℕ
 lines-at p x = p + width (length (x .stations)) + span (flatMap station-numbers (x .stations)) + width (x .headway) + width (length (x .lines))
 
+abbrev pub closures-at : ℕ → Rows → ℕ
+closures-at p x = lines-at p x + span (flatMap line-numbers (x .lines)) + width (length (x .closures))
+
 abbrev pub listed-at : ℕ → Rows → Listed
-listed-at p x = record { stations = x .stations; headway = x .headway; lines = line-places (lines-at p x) (x .lines) }
+listed-at p x = record {
+  stations = x .stations;
+  headway = x .headway;
+  lines = line-places (lines-at p x) (x .lines);
+  closures = closure-places (closures-at p x) (x .closures);
+}
 
 pub walks-network : (p : ℕ) (x : Rows) → RowsIn x → walks network-format p (rows-numbers x) (listed-at p x)
-unfolding walks network-format stations-part headway-part count-part lines-part
+unfolding walks network-format stations-part headway-part count-part lines-part closure-count-part closures-part
 walks-network p x r =
     let ss = x .stations in
     let h = x .headway in
-    let ls = x .lines in (
+    let ls = x .lines in
+    let cs = x .closures in
+    let places = line-places (lines-at p x) ls in
+    let closed = walks-made {B = Listed} (λ cs. record { stations = ss; headway = h; lines = places; closures = cs }) (closures-format (length cs)) (closures-at p x) (flatMap closure-numbers cs) _
+    (walks-closures (closures-at p x) cs (r .closures)) in
+    let lined = walks-then (lines-format (length ls)) (λ ls. closure-count-part ss h ls) (lines-at p x) (flatMap line-numbers ls) (closure-part x) places _
+    (walks-lines (lines-at p x) ls (r .lines)) (r .closure-count, closed) in (
       r .station-count,
-      walks-then (stations-format (length ss)) (λ ss. headway-part ss) (p + width (length ss)) (flatMap station-numbers ss) (h ∷ length ls ∷ flatMap line-numbers ls) ss _
-          (walks-stations (p + width (length ss)) ss (r .stations)) (
-            r .headway,
-            (
-              r .line-count,
-              walks-made (λ ls. record { stations = ss; headway = h; lines = ls }) (lines-format (length ls)) (lines-at p x) (flatMap line-numbers ls) _
-                  (walks-lines (lines-at p x) ls (r .lines)),
-            ),
-          ),
+      walks-then (stations-format (length ss)) (λ ss. headway-part ss) (p + width (length ss)) (flatMap station-numbers ss) (headway-on x) ss _
+          (walks-stations (p + width (length ss)) ss (r .stations)) (r .headway, (r .line-count, lined)),
     )
+
+-- what the numbers behind the lines tell
+record Behind (x : Listed) (ss : List StationRow) (h : ℕ) (ls : List (Placed LineRow)) (ns : List ℕ) : Type 0 where
+  same : record { stations = ss; headway = h; lines = ls; closures = x .closures } ≡ x
+  numbers : ns ≡ length (closures-of (x .closures)) ∷ flatMap closure-numbers (closures-of (x .closures))
+  count : InRange 0 32 (length (closures-of (x .closures)))
+  rise : ClosuresRise (closures-of (x .closures))
+
+closure-count-walks : (x : Listed) (ss : List StationRow) (h : ℕ) (ls : List (Placed LineRow)) (p : ℕ) (ns : List ℕ) → walks (closure-count-part ss h ls) p ns x → Behind x ss h ls ns
+unfolding walks closure-count-part closures-part
+closure-count-walks x ss h ls p [] w = absurd w
+closure-count-walks x ss h ls p (m ∷ ns) (a, w) =
+    let (cs, v, e) = made-walks (λ cs. record { stations = ss; headway = h; lines = ls; closures = cs }) (closures-format m) (p + width m) ns x w in
+    let (y, r, l) = closures-walk m (p + width m) ns cs v in
+    let z : length (closures-of cs) ≡ m = length-map cs (λ c. c .entry) ∙ l in
+    rw (← e) (record { same = refl; numbers = ap₂ (λ (m : ℕ) (l : List ℕ). m ∷ l) (sym z) y; count = rw z a; rise = r })
 
 pub network-walks : (p : ℕ) (ns : List ℕ) (x : Listed) → walks network-format p ns x → (ns ≡ rows-numbers (rows-listed x)) × RowsIn (rows-listed x)
 unfolding walks network-format stations-part headway-part count-part lines-part rows-listed
@@ -197,19 +325,31 @@ network-walks p [] x w = absurd w
 network-walks p (k ∷ ns) x (a, w) =
     let s = then-walks (stations-format k) (λ ss. headway-part ss) (p + width k) ns x w in
     let (e, r, l) = stations-walk k (p + width k) (s .before) (s .value) (s .first) in
-    let (q, u, h, c, m) = later (s .value) (p + width k + span (s .before)) (s .behind) (s .second) in
+    let (q, u, h, c, m, i, t) = later (s .value) (p + width k + span (s .before)) (s .behind) (s .second) in
     let y : k ≡ length (x .stations) = sym l ∙ ap length q in (
       ap₂ (λ (k : ℕ) (l : List ℕ). k ∷ l) y (s .whole ∙ ap₂ _++_ (e ∙ ap (flatMap station-numbers) q) u),
-      record { station-count = subst (InRange 1 16) y a; stations = subst StationsRise q r; headway = h; line-count = c; lines = m },
+      record { station-count = subst (InRange 1 16) y a; stations = subst StationsRise q r; headway = h; line-count = c; lines = m; closure-count = i; closures = t },
     )
   where
     later : (ss : List StationRow) (p : ℕ) (ns : List ℕ) → walks (headway-part ss) p ns x
-        → (ss ≡ x .stations) × (ns ≡ x .headway ∷ length (rows-of (x .lines)) ∷ flatMap line-numbers (rows-of (x .lines)))
+        → (ss ≡ x .stations) × (ns ≡ headway-on (rows-listed x))
         × InRange 1 30 (x .headway) × InRange 0 32 (length (rows-of (x .lines))) × LinesRise (rows-of (x .lines))
+        × InRange 0 32 (length (closures-of (x .closures))) × ClosuresRise (closures-of (x .closures))
     later ss p [] w = absurd w
     later ss p (h ∷ []) w = absurd (w .1)
     later ss p (h ∷ m ∷ ns) (b, (c, w)) =
-        let (ls, v, e) = made-walks (λ ls. record { stations = ss; headway = h; lines = ls }) (lines-format m) (p + width h + width m) ns x w in
-        let (y, r, l) = lines-walk m (p + width h + width m) ns ls v in
-        let z : length (rows-of ls) ≡ m = length-map ls (λ l. l .entry) ∙ l in
-        rw (← e) (refl, ap₂ (λ (m : ℕ) (l : List ℕ). h ∷ m ∷ l) (sym z) y, b, rw z c, r)
+        let s = then-walks (lines-format m) (λ ls. closure-count-part ss h ls) (p + width h + width m) ns x w in
+        let (y, r, l) = lines-walk m (p + width h + width m) (s .before) (s .value) (s .first) in
+        let d = closure-count-walks x ss h (s .value) (p + width h + width m + span (s .before)) (s .behind) (s .second) in
+        let z : length (rows-of (s .value)) ≡ m = length-map (s .value) (λ l. l .entry) ∙ l in
+        let lines : s .value ≡ x .lines = ap (λ (x : Listed). x .lines) (d .same) in
+        let headway : h ≡ x .headway = ap (λ (x : Listed). x .headway) (d .same) in (
+          ap (λ (x : Listed). x .stations) (d .same),
+          ap₂ (λ (h : ℕ) (l : List ℕ). h ∷ l) headway (ap₂ (λ (m : ℕ) (l : List ℕ). m ∷ l) (sym z ∙ ap (λ (ls : List (Placed LineRow)). length (rows-of ls)) lines)
+              (s .whole ∙ ap₂ _++_ (y ∙ ap (λ (ls : List (Placed LineRow)). flatMap line-numbers (rows-of ls)) lines) (d .numbers))),
+          subst (InRange 1 30) headway b,
+          subst (λ (ls : List (Placed LineRow)). InRange 0 32 (length (rows-of ls))) lines (rw z c),
+          subst (λ (ls : List (Placed LineRow)). LinesRise (rows-of ls)) lines r,
+          d .count,
+          d .rise,
+        )

@@ -22,4 +22,5 @@ pub use Rattle.railway.specs.declared.edit.Edit.the-variants.{Place, Prepend, A
 pub use Rattle.railway.specs.declared.edit.Edit.the-variants.{ReportArrival, ReportDeparture, AddRelation, RemoveRelation, DeleteTrain}
 pub use Rattle.network.specs.declared.StationRow.{StationRow}
 pub use Rattle.network.specs.declared.LineRow.{LineRow}
+pub use Rattle.network.specs.declared.Closure.{Closure}
 pub use Rattle.network.specs.declared.Network.{Network}
