@@ -56,6 +56,18 @@ module _ {A : Type 0} (rows : List A) (n : ℕ) (fits : n ≤ length rows) (i : 
     unfolding first
     first-nowhere h = rw (rows-over h)
 
+    pub any-here : (d : A) → i < n → f (getD rows i d) ≡ true → any f (drop i (take n rows)) ≡ true
+    unfolding any
+    any-here d h e = rw (row-on d h, e)
+
+    pub any-later : (d : A) → i < n → f (getD rows i d) ≡ false → any f (drop i (take n rows)) ≡ any f (drop (i + 1) (take n rows))
+    unfolding any
+    any-later d h e = ap (any f) (row-on d h) ∙ rw e
+
+    pub any-nowhere : n ≤ i → any f (drop i (take n rows)) ≡ false
+    unfolding any
+    any-nowhere h = rw (rows-over h)
+
     pub every-not : (d : A) → i < n → f (getD rows i d) ≡ false → every f (drop i (take n rows)) ≡ false
     unfolding every
     every-not d h e = rw (row-on d h, e)
