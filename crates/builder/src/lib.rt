@@ -28,7 +28,7 @@ use sheet::station_page;
 mod put; // numbers put into the lent buffer
 
 // The rules are numbered from 1 on: rule-count of specs/between/Builder.antt.
-pub const RULES: u16 = 10;
+pub const RULES: u16 = 11;
 
 // t with each train of a page from an index on.
 fn list_against(

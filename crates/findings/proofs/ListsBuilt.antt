@@ -16,7 +16,7 @@ use Rattle.railway.specs.declared.visit.OutLink.{OutLink}
 use Rattle.timetable.specs.Visits.{ins, outs, comes, leaves, with-in, with-out}
 use Rattle.timetable.specs.Tables.{Entry, Table}
 use Rattle.timetable.specs.Machine.{Timetable}
-use Rattle.timetable.specs.Rules.{breaks-1, breaks-2, breaks-3, met, breaks-5, breaks-6, out-answered, in-answered, breaks-9, breaks-10}
+use Rattle.timetable.specs.Rules.{breaks-1, breaks-2, breaks-3, met, breaks-5, breaks-6, out-answered, in-answered, breaks-9, breaks-10, breaks-11, out-line}
 use Rattle.timetable.specs.Findings.{finding, numbers, numbers-of, Spanning, Rule, one, by-one, by-two, by-rank, by-out, by-in, of-out, of-in, of-facing, unused, rules, found-by, found-by-all, at-station, spanning, picked, findings, inside, group-findings, between, pair-findings}
 use Rattle.findings.specs.Types.{Station, Area, Inward, Outward, Visit, Relation, Network}
 use Rattle.scope.specs.declared.Scope.{Scope}
@@ -287,6 +287,7 @@ module _ (n : Network) (scope : Scope) (m : Timetable) (here : Table) (s : Stati
       next far-in 8 (λ there t i. not (in-answered s (t .train) i there)) (λ t us. refl)
       next far-out 9 (λ there t o. breaks-9 s t o there) (λ t us. refl)
       next far-facing
+      next own-one 11 (λ t. breaks-11 n (t .visit)) (λ t. out-line (t .visit .outward)) (λ t us. refl)
       next over
 
   shown-station : shown taken (at-station n m s here) ≡ numbers-from n scope m here s 1 rule-count

@@ -14,11 +14,12 @@ use railway::visit::Inward;
 use railway::visit::OutLink;
 use railway::visit::Outward;
 use railway::visit::Visit;
+use rules::closed;
 use rules::stays;
 use scope::Scope;
 use sheet::station_page;
 
-// Rules that tell of one train: 1, 5, 6, 7, 8, 9
+// Rules that tell of one train: 1, 5, 6, 7, 8, 9, 11
 
 fn is_out_broken(
     sheet: &[u8],
@@ -98,15 +99,19 @@ pub fn is_broken(
         1 => stays::breaks_1(v),
         5 => stays::breaks_5(n, v),
         6 => lines::breaks_6(n, here, t, v),
+        11 => closed::breaks_11(n, v),
         _ => is_far_broken(sheet, n, scope, s, rule, t, v),
     }
 }
 
-// The second number of what they find: unused by all of these rules.
+// The second number of what they find: the line in rule 11, unused by the others.
 pub fn second_of(rule: u16, t: Train, v: Visit) -> u16
     ensures { λ r. ⌜ r ≡ second-of rule (entry t v) ⌝ }
 {
-    0
+    match rule {
+        11 => closed::line_out(v),
+        _ => 0,
+    }
 }
 
 // Rules that tell of two trains: 2, 3, 10

@@ -19,7 +19,7 @@ use Rattle.scope.specs.Scopes.{takes}
 -- how many numbers are put at most: the rules are counted here, and all bounds are computed from that
 
 abbrev pub rule-count : ℕ
-rule-count = 10
+rule-count = 11
 
 -- of a visit under one rule: 24 findings of four numbers
 abbrev pub visit-most : ℕ

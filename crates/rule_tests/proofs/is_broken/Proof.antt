@@ -16,6 +16,9 @@ breaks-5-requires c κs = search needs
 breaks-6-requires : tie.Need-breaks-6-requires
 breaks-6-requires c κs = search needs
 
+breaks-11-requires : tie.Need-breaks-11-requires
+breaks-11-requires c κs = search needs
+
 is-far-broken-requires : tie.Need-is-far-broken-requires
 is-far-broken-requires c κs = search needs
 
@@ -32,11 +35,15 @@ unfolding broken own-broken beside
 returns-3 c = rw (c .before .match .keys3) (c .breaks-6 .ensures)
 
 returns-4 : tie.Need-returns-4
+unfolding broken own-broken beside
+returns-4 c = rw (c .before .match .keys4) (c .breaks-11 .ensures)
+
+returns-5 : tie.Need-returns-5
 unfolding broken own-broken
-returns-4 c = c .is-far-broken .ensures ∙ sym (beside-none _ _ _ _ (c .before .match .rest))
+returns-5 c = c .is-far-broken .ensures ∙ sym (beside-none _ _ _ _ (c .before .match .rest))
 
 pub is-broken-spec : {M : Type 1} → statement M
 is-broken-spec =
     tie.close
-    (tie.spec breaks-1-requires breaks-5-requires breaks-6-requires is-far-broken-requires returns returns-2 returns-3
-    returns-4)
+    (tie.spec breaks-1-requires breaks-5-requires breaks-6-requires breaks-11-requires is-far-broken-requires returns
+    returns-2 returns-3 returns-4 returns-5)

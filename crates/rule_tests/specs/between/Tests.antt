@@ -8,7 +8,7 @@ use Rattle.base.specs.Choice.{if_then_else_}
 use Rattle.timetable.specs.Visits.{comes, leaves}
 use Rattle.timetable.specs.Tables.{Entry, Table}
 use Rattle.timetable.specs.Machine.{Timetable}
-use Rattle.timetable.specs.Rules.{breaks-1, breaks-2, breaks-3, breaks-5, breaks-6, out-answered, in-answered, breaks-9, breaks-10}
+use Rattle.timetable.specs.Rules.{breaks-1, breaks-2, breaks-3, breaks-5, breaks-6, out-answered, in-answered, breaks-9, breaks-10, breaks-11, out-line}
 use Rattle.page.specs.between.Changes.{table-in}
 use Rattle.sheet.specs.Sheets.{station-part}
 use Rattle.scope.specs.declared.Scope.{Scope}
@@ -34,7 +34,7 @@ clash n here s rule t u =
 
 -- rules 1, 5, 6, 7, 8 and 9: of one train; the second number of what they find
 unfoldable pub second-of : ℕ → Entry → ℕ
-second-of rule t = 0
+second-of rule t = beside rule ((11, out-line (t .visit .outward)) ∷ []) 0
 
 module _ (n : Network) (scope : Scope) (m : Timetable) where
   -- rules 7, 8 and 9, where the list takes the far station
@@ -50,12 +50,13 @@ module _ (n : Network) (scope : Scope) (m : Timetable) where
   unfoldable pub far-broken : Station → ℕ → Entry → Bool
   far-broken s rule t = if eqb rule 8 then comes (in-broken s (t .train)) (t .visit) else leaves (out-broken s rule t) (t .visit)
 
-  -- rules 1, 5 and 6: of the train's own station, each beside its number
+  -- rules 1, 5, 6 and 11: of the train's own station, each beside its number
   unfoldable pub own-broken : Table → Entry → List (ℕ × Bool)
   own-broken here t =
       (1, breaks-1 (t .visit))
       ∷ (5, breaks-5 n (t .visit))
       ∷ (6, breaks-6 n (here .visits) t)
+      ∷ (11, breaks-11 n (t .visit))
       ∷ []
 
   unfoldable pub broken : Table → Station → ℕ → Entry → Bool
