@@ -10,7 +10,7 @@ use Rattle.numbers.specs.Numbers.{write-number}
 use Rattle.network.proofs.RowsInUse.{used-rows}
 use Rattle.timetable.specs.Formats.{bytes-of}
 use Rattle.timetable.specs.Outputs.{put}
-use Rattle.timetable.proofs.BuffersFilled.{each-on, each-length, each-over}
+use Rattle.timetable.proofs.BuffersFilled.{put-two, each-on, each-length, each-over}
 use Rattle.fields.specs.between.Putting.{place-behind, put-from, Puts, Places}
 
 -- the bytes of one number, of two rows of numbers, and of a row for each element
@@ -55,6 +55,12 @@ pub one-puts : (at x : ℕ) (before : List ℕ) (r : ℕ) (after : List ℕ) (k 
     → (r ≡ at + length (write-number x)) × (after ≡ put at (write-number x) before) × (r ≤ at + k) → Puts at (x ∷ []) before r after k
 one-puts at x before r after k h (p, q, b) =
     near-puts at (x ∷ []) before r after k h (p ∙ ap (λ (l : List ℕ). at + length l) (sym (bytes-one x)), q ∙ ap (λ (l : List ℕ). put at l before) (sym (bytes-one x)), b)
+
+-- numbers put behind numbers
+pub places-two : (at r s : ℕ) (xs ys b c d : List ℕ) (j k : ℕ) → Places at xs b r c j → Places r ys c s d k → Places at (xs ++ ys) b s d (j + k)
+places-two at r s xs ys b c d j k (p, u, h) (q, v, i) =
+    let (x, y) = put-two at r s (bytes-of xs) (bytes-of ys) b c d p u q v in
+    rw (bytes-two xs ys) (x, y, omega arith)
 
 -- k rows are in use, each written as the numbers f, from the place `at` of the buffer b₀ on
 module _ {A : Type 0} (f : A → List ℕ) (rows : List A) (k at : ℕ) (b₀ : List ℕ) where

@@ -23,7 +23,7 @@ use Rattle.roundtrips.proofs.ReadTables.{made-whole}
 use Rattle.roundtrips.proofs.TimetableTrips.{made-of}
 use Rattle.sheet.specs.Sheets.{encode-sheet, decode-sheet, good-sheet}
 use Rattle.machine.proofs.WholeSheets.{whole-good, whole-back}
-use Rattle.timetable.proofs.OutcomeLaws.{behind-taken, fault-taken, free-joined}
+use Rattle.timetable.proofs.OutcomeLaws.{behind-taken, fault-taken, none-fault}
 use Rattle.timetable.specs.Refusals.{or-else, call-refusal}
 use Rattle.findings.specs.Lists.{sheet-list-refusal}
 use Rattle.inspect_lines.specs.Types.{Network}
@@ -79,6 +79,6 @@ inspected file bytes x next e =
     (λ m next. accepted (record { network = network-of (y .listed); first = y .entries .place; timetable = m }) next) x next o in
     let w = file-walks inspect-format file y p bytes r in
     let ((ms, a), (at, ks, b)) = both-walk (w .numbers) y (w .walk) in
-    let g = listed-good (y .listed) (network-walks 0 ms (y .listed) a .1) (free-joined (y .listed) j) in
+    let g = listed-good (y .listed) (network-walks 0 ms (y .listed) a .1) (none-fault (y .listed) j) in
     let z : record { network = network-of (y .listed); first = y .entries .place; timetable = m } ≡ x = cc in
     rw (← z) (holds (network-of (y .listed)) g m (entries-whole y p g at ks b m q u))

@@ -20,10 +20,11 @@ use Rattle.listings.specs.Shift.{shift-text}
 use Rattle.listings.specs.Inspect as Inspect
 use Rattle.listings.specs.Inspect.{inspect-text}
 
--- `2, 1 1 2, 2 2 1, 3, 1, 1 1 2 3 10 1, 4, 1 1 7 1 100 102, 3 2 7 1 115 115 1 1 12, 1 1 7 1 100 102, 9 1 1 5 2 7 9`
+-- `2, 1 1 2, 2 2 1, 3, 1, 1 1 2 3 10 1, 4, 1 1 7 1 100 102, 3 2 7 1 115 115 1 1 12, 1 1 7 1 100 102, 9 1 1 5 2 7 9`, with
+-- W1's 0 before its edits
 pub input : List ℕ
 input =
-    2 ∷ 1 ∷ 1 ∷ 2 ∷ 2 ∷ 2 ∷ 1 ∷ 3 ∷ 1 ∷ 1 ∷ 1 ∷ 2 ∷ 3 ∷ 10 ∷ 1
+    2 ∷ 1 ∷ 1 ∷ 2 ∷ 2 ∷ 2 ∷ 1 ∷ 3 ∷ 1 ∷ 1 ∷ 1 ∷ 2 ∷ 3 ∷ 10 ∷ 1 ∷ 0
     ∷ 4 ∷ 1 ∷ 1 ∷ 7 ∷ 1 ∷ 100 ∷ 102 ∷ 3 ∷ 2 ∷ 7 ∷ 1 ∷ 115 ∷ 115 ∷ 1 ∷ 1 ∷ 12
     ∷ 1 ∷ 1 ∷ 7 ∷ 1 ∷ 100 ∷ 102 ∷ 9 ∷ 1 ∷ 1 ∷ 5 ∷ 2 ∷ 7 ∷ 9 ∷ []
 
@@ -50,7 +51,7 @@ rows =
     (input, lines)
     -- an empty file: R 1 0
     ∷ ([], 82 ∷ 32 ∷ 49 ∷ 32 ∷ 48 ∷ 10 ∷ [])
-    -- a byte too many: R 1 44
+    -- a byte too many: R 1 45
     ∷ (input ++ (0 ∷ []), line 82 (1 ∷ length input ∷ []))
     -- a line that ends where it starts, before any edit: R 4 9
     ∷ (bytes-of (loop-numbers ++ (0 ∷ [])), line 82 (4 ∷ first-line ∷ []))
@@ -67,7 +68,7 @@ listing-holds = refl
 
 -- `inspect`
 
--- `2, 1 1 2, 2 2 1, 3, 1, 1 1 2 3 10 1, 3, 1 7 1 100 1 102 0 0 2 1 12, 2 7 1 130 0 130 0 1 1 0, 2 8 1 128 0 131 0 0 0,
+-- `2, 1 1 2, 2 2 1, 3, 1, 1 1 2 3 10 1, 0, 3, 1 7 1 100 1 102 0 0 2 1 12, 2 7 1 130 0 130 0 1 1 0, 2 8 1 128 0 131 0 0 0,
 -- 1, 1 1 5 2 7 9`: train 7 runs from area 1 to area 2, where train 8 stands on its track; train 9 of the connection is
 -- missing
 pub inspect-input : List ℕ
@@ -109,12 +110,12 @@ inspect-rows =
     ∷ (bytes-of (one-station 1 1 1 1 ++ (0 ∷ 0 ∷ [])), 84 ∷ 32 ∷ 48 ∷ 32 ∷ 48 ∷ 32 ∷ 48 ∷ 10 ∷ 87 ∷ 32 ∷ 49 ∷ 10 ∷ [])
     -- an empty file: R 1 0
     ∷ ([], 82 ∷ 32 ∷ 49 ∷ 32 ∷ 48 ∷ 10 ∷ [])
-    -- a byte too many: R 1 8
+    -- a byte too many: R 1 9
     ∷ (bytes-of (one-station 1 1 1 1 ++ (0 ∷ 0 ∷ 0 ∷ [])), line 82 (1 ∷ (size (one-station 1 1 1 1) + 2) ∷ []))
-    -- a line that ends where it starts: R 4 9; a faulty number of the timetable behind it comes first: R 3 16
+    -- a line that ends where it starts: R 4 9; a faulty number of the timetable behind it comes first: R 3 17
     ∷ (bytes-of (loop-numbers ++ (0 ∷ 0 ∷ [])), line 82 (4 ∷ first-line ∷ []))
     ∷ (bytes-of (loop-numbers ++ (0 ∷ 97 ∷ [])), line 82 (3 ∷ (size loop-numbers + 1) ∷ []))
-    -- a visit on a track that its station lacks: R 7 7
+    -- a visit on a track that its station lacks: R 7 8
     ∷ (bytes-of (one-station 1 1 1 1 ++ (1 ∷ 1 ∷ 7 ∷ 2 ∷ 0 ∷ 0 ∷ 0 ∷ 0 ∷ 0 ∷ 0 ∷ 0 ∷ [])), line 82 (7 ∷ (size (one-station 1 1 1 1) + 1) ∷ []))
     -- as many bytes as may be, and one more: R 3 0, R 5 0
     ∷ (replicate 16384 0, 82 ∷ 32 ∷ 51 ∷ 32 ∷ 48 ∷ 10 ∷ [])

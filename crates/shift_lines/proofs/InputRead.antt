@@ -3,20 +3,21 @@
 -- edits' (formats). Assumes nothing.
 use Prim.Native.Nat.{ℕ, _-_, _≤_, _<_}
 use mathlib.Core.Path.{_≡_, refl, sym, _∙_, ap, ap₂, subst}
+use mathlib.Core.Bool.{Bool, true, false}
 use mathlib.Core.List.{List, _++_}
-use mathlib.Core.Option.{Option, none, some}
 use native.Mathlib.Omega.{arith}
-use lib.Dec.{T}
+use lib.Dec.{T, eqb}
 use lib.ListN.{length, drop, length-append}
 use lib.Seq.{drop-append-seam}
-use borrow.Author.Tests.{lt-ltb, le-ltb}
+use borrow.Author.Tests.{lt-ltb, le-ltb, eqb-false}
+use Rattle.base.specs.Choice.{if_then_else_}
 use Rattle.base.specs.Lists.{every}
 use Rattle.numbers.specs.Numbers.{write-number, width}
 use Rattle.railway.specs.Edits.{edit-ok}
 use Rattle.network.specs.Networks.{network-refusal}
-use Rattle.network.specs.declared.LineRow.{LineRow}
+use Rattle.timetable.specs.declared.Fault.{Fault}
 use Rattle.timetable.specs.Formats.{Outcome, accepted, refused, read, read-file, ended, bytes-of, Placed, number, place-of, value-or}
-use Rattle.timetable.specs.NetworkFile.{network-of, network-numbers, unjoined, unjoined-fault, network-fault, unless-fault}
+use Rattle.timetable.specs.NetworkFile.{network-of, network-numbers, network-fault, unless-fault}
 use Rattle.timetable.specs.EditsFile.{read-edits, edits-numbers, Shift, Input, shift-format, read-shift}
 use Rattle.roundtrips.specs.RoundTrips.{Bytes}
 use Rattle.roundtrips.proofs.EditTrips.{edits-trip}
@@ -36,19 +37,22 @@ use Rattle.shift_lines.proofs.PlacesWithin.{refused-within}
 
 -- the input is never refused with 0
 
-unjoined-told : {A : Type 0} (l : Option (Placed LineRow)) (a : A) (next : ℕ) → Told (unless-fault (unjoined-fault l) (accepted a next))
-unfolding unless-fault unjoined-fault
-unjoined-told none a next k p q z = let s : _≡_ {A = ℕ} 0 1 = cc in omega (arith, s)
-unjoined-told (some l) a next k p q z = let s : 4 ≡ k = cc in omega (arith, s, z)
+fault-told : {A : Type 0} (f : Fault) (a : A) (next : ℕ) → Told (unless-fault f (accepted a next))
+unfolding unless-fault
+fault-told f a next k p q z = go (eqb (f .number) 0) refl q
+  where
+    go : (b : Bool) → eqb (f .number) 0 ≡ b → (if b then accepted a next else refused (f .number) (f .place)) ≡ refused k p → ⊥
+    go true e r = let s : _≡_ {A = ℕ} 0 1 = cc in omega (arith, s)
+    go false e r = let s : f .number ≡ k = cc in eqb-false (f .number) 0 e (s ∙ z)
 
 abbrev shift-of : Input → Shift
 shift-of x = record { network = network-of (x .listed); edits = x .edits }
 
 shift-refused : (file : List ℕ) → Told (read-shift file)
-unfolding read-shift read-file network-fault
+unfolding read-shift read-file
 shift-refused file =
     behind-told (ended file (read shift-format file 0)) (λ x next. unless-fault (network-fault (x .listed)) (accepted (shift-of x) next))
-    (ended-told file (read shift-format file 0) (read-told shift-format file 0)) (λ x next. unjoined-told (unjoined (x .listed)) (shift-of x) next)
+    (ended-told file (read shift-format file 0) (read-told shift-format file 0)) (λ x next. fault-told (network-fault (x .listed)) (shift-of x) next)
 
 -- what an accepted input holds: behind the network stands an edits file
 pub record Held (file : List ℕ) (r : ShiftRead) : Type 0 where

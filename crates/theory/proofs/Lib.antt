@@ -14,3 +14,4 @@ pub mod Shared
 pub mod Kept
 pub mod Balance
 pub mod Demand
+pub mod ClosuresAlone

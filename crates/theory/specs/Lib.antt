@@ -2,3 +2,4 @@ pub mod Types
 pub mod Reordering
 pub mod Serial
 pub mod Statements
+pub mod Closures
