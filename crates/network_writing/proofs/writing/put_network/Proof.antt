@@ -1,10 +1,15 @@
--- `network_writing::writing::put_network` meets its contract: its five parts, one behind the other. Assumes nothing.
+-- `network_writing::writing::put_network` meets its contract: its four parts, one behind the other. Assumes nothing.
+use mathlib.Core.List.{[], _∷_, _++_, flatMap}
 use native.Mathlib.Omega.{arith}
-use Rattle.fields.proofs.NumbersPut.{one-near}
-use Rattle.network_writing.proofs.WritingLaws.{network-put}
 use borrow.Author.Needs.{needs}
+use Rattle.network.specs.Networks.{station-rows, line-rows, closure-rows}
+use Rattle.timetable.specs.NetworkFile.{station-numbers, line-numbers, closure-numbers, network-numbers}
+use Rattle.fields.proofs.NumbersPut.{near, places-two}
 use Rattle.network_writing.proofs.writing.put_network.Statement.{statement}
 use Rattle.network_writing.proofs.writing.put_network.Tie as tie
+
+put-counted-stations-requires : tie.Need-put-counted-stations-requires
+put-counted-stations-requires c κs = search needs
 
 cast-put-number : tie.Need-cast-put-number
 cast-put-number c = search needs
@@ -12,43 +17,34 @@ cast-put-number c = search needs
 put-number-requires : tie.Need-put-number-requires
 put-number-requires c κs = search needs
 
-put-stations-requires : tie.Need-put-stations-requires
-put-stations-requires c κs = search needs
+put-counted-lines-requires : tie.Need-put-counted-lines-requires
+put-counted-lines-requires c κs = search needs
 
-cast-put-number-2 : tie.Need-cast-put-number-2
-cast-put-number-2 c = search needs
-
-put-number-requires-2 : tie.Need-put-number-requires-2
-put-number-requires-2 c κs = search needs
-
-cast-put-number-3 : tie.Need-cast-put-number-3
-cast-put-number-3 c = search needs
-
-put-number-requires-3 : tie.Need-put-number-requires-3
-put-number-requires-3 c κs = search needs
-
-put-lines-requires : tie.Need-put-lines-requires
-put-lines-requires c κs = search needs
+put-counted-closures-requires : tie.Need-put-counted-closures-requires
+put-counted-closures-requires c κs = search needs
 
 same-length : tie.Need-same-length
 same-length c = search needs
 
 returns : tie.Need-returns
+unfolding network-numbers
 returns c =
-    let v = c .before .before .before .before .before .before .before .before .before .before .before .before .before .before .before .before .before .before .before .before .put-number in
-    let w = c .before .before .before .before .before .before .before .before .before .before .before .before .before .before .before .before .put-stations in
-    let x = c .before .before .before .before .before .before .before .before .before .before .before .put-number2 in
-    let y = c .before .before .before .before .before .before .put-number3 in
-    let z = c .before .before .put-lines in
-    let s = c .before .before .before .before .before .before .before .before .before .before .before .before .before .before .before .before .before .before .before .before .before .before .before .before .args in
-    let v′ = one-near 0 _ _ (v .result) (v .last .0) 3 (omega arith) (v .ensures) in
-    let x′ = one-near (w .result) _ _ (x .result) (x .last .0) 3 (omega (arith, v .ensures .2, w .ensures .2)) (x .ensures) in
-    let y′ = one-near (x .result) _ _ (y .result) (y .last .0) 3 (omega (arith, v .ensures .2, w .ensures .2, x .ensures .2)) (y .ensures) in
-    network-put (s .n) (s .out .now) (v .last .0) (w .last .0) (x .last .0) (y .last .0) (z .last .0) (v .result) (w .result) (x .result) (y .result) (z .result)
-    (v′ .0) (v′ .1) (w .ensures .0) (w .ensures .1) (x′ .0) (x′ .1) (y′ .0) (y′ .1) (z .ensures .0) (z .ensures .1)
+    let n = c .before .before .before .before .before .before .before .before .before .before .before .before .before .before .before .before .before .before .args .n in
+    let v = c .before .before .before .before .before .before .before .before .before .before .before .before .before .before .before .put-counted-stations in
+    let w = c .before .before .before .before .before .before .before .before .before .before .put-number in
+    let x = c .before .before .before .before .before .before .put-counted-lines in
+    let y = c .before .before .put-counted-closures in
+    let stations = n .stationcount ∷ flatMap station-numbers (station-rows n) in
+    let lines = n .linecount ∷ flatMap line-numbers (line-rows n) in
+    let closures = n .closurecount ∷ flatMap closure-numbers (closure-rows n) in
+    let h = near (v .result) (n .headway ∷ []) _ (w .result) (w .last .0) 3 (omega (arith, v .ensures .2)) (w .ensures) in
+    let l = places-two (w .result) (x .result) (y .result) lines closures _ (x .last .0) _ 1155 1155 (x .ensures) (y .ensures) in
+    let m = places-two (v .result) (w .result) (y .result) (n .headway ∷ []) (lines ++ closures) _ (w .last .0) _ 3 2310 h l in
+    let (p, q, b) = places-two 0 (v .result) (y .result) stations (n .headway ∷ (lines ++ closures)) _ (v .last .0) _ 579 2313 (v .ensures) m in
+    (omega (arith, p), q)
 
 pub put-network-spec : {M : Type 1} → statement M
 put-network-spec =
     tie.close
-    (tie.spec cast-put-number put-number-requires put-stations-requires cast-put-number-2 put-number-requires-2
-    cast-put-number-3 put-number-requires-3 put-lines-requires same-length returns)
+    (tie.spec put-counted-stations-requires cast-put-number put-number-requires put-counted-lines-requires
+    put-counted-closures-requires same-length returns)
