@@ -1,4 +1,4 @@
-//! "Findings": the ten rules, and the lists of the whole timetable, of an area and of a pair.
+//! "Findings": the ten rules and W1's eleventh, and the lists of the whole timetable, of an area and of a pair.
 
 use crate::network::{Direction, Network};
 use crate::railway::{Area, Minute, OutLink, Relation, Station, Timetable, Train, Visit};
@@ -13,7 +13,7 @@ pub struct Finding {
     pub second: u32,
 }
 
-/// A finding with the far station that it looks at: none in rules 1 to 6, the link's other end in rules 7 to 10.
+/// A finding with the far station that it looks at: none in rules 1 to 6 and 11, the link's other end in rules 7 to 10.
 #[derive(Clone, Copy, Debug, PartialEq, Eq, PartialOrd, Ord)]
 struct Located {
     finding: Finding,
@@ -26,6 +26,8 @@ pub fn central(network: &Network, timetable: &Timetable) -> Vec<Finding> {
 }
 
 /// "An area's findings, at its stations: rules 1 to 6, and 7 to 10 where the far station is its own too."
+///
+/// W1: "Rule 11 reads one station, so it belongs to the area lists."
 pub fn of_area(network: &Network, timetable: &Timetable, area: Area) -> Vec<Finding> {
     rising(network, timetable, |located| {
         network.area_of(located.finding.station) == area && located.far.is_none_or(|far| network.area_of(far) == area)
@@ -94,6 +96,9 @@ fn located(network: &Network, timetable: &Timetable) -> Vec<Located> {
                     if rule_10(network, timetable, station, visit, link, *u, other) {
                         found(10, t.0, u.0, far);
                     }
+                }
+                if rule_11(network, visit, link) {
+                    found(11, t.0, link.line.0, None);
                 }
             }
             if let Some(link) = visit.in_link {
@@ -217,4 +222,10 @@ fn rule_10(
         && t.departure.pending()
         && u_arrival >= t.departure.time
         && opposing.departure.time <= t.departure.time + link.run
+}
+
+/// W1: "A pending departure whose occupation, from departure up to but not including departure + run, shares a minute
+/// with a closure of its line." However many closures do, it is one finding.
+fn rule_11(network: &Network, visit: &Visit, link: OutLink) -> bool {
+    visit.departure.pending() && network.closed(link.line, visit.departure.time, visit.departure.time + link.run)
 }

@@ -1,7 +1,7 @@
 //! The network and its part of a file.
 
-use crate::number::{FileRefusal, Reader, Rising, ENDS};
-use crate::railway::{Area, Line, Minute, Station, Track};
+use crate::number::{FileRefusal, Reader, Rising, ENDS, WINDOW};
+use crate::railway::{Area, Line, Minute, Station, Track, LAST_MINUTE};
 use std::collections::BTreeMap;
 
 #[derive(Clone, Copy, Debug, PartialEq, Eq)]
@@ -27,6 +27,14 @@ pub struct LineFacts {
     pub capacity: usize,
 }
 
+/// W1: "Engineers close a line for a window of minutes, from a first minute up to but not including an end."
+#[derive(Clone, Copy, Debug, PartialEq, Eq)]
+pub struct Closure {
+    pub line: Line,
+    pub start: Minute,
+    pub end: Minute,
+}
+
 /// "A network lists 1..16 stations (number, area, count of tracks 1..8), a headway 1..30, and 0..32 lines (number, first
 /// station, second station, kind, least running time, capacity 1..9)."
 #[derive(Clone, Debug, PartialEq, Eq)]
@@ -34,6 +42,7 @@ pub struct Network {
     pub stations: BTreeMap<Station, StationFacts>,
     pub headway: Minute,
     pub lines: BTreeMap<Line, LineFacts>,
+    pub closures: Vec<Closure>,
 }
 
 impl Network {
@@ -61,17 +70,26 @@ impl Network {
         };
         joins && self.lists(from) && self.lists(to)
     }
+
+    /// Whether the minutes from one up to but not including another share one with a closure of a line.
+    pub fn closed(&self, line: Line, from: Minute, until: Minute) -> bool {
+        self.closures.iter().any(|closure| closure.line == line && from < closure.end && closure.start < until)
+    }
 }
 
-/// A network as read, with the first byte of each line's entry for refusal 4.
+/// A network as read, with the first byte of each line's entry for refusal 4, and of each closure's for 14 and 4.
 pub struct NetworkPart {
     pub network: Network,
     line_places: Vec<(Line, usize)>,
+    closure_places: Vec<usize>,
 }
 
 impl NetworkPart {
     /// "Station count, stations rising, headway, line count, lines rising, fields as listed; rising is strict, for
     /// stations and lines by their number alone."
+    ///
+    /// W1: "Up to 32 closures, with their count before them, stand in each file right after its network, rising by line
+    /// and start; starts are 0..2879, ends 1..2880."
     pub fn read(reader: &mut Reader) -> Result<NetworkPart, FileRefusal> {
         let mut stations = BTreeMap::new();
         let station_count = reader.within(1..=16)?.value;
@@ -103,11 +121,33 @@ impl NetworkPart {
             lines.insert(Line(number.value), LineFacts { first, second, direction, least_run, capacity });
             line_places.push((Line(number.value), number.place));
         }
-        Ok(NetworkPart { network: Network { stations, headway, lines }, line_places })
+        let mut closures = Vec::new();
+        let mut closure_places = Vec::new();
+        let closure_count = reader.within(0..=32)?.value;
+        let mut rising = Rising::default();
+        for _ in 0..closure_count {
+            let line = reader.within(1..=32)?;
+            rising.compare(line)?;
+            let start = reader.within(0..=LAST_MINUTE as u32)?;
+            rising.compare_last(start)?;
+            let end = reader.within(1..=LAST_MINUTE as u32 + 1)?;
+            let (start, end) = (Minute::from(start.value), Minute::from(end.value));
+            closures.push(Closure { line: Line(line.value), start, end });
+            closure_places.push(line.place);
+        }
+        Ok(NetworkPart { network: Network { stations, headway, lines, closures }, line_places, closure_places })
+    }
+
+    /// What only a whole network shows, once no number of the file is at fault: 14, "tested straight after 3", then 4,
+    /// lines before closures.
+    pub fn test_whole(&self) -> Result<(), FileRefusal> {
+        self.test_windows()?;
+        self.test_ends()?;
+        self.test_closed_lines()
     }
 
     /// "4 a line's ends aren't two different listed stations", at "the entry's first" byte.
-    pub fn test_ends(&self) -> Result<(), FileRefusal> {
+    fn test_ends(&self) -> Result<(), FileRefusal> {
         for (line, place) in &self.line_places {
             let LineFacts { first, second, .. } = self.network.lines[line];
             if first == second || !self.network.lists(first) || !self.network.lists(second) {
@@ -115,5 +155,22 @@ impl NetworkPart {
             }
         }
         Ok(())
+    }
+
+    /// The first closure "whose end isn't after its start", at its first byte.
+    fn test_windows(&self) -> Result<(), FileRefusal> {
+        self.first_closure(|closure| closure.end <= closure.start, WINDOW)
+    }
+
+    /// The first "closure of an unlisted line", at its first byte.
+    fn test_closed_lines(&self) -> Result<(), FileRefusal> {
+        self.first_closure(|closure| !self.network.lines.contains_key(&closure.line), ENDS)
+    }
+
+    fn first_closure(&self, faulty: impl Fn(&Closure) -> bool, number: u32) -> Result<(), FileRefusal> {
+        match self.network.closures.iter().position(faulty) {
+            Some(at) => Err(FileRefusal { number, place: self.closure_places[at] }),
+            None => Ok(()),
+        }
     }
 }

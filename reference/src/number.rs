@@ -15,10 +15,12 @@ pub const LENGTH: u32 = 1;
 pub const SPELLING: u32 = 2;
 /// "3 a value or order is outside the ranges (edits too)".
 pub const RANGE: u32 = 3;
-/// "4 a line's ends aren't two different listed stations".
+/// "4 a line's ends aren't two different listed stations"; W1: "a closure of an unlisted line is refused with 4".
 pub const ENDS: u32 = 4;
 /// "5 a wrong buffer length".
 pub const SIZE: u32 = 5;
+/// W1: "It refuses, with 14, a closure (at its first byte) whose end isn't after its start".
+pub const WINDOW: u32 = 14;
 
 /// The most bytes that a number has: a third one with the top bit set is refused.
 const GROUPS: usize = 3;

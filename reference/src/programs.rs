@@ -26,7 +26,7 @@ fn test_size(input: &[u8]) -> Result<(), FileRefusal> {
     Ok(())
 }
 
-/// "Network, then edits, from an empty division."
+/// "Network, then edits, from an empty division"; the closures stand between them (W1).
 pub fn shift(input: &[u8]) -> String {
     printed(shift_or_refusal(input))
 }
@@ -37,8 +37,8 @@ fn shift_or_refusal(input: &[u8]) -> Result<String, FileRefusal> {
     let part = NetworkPart::read(&mut reader)?;
     let edits = edits::read(&mut reader)?;
     reader.end()?;
-    // "In files the first faulty number by place, then 4."
-    part.test_ends()?;
+    // "In files the first faulty number by place, then 4"; W1 puts 14 between them.
+    part.test_whole()?;
     let network = part.network;
 
     let mut out = String::new();
@@ -70,7 +70,7 @@ fn inspect_or_refusal(input: &[u8]) -> Result<String, FileRefusal> {
     let behind = reader.place();
     let entries = TimetablePart::read(&mut reader)?;
     reader.end()?;
-    part.test_ends()?;
+    part.test_whole()?;
     let network = part.network;
     let timetable = entries.under(&network)?;
 

@@ -1,37 +1,21 @@
 //! "Examples on the edges" (a) to (k) of document 01, its listing, and further edges, run through both programs.
 //! (a) and (b) stand with the numbers, in `number.rs`.
 
-use reference::number;
+mod common;
+
+use common::{file, join, lines, NETWORK};
 use reference::programs::{inspect, shift};
 
-fn file(numbers: &[u32]) -> Vec<u8> {
-    let mut bytes = Vec::new();
-    for value in numbers {
-        number::write(*value, &mut bytes);
-    }
-    bytes
-}
-
-/// Joins parts that are written down apart.
-fn join(parts: &[&[u32]]) -> Vec<u32> {
-    parts.concat()
-}
-
-/// Two stations in two areas with two tracks, headway 3, one either-way line of least run 10 and capacity 1.
-const NETWORK: &[u32] = &[2, 1, 1, 2, 2, 2, 2, 3, 1, 1, 1, 2, 3, 10, 1];
+/// No closures.
+const NONE: &[u32] = &[0];
 
 fn edited(edits: &[&[u32]]) -> String {
-    shift(&file(&join(&[NETWORK, &[edits.len() as u32], &edits.concat()])))
+    shift(&file(&join(&[NETWORK, NONE, &[edits.len() as u32], &edits.concat()])))
 }
 
 fn timetable(visits: &[&[u32]], relations: &[&[u32]]) -> String {
     let counts = ([visits.len() as u32], [relations.len() as u32]);
-    inspect(&file(&join(&[NETWORK, &counts.0, &visits.concat(), &counts.1, &relations.concat()])))
-}
-
-/// The lines that begin with a letter, without it.
-fn lines<'a>(output: &'a str, letter: &str) -> Vec<&'a str> {
-    output.lines().filter_map(|line| line.strip_prefix(letter)).map(str::trim_start).collect()
+    inspect(&file(&join(&[NETWORK, NONE, &counts.0, &visits.concat(), &counts.1, &relations.concat()])))
 }
 
 fn findings(output: &str) -> Vec<&str> {
@@ -41,8 +25,8 @@ fn findings(output: &str) -> Vec<&str> {
 #[test]
 fn listing() {
     let numbers = [
-        2, 1, 1, 2, 2, 2, 1, 3, 1, 1, 1, 2, 3, 10, 1, 4, 1, 1, 7, 1, 100, 102, 3, 2, 7, 1, 115, 115, 1, 1, 12, 1, 1, 7, 1, 100,
-        102, 9, 1, 1, 5, 2, 7, 9,
+        2, 1, 1, 2, 2, 2, 1, 3, 1, 1, 1, 2, 3, 10, 1, 0, 4, 1, 1, 7, 1, 100, 102, 3, 2, 7, 1, 115, 115, 1, 1, 12, 1, 1, 7, 1,
+        100, 102, 9, 1, 1, 5, 2, 7, 9,
     ];
     let printed = "E 1 0 0\nE 2 0 0\nE 3 8 0\nE 4 0 0\nF 1 4 1 0\nF 1 9 7 0\nT 2 1 2\nA 3 1 2 0\n";
     assert_eq!(shift(&file(&numbers)), printed);
@@ -181,15 +165,16 @@ fn amendments() {
 
 #[test]
 fn file_refusals() {
-    let good = join(&[NETWORK, &[0]]);
+    let good = join(&[NETWORK, NONE, &[0]]);
     assert_eq!(shift(&file(&good)), "T 0 0 0\nA 0 0 0 0\n");
     assert_eq!(shift(&[]), "R 1 0\n");
     assert_eq!(shift(&file(NETWORK)), "R 1 15\n");
-    assert_eq!(shift(&file(&join(&[&good, &[0]]))), "R 1 16\n");
-    assert_eq!(shift(&file(&join(&[NETWORK, &[1001]]))), "R 3 15\n");
+    assert_eq!(shift(&file(&join(&[NETWORK, NONE]))), "R 1 16\n");
+    assert_eq!(shift(&file(&join(&[&good, &[0]]))), "R 1 17\n");
+    assert_eq!(shift(&file(&join(&[NETWORK, NONE, &[1001]]))), "R 3 16\n");
     // A line with equal ends is 4 at the line's first byte, but only without an earlier kind of fault.
     let loose = [1, 1, 1, 1, 3, 1, 1, 1, 1, 3, 10, 1];
-    assert_eq!(shift(&file(&join(&[&loose, &[0]]))), "R 4 6\n");
+    assert_eq!(shift(&file(&join(&[&loose, NONE, &[0]]))), "R 4 6\n");
     assert_eq!(shift(&file(&loose)), "R 1 12\n");
     // Stations out of order, and equal ones.
     assert_eq!(shift(&file(&[2, 3, 1, 1, 2, 1, 1])), "R 3 4\n");
@@ -204,17 +189,17 @@ fn timetable_refusals() {
     let empty = timetable(&[], &[]);
     assert_eq!(empty, "T 0 0 0\nW 1\n");
     let visit = |station, train, track| [station, train, track, 100, 0, 102, 0, 0, 0];
-    assert_eq!(timetable(&[&visit(1, 7, 1), &visit(1, 7, 1)], &[]), "R 3 26\n");
-    assert_eq!(timetable(&[&visit(2, 7, 1), &visit(1, 8, 1)], &[]), "R 3 25\n");
-    assert_eq!(timetable(&[&visit(3, 7, 1)], &[]), "R 7 16\n");
-    assert_eq!(timetable(&[&visit(1, 7, 1), &visit(2, 7, 3)], &[]), "R 7 25\n");
-    assert_eq!(timetable(&[], &[&[1, 1, 5, 2, 8, 8]]), "R 3 22\n");
+    assert_eq!(timetable(&[&visit(1, 7, 1), &visit(1, 7, 1)], &[]), "R 3 27\n");
+    assert_eq!(timetable(&[&visit(2, 7, 1), &visit(1, 8, 1)], &[]), "R 3 26\n");
+    assert_eq!(timetable(&[&visit(3, 7, 1)], &[]), "R 7 17\n");
+    assert_eq!(timetable(&[&visit(1, 7, 1), &visit(2, 7, 3)], &[]), "R 7 26\n");
+    assert_eq!(timetable(&[], &[&[1, 1, 5, 2, 8, 8]]), "R 3 23\n");
     assert_eq!(timetable(&[], &[&[1, 3, 5, 2, 8, 8]]), "F 1 4 1 0\nD 1 1 4 1 0\nT 0 1 1\nW 1\n");
-    assert_eq!(timetable(&[], &[&[1, 3, 5, 3, 8, 8, 8]]), "R 3 20\n");
-    assert_eq!(timetable(&[], &[&[3, 3, 5, 2, 8, 8]]), "R 7 17\n");
+    assert_eq!(timetable(&[], &[&[1, 3, 5, 3, 8, 8, 8]]), "R 3 21\n");
+    assert_eq!(timetable(&[], &[&[3, 3, 5, 2, 8, 8]]), "R 7 18\n");
     // An equal relation: its last train. A falling one: the first number that falls.
-    assert_eq!(timetable(&[], &[&[1, 1, 5, 2, 7, 8], &[1, 1, 5, 2, 7, 8]]), "R 3 28\n");
-    assert_eq!(timetable(&[], &[&[1, 1, 5, 3, 7, 8, 9], &[1, 1, 5, 2, 7, 8]]), "R 3 27\n");
+    assert_eq!(timetable(&[], &[&[1, 1, 5, 2, 7, 8], &[1, 1, 5, 2, 7, 8]]), "R 3 29\n");
+    assert_eq!(timetable(&[], &[&[1, 1, 5, 3, 7, 8, 9], &[1, 1, 5, 2, 7, 8]]), "R 3 28\n");
 }
 
 #[test]
