@@ -24,7 +24,8 @@ import tempfile
 import time
 
 from damage import damage, sweep
-from drafts import Draft, encode, parse
+from drafts import END, LINE, MANY, TIME, Draft, closures_at, encode, parse
+from encode import Damaged, decode
 from orders import areas_named, reordered
 from timetables import make_inspect
 from traffic import make_rooms, make_shift
@@ -48,9 +49,14 @@ def numbers(text):
 with open(os.path.join(HERE, "..", "tools", "sample.txt")) as sample:
     LISTING = numbers(sample.read())
 LISTING_PRINTS = b"E 1 0 0\nE 2 0 0\nE 3 8 0\nE 4 0 0\nF 1 4 1 0\nF 1 9 7 0\nT 2 1 2\nA 3 1 2 0\n"
-NETWORK = "2, 1 1 2, 2 2 2, 3, 1, 1 1 2 3 10 1, "
+OPEN = "2, 1 1 2, 2 2 2, 3, 1, 1 1 2 3 10 1, "  # its closures follow
+NETWORK = OPEN + "0, "
+# Train 7 occupies line 1 from 102 up to 114.
+JOURNEY = "2, 1 1 7 1 100 102, 3 2 7 1 114 115 1 1 12"
+JOURNEY_PRINTS = b"E 1 0 0\nE 2 0 0\nT 2 0 0\nA 2 0 2 0\n"
+CLOSED_PRINTS = b"E 1 0 0\nE 2 0 0\nF 1 11 7 1\nT 2 0 1\nA 2 0 2 0\n"
 
-# Name, program, bytes, and what they print or none. The letters are document 01's examples.
+# Name, program, bytes, and what they print or none. The letters are document 01's examples, W1 is document 02's.
 FIXED = [
     ("the listing", "shift", LISTING, LISTING_PRINTS),
     ("(b)", "shift", b"\x80\0", b"R 2 0\n"),
@@ -83,6 +89,15 @@ FIXED = [
      numbers(NETWORK + "3, 1 7 1 90 0 100 0 0 2 1 12, 1 8 2 99 0 120 0 2 1 0, 2 8 1 70 0 80 0 0 1 1 10, 0"), None),
     ("(k)", "shift", numbers(NETWORK + "25, " + ", ".join(f"1 1 {train} 1 {9 * train} {9 * train}" for train in range(1, 26))),
      b"".join(b"E %d 0 0\n" % edit for edit in range(1, 25)) + b"E 25 12 0\nT 24 0 0\nA 24 1 24 0\n"),
+    ("W1 closed up to a departure", "shift", numbers(OPEN + "1, 1 90 102, " + JOURNEY), JOURNEY_PRINTS),
+    ("W1 closed a minute longer", "shift", numbers(OPEN + "1, 1 90 103, " + JOURNEY), CLOSED_PRINTS),
+    ("W1 closed from departure + run on", "shift", numbers(OPEN + "1, 1 114 120, " + JOURNEY), JOURNEY_PRINTS),
+    ("W1 closed a minute earlier", "shift", numbers(OPEN + "1, 1 113 120, " + JOURNEY), CLOSED_PRINTS),
+    ("W1 three closures", "shift", numbers(OPEN + "3, 1 90 103, 1 100 120, 1 113 114, " + JOURNEY), CLOSED_PRINTS),
+    ("W1 closed inside", "inspect", numbers(OPEN + "1, 1 105 106, 1, 1 7 1 90 0 102 0 0 2 1 12, 0"),
+     b"F 1 7 7 0\nF 1 11 7 1\nD 1 1 11 7 1\nP 1 2 1 7 7 0\nT 1 0 2\nJ 1 7 1 95 102 5\nW 1\n"),
+    ("W1 departed", "inspect", numbers(OPEN + "1, 1 105 106, 1, 1 7 1 90 1 102 1 0 2 1 12, 0"),
+     b"F 1 7 7 0\nP 1 2 1 7 7 0\nT 1 0 1\nJ 1 7 1 90 102 0\nW 1\n"),
 ]
 
 # The same, and how many bytes come at a time; the last ones are too long for a file by a byte, and as long as may be.
@@ -163,7 +178,7 @@ def compare(name, program, data, expected, edits=None):
     texts += [f"{name}: {who}: {how}" for who, how in (("program", ended), ("reference", their_end)) if how]
     if texts:
         texts.append(f"    the file: {save(name, data)}")
-    return texts, reached(program, theirs, edits)
+    return texts, reached(program, data, theirs, edits)
 
 
 def unsound(program, output):
@@ -186,6 +201,8 @@ def unsound(program, output):
         parts = [row[1:] for row in rows["D"]] + [row[2:] for row in rows["P"]]
         if sorted(parts) != rows["F"]:
             faults.append("the areas' and pairs' findings are not each central finding once")
+        if any(row[3] not in RULES_ACROSS for row in rows["P"]):
+            faults.append("a pair's list has a rule of one station")
         if rows["W"] != [[1]]:
             faults.append("a timetable is written otherwise than it was read")
     return faults
@@ -199,22 +216,63 @@ ANSWERS = {
     1: (0, 7, 8, 12), 2: (0, 7, 8, 9, 10, 12), 3: (0, 7, 8, 9, 10, 12), 4: (0, 7, 9, 10), 5: (0, 7, 9, 10), 6: (0, 7, 9, 11),
     7: (0, 7, 9), 8: (0, 7, 9), 9: (0, 7, 8, 12), 10: (0, 7, 9), 11: (0,),
 }
+# How a closure is refused.
+CLOSURES = (
+    ["R 14", "R 4 of a closure", "R 1 among closures", "R 2 among closures", "R 3 at the count of closures"]
+    + [f"R 3 at the {field} of a closure" for field in ("line", "start", "end")]
+    + [f"R 3 by the order of closures, at the {field}" for field in ("line", "start")]
+)
 # All that a run has to reach. Rules 7 and 8 never occur in `shift`: from an empty timetable every link stays answered.
 TO_REACH = (
     [f"shift R {refusal}" for refusal in range(1, 6)]
+    + [f"{program} {refused}" for program in ("shift", "inspect") for refused in CLOSURES]
+    + ["shift 32 closures", "inspect 32 closures"]
     + [f"shift E {refusal}" for refusal in (0, 7, 8, 9, 10, 11, 12)]
     + [f"shift edit {kind} answer {refusal}" for kind in ANSWERS for refusal in ANSWERS[kind]]
-    + [f"shift F rule {rule}" for rule in (1, 2, 3, 4, 5, 6, 9, 10)]
+    + [f"shift F rule {rule}" for rule in (1, 2, 3, 4, 5, 6, 9, 10, 11)]
     + ["shift 2 or more removed", "shift 16 removed", "shift 1000 edits"]
     + [f"inspect R {refusal}" for refusal in (1, 2, 3, 4, 5, 7, 12)]
-    + [f"inspect {letter} rule {rule}" for letter in "FD" for rule in range(1, 11)]
+    + [f"inspect {letter} rule {rule}" for letter in "FD" for rule in range(1, 12)]
     + [f"inspect P rule {rule}" for rule in RULES_ACROSS]
     + ["inspect 16 rows", "inspect early", "inspect late", "inspect beyond the last minute", "inspect written again"]
     + ["inspect 384 visits", "inspect 96 relations"]
 )
 
 
-def reached(program, output, edits):
+def numbers_before(data, place):
+    """The numbers that end before a place of a file."""
+    while True:
+        try:
+            return decode(data[:place])
+        except Damaged:  # a number that doesn't end there
+            place -= 1
+
+
+def closure_mark(data, refusal, place):
+    """How a refusal at a place of a file is one of its closures, or none."""
+    before = numbers_before(data, place)
+    count_at = closures_at(before)
+    if count_at is None or len(before) < count_at:
+        return None
+    field, bounds = "count", MANY
+    if len(before) > count_at:
+        rank, part = divmod(len(before) - count_at - 1, 3)
+        if rank >= before[count_at]:
+            return None
+        field, bounds = (("line", LINE), ("start", TIME), ("end", END))[part]
+    if refusal in (1, 2):
+        return f"R {refusal} among closures"
+    if refusal == 4:
+        return "R 4 of a closure"
+    if refusal != 3:
+        return None
+    value = next(value for end in range(1, 4) for value in numbers_before(data[place:], end))
+    if bounds[0] <= value <= bounds[1]:
+        return f"R 3 by the order of closures, at the {field}"
+    return "R 3 at the count of closures" if field == "count" else f"R 3 at the {field} of a closure"
+
+
+def reached(program, data, output, edits):
     """What a file reached, by the reference's output; each counts once in a file."""
     marks = set()
     rows = collections.Counter()
@@ -223,6 +281,7 @@ def reached(program, output, edits):
         rest = list(map(int, rest))
         if letter == "R":
             marks.add(f"R {rest[0]}")
+            marks.add(closure_mark(data, *rest))
         elif letter == "E":
             marks.add(f"E {rest[1]}")
             if edits is not None:
@@ -236,6 +295,9 @@ def reached(program, output, edits):
         elif letter in "FDP":
             marks.add(f"{letter} rule {rest[-3]}")
         elif letter == "T":
+            numbers = decode(data)
+            if numbers[closures_at(numbers)] == 32:
+                marks.add("32 closures")
             if rest[0] == 384:
                 marks.add("384 visits")
             if rest[1] == 96:
@@ -250,7 +312,7 @@ def reached(program, output, edits):
             marks.add("written again")
     if 16 in rows.values():
         marks.add("16 rows")
-    return {f"{program} {mark}" for mark in marks}
+    return {f"{program} {mark}" for mark in marks if mark}
 
 
 # ---------------------------------------------------------------------------------------------------------------- jobs

@@ -1,6 +1,8 @@
 """Damaged files, each with the output that it must give where the damage alone tells it."""
 
-from drafts import LONGEST_INPUT, Draft, Network, encode
+from copy import copy
+
+from drafts import LONGEST_INPUT, TIME, Draft, Network, encode
 from timetables import Inspect, in_order
 from traffic import Shift, Visit
 
@@ -8,11 +10,12 @@ from traffic import Shift, Visit
 def damage(r, good, index):
     """A damaged file from a good one: its bytes and the output that it must give, or none where that is left open."""
     ways = [truncated, surplus, longer_spelling, third_byte, out_of_range, out_of_order, trains_out_of_order, bad_ends,
-            changed_bytes, two_faults, oversize, ends_and_more]
+            changed_bytes, two_faults, oversize, ends_and_more, bad_closure, bad_window, window_and_more, unlisted_closure,
+            closure_and_more]
     if isinstance(good, Inspect):
         ways += [unknown, out_of_order, unknown, over_limit, limit_and_unknown, relation_at_unlisted]
     data, expected = ways[index % len(ways)](r, good)
-    return data, expected
+    return data, expected if len(data) <= LONGEST_INPUT else must(5, 0)
 
 
 def must(refusal, place):
@@ -148,6 +151,124 @@ def ends_and_more(r, good):
         return data + b"\0", must(1, len(data))
     end = r.randrange(bad[1], len(data))
     return data[:end], must(1, end)
+
+
+def closed(good, closures):
+    """A file with other closures, which may be at fault."""
+    network = good.network
+    other = copy(good)
+    other.network = Network(network.stations, network.headway, network.lines, closures)
+    other.draft = Draft()
+    other.draft.put_network(other.network)
+    other.put_rest(other.draft)
+    return other
+
+
+def some_closures(r, good):
+    """The closures of a file, or some that it could have; none if it has no lines."""
+    if good.network.closures or not good.network.lines:
+        return list(good.network.closures)
+    lines = sorted(r.choices(list(good.network.lines), k=r.choice([1, 2, 3])))
+    return [(line, 9 * rank, 9 * rank + r.randint(1, 12)) for rank, line in enumerate(lines, r.choice([0, 1, 20]))]
+
+
+def bad_closure(r, good):
+    """A number of the closures out of range or out of order, their count included; or the file ends among them."""
+    good = closed(good, some_closures(r, good))
+    draft = good.draft
+    first, behind = draft.network_end - 3 * len(draft.closures) - 1, draft.network_end
+    what = r.randrange(4)
+    if what == 0:
+        end = r.randint(draft.place(first), draft.place(behind))
+        return draft.bytes()[:end], must(1, end)
+    if what == 1 and len(draft.closures) > 1:
+        only = copy(good)
+        only.draft = draft.copy()
+        only.draft.groups = [[[at, at + 1] for at in draft.closures]]
+        return out_of_order(r, only)
+    index = r.randrange(first, behind)
+    low, high = draft.ranges[index]
+    return fault_in(r, draft, index, r.choice([high + 1, r.randint(high + 1, 2097151)] + ([low - 1] if low else [])))
+
+
+def with_bad_windows(r, good):
+    """A file with closures whose ends aren't after their starts, and the first byte of the first; none without lines."""
+    closures = some_closures(r, good)
+    late = [at for at, (_, start, _) in enumerate(closures) if start > 0]
+    if not late:
+        return None
+    chosen = sorted(r.sample(late, min(len(late), r.choice([1, 1, 2]))))
+    for at in chosen:
+        line, start, _ = closures[at]
+        closures[at] = line, start, r.choice([start, start, r.randint(1, start)])
+    bad = closed(good, closures)
+    return bad, bad.draft.place(bad.draft.closures[chosen[0]])
+
+
+def bad_window(r, good):
+    bad = with_bad_windows(r, good)
+    return (bad[0].draft.bytes(), must(14, bad[1])) if bad else truncated(r, good)
+
+
+def window_and_more(r, good):
+    """A window at fault and another fault: a faulty number comes first wherever it stands, all else later."""
+    bad = with_bad_windows(r, good)
+    if not bad:
+        return surplus(r, good)
+    file, place = bad
+    what = r.randrange(5)
+    if what == 0:
+        return surplus(r, file)
+    if what == 1:
+        index = r.randrange(file.draft.network_end, len(file.draft.values))
+        return fault_in(r, file.draft, index, file.draft.ranges[index][1] + 1)
+    if what == 2:
+        return with_bad_ends(r, file)[0].bytes(), must(14, place)
+    return before_unknown(r, file, must(14, place))
+
+
+def before_unknown(r, file, expected):
+    """A file that is at fault, and in a timetable something unknown besides, which doesn't matter."""
+    if not isinstance(file, Inspect):
+        return file.draft.bytes(), expected
+    data, other = unknown(r, file)
+    return data, expected if other.startswith(b"R 7") else other
+
+
+def with_unlisted(r, good):
+    """A file with closures of unlisted lines, and the first byte of the first; none if all lines are listed."""
+    unlisted = [line for line in range(1, 33) if line not in good.network.lines]
+    if not unlisted:
+        return None
+    closures = some_closures(r, good)
+    wrong = []
+    for line in r.sample(unlisted, min(len(unlisted), r.choice([1, 1, 2]))):
+        start = r.randint(*TIME)
+        wrong.append((line, start, r.randint(start + 1, 2880)))
+    kept = r.sample(closures, min(len(closures), 32 - len(wrong)))
+    bad = closed(good, sorted(kept + wrong))
+    return bad, bad.draft.place(bad.draft.closures[bad.network.closures.index(min(wrong))])
+
+
+def unlisted_closure(r, good):
+    bad = with_unlisted(r, good)
+    return (bad[0].draft.bytes(), must(4, bad[1])) if bad else bad_ends(r, good)
+
+
+def closure_and_more(r, good):
+    """A closure of an unlisted line and another fault: only what a timetable's entries bring comes later."""
+    bad = with_unlisted(r, good)
+    if not bad:
+        return bad_window(r, good)
+    file, place = bad
+    what = r.randrange(4)
+    if what == 0:
+        return surplus(r, file)
+    if what == 1:
+        return bad_ends(r, file)
+    if what == 2:
+        return bad_window(r, file)
+    return before_unknown(r, file, must(4, place))
 
 
 def changed_bytes(r, good):
@@ -295,7 +416,9 @@ def relation_at_unlisted(r, good):
 
 def rich_files():
     """A small file of each program that has every sort of number."""
-    network = Network({2: (1, 2), 3: (6, 8), 16: (1, 1)}, 3, {1: (2, 3, 3, 10, 1), 5: (16, 2, 1, 130, 9), 32: (3, 16, 2, 4, 2)})
+    network = Network(
+        {2: (1, 2), 3: (6, 8), 16: (1, 1)}, 3, {1: (2, 3, 3, 10, 1), 5: (16, 2, 1, 130, 9), 32: (3, 16, 2, 4, 2)},
+        [(1, 0, 100), (1, 100, 131), (1, 130, 2880), (5, 5, 6), (32, 2879, 2880)])
     four, three, two = (1, 5, (7, 8, 130, 9999)), (2, 150, (7, 8, 9)), (3, 0, (300, 7))
     edits = [
         (1, 2, 7, 1, 100, 130), (3, 3, 7, 8, 142, 150, 2, 1, 12), (2, 16, 7, 1, 0, 5, 2, 5, 131), (6, 3, 7, 2, 142, 2879),
@@ -315,16 +438,72 @@ def rich_files():
 def sweep():
     """Every end of the rich files, and every single number of them at fault or at the ends of its range."""
     for program, good in rich_files().items():
-        draft, data = good.draft, good.draft.bytes()
-        yield program, "whole", data, None
-        for end in range(len(data)):
-            yield program, f"first {end} bytes", data[:end], must(1, end)
+        draft, whole = good.draft, good.draft.bytes()
+        yield program, "whole", whole, None
+        for end in range(len(whole)):
+            yield program, f"first {end} bytes", whole[:end], must(1, end)
         for index, (value, (low, high)) in enumerate(zip(draft.values, draft.ranges)):
             place, spelling = draft.place(index), encode(value)
             longer = spelling[:-1] + bytes([spelling[-1] | 0x80, 0])
             yield program, f"number {index} longer", draft.bytes_with(index, longer), must(2, place)
             yield program, f"number {index} with a third byte", draft.bytes_with(index, b"\x80\x80\x80"), must(2, place)
             for other in sorted({low - 1, low, high, high + 1} - {-1, value}):
-                changed = draft.copy()
-                changed.values[index] = other
-                yield program, f"number {index} as {other}", changed.bytes(), None if low <= other <= high else must(3, place)
+                data = changed(draft, {index: other}).bytes()
+                yield program, f"number {index} as {other}", data, None if low <= other <= high else must(3, place)
+    yield from closure_sweep()
+
+
+def changed(draft, changes):
+    """A draft with other values at these indices."""
+    draft = draft.copy()
+    for index, value in changes.items():
+        draft.values[index] = value
+    return draft
+
+
+def closure_sweep():
+    """Every closure of the rich files with an empty window, of an unlisted line and out of order, alone and beside each fault
+    that comes before it or behind it.
+    """
+    for program, good in rich_files().items():
+        closures = good.network.closures
+        for count in (32, 33):
+            draft = closed(good, [(1, start, start + 1) for start in range(count)]).draft
+            expected = must(3, draft.place(draft.closures[0] - 1)) if count > 32 else None
+            yield program, f"{count} closures", draft.bytes(), expected
+        for at, (line, start, end) in enumerate(closures):
+            orders = {"equal": (line, start, end), "equal key": (line, start, 2880), "lower start": (line, start - 1, end),
+                      "lower line": (line - 1, start, end)}
+            for what, (other, first, last) in orders.items():
+                if other and first >= 0:
+                    draft = closed(good, closures[:at + 1] + [(other, first, last)] + closures[at + 1:]).draft
+                    place = draft.place(draft.closures[at + 1] + (other == line))
+                    yield program, f"closure {at} then {what}", draft.bytes(), must(3, place)
+            for last in sorted({1, start}) if start else ():
+                file = closed(good, closures[:at] + [(line, start, last)] + closures[at + 1:])
+                yield from beside(program, f"closure {at} until {last}", file, 14, at)
+            file = closed(good, closures[:at] + [(line + 1, start, end)])
+            if line < 32:
+                yield from beside(program, f"closure {at} of line {line + 1}", file, 4, at)
+
+
+def beside(program, what, file, refusal, at):
+    """A closure at fault, alone and beside other faults: those of numbers, of lines, of closures and of entries."""
+    draft = file.draft
+    place = draft.place(draft.closures[at])
+    yield program, what, draft.bytes(), must(refusal, place)
+    yield program, f"{what}, surplus", draft.bytes() + b"\0", must(1, len(draft.bytes()))
+    last = len(draft.values) - 1
+    yield program, f"{what}, faulty end", changed(draft, {last: draft.ranges[last][1] + 1}).bytes(), must(3, draft.place(last))
+    for line in draft.lines:
+        loose = changed(draft, {line + 2: draft.values[line + 1]})
+        yield program, f"{what}, loose line", loose.bytes(), must(14, place) if refusal == 14 else must(4, draft.place(line))
+    for other in range(len(draft.closures)):
+        _, start, end = file.network.closures[other]
+        if start and other != at:
+            empty = changed(draft, {draft.closures[other] + 2: start})
+            wanted = draft.closures[min(at, other) if refusal == 14 else other]
+            yield program, f"{what}, closure {other} empty", empty.bytes(), must(14, empty.place(wanted))
+    if draft.visits:
+        unknown_track = changed(draft, {draft.visits[0][1]: 3})
+        yield program, f"{what}, unknown track", unknown_track.bytes(), must(refusal, place)

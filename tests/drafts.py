@@ -1,4 +1,4 @@
-"""Files as drafts: their numbers with the ranges of document 01, and where damage can be done. Networks."""
+"""Files as drafts: their numbers with the ranges of documents 01 and 02, and where damage can be done. Networks."""
 
 import os
 import sys
@@ -10,9 +10,10 @@ from encode import encode, parse  # noqa: E402, F401
 LONGEST_INPUT = 16384
 LAST_MINUTE = 2879
 
-# The ranges of document 01, by what a number is.
+# The ranges of the documents, by what a number is; END is a closure's, MANY that of lines and of closures.
 STATION, AREA, TRAIN, LINE, TRACK = (1, 16), (1, 6), (1, 9999), (1, 32), (1, 8)
 TIME, INTERVAL, RUN, STATUS = (0, LAST_MINUTE), (0, 240), (1, 240), (0, 1)
+END, MANY = (1, LAST_MINUTE + 1), (0, 32)
 PLAN = (STATION, TRAIN, TRACK, TIME, TIME)
 FIELDS = {
     1: PLAN,
@@ -39,6 +40,7 @@ class Draft:
         self.ranges = []
         self.groups = []  # lists of entries that have to rise; an entry is the list of its key's indices
         self.lines = []  # index of a line's first number
+        self.closures = []  # index of a closure's first number
         self.visits = []  # (index of the first number, index of the track, of the in-link, of the out-link)
         self.relations = []  # (index of the first number, indices of the trains, whether they rise)
         self.network_end = 0  # the index behind the network
@@ -88,7 +90,7 @@ class Draft:
             self.put(tracks, TRACK)
         self.groups.append(entries)
         self.put(network.headway, (1, 30))
-        self.put(len(network.lines), (0, 32))
+        self.put(len(network.lines), MANY)
         entries = []
         for number, (first, second, kind, least, capacity) in sorted(network.lines.items()):
             index = self.put(number, LINE)
@@ -99,6 +101,13 @@ class Draft:
             self.put(kind, (1, 3))
             self.put(least, RUN)
             self.put(capacity, (1, 9))
+        self.groups.append(entries)
+        self.put(len(network.closures), MANY)
+        entries = []
+        for line, start, end in network.closures:
+            entries.append([self.put(line, LINE), self.put(start, TIME)])
+            self.closures.append(entries[-1][0])
+            self.put(end, END)
         self.groups.append(entries)
         self.network_end = len(self.values)
 
@@ -146,10 +155,11 @@ def relation_key(relation):
 
 
 class Network:
-    def __init__(self, stations, headway, lines):
+    def __init__(self, stations, headway, lines, closures=()):
         self.stations = stations  # number: (area, tracks)
         self.headway = headway
         self.lines = lines  # number: (first, second, kind, least, capacity)
+        self.closures = closures  # (line, start, end), in the order of the file
         self.ways = []  # (line, from, to)
         for line, (first, second, kind, _, _) in sorted(lines.items()):
             if kind in (1, 3):
@@ -180,3 +190,41 @@ def make_network(r, stations=None, areas=None, lines=None, tracks=None):
         least = r.choice([r.randint(1, 6), r.randint(5, 15), r.randint(1, 240) if r.random() < 0.2 else 10])
         joined[line] = (first, second, r.choice([1, 2, 3, 3, 3]), least, r.choice([1, 1, 1, 2, 2, 3, 9]))
     return Network(facts, r.choice([1, 2, 3, 3, 5, 10, 30]), joined)
+
+
+def make_closures(r, network, occupied):
+    """Closures: often none, often a few, sometimes as many as there may be. Most lie about an occupation of a line, which is
+    (line, first minute, minute behind the last).
+    """
+    count = r.choice([0, 0, 0, 1, 1, 2, 3, 5, r.randint(0, 32), 32]) if network.lines else 0
+    windows = {}
+    for _ in range(8 * count):
+        if len(windows) == count:
+            break
+        line, first, behind = r.choice(occupied) if occupied else (0, 0, 0)
+        if not occupied or r.random() < 0.1:
+            line, first = r.choice(list(network.lines)), r.randint(*TIME)
+            behind = first + r.randint(1, 60)
+        start, end = window(r, first, behind)
+        start, end = clamp(start, TIME), clamp(end, END)
+        if start < end:
+            windows[line, start] = end
+    return [(line, start, end) for (line, start), end in sorted(windows.items())]
+
+
+def window(r, first, behind):
+    """A window about an occupation: up to it, from it on, a minute into it at either end, inside or around."""
+    length = r.choice([1, 2, 5, 30, r.randint(1, 300)])
+    inside = r.randrange(first, behind)
+    windows = [
+        (first - length, first), (first - length, first + 1), (behind, behind + length), (behind - 1, behind - 1 + length),
+        (first, first + 1), (behind - 1, behind), (first, behind), (inside, r.randint(inside + 1, behind)),
+        (first - length, behind + length)]
+    # Past the last minute nothing begins anew.
+    return r.choice(windows + [(0, length)] * 3 if behind > LAST_MINUTE + 1 else windows)
+
+
+def closures_at(numbers):
+    """Where the closures' count stands among the numbers of a file; none where they end before that can be told."""
+    lines = 2 + 3 * numbers[0] if numbers else 0
+    return lines + 1 + 6 * numbers[lines] if lines < len(numbers) and numbers else None

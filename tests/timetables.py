@@ -1,17 +1,21 @@
 """Good files of `inspect`: timetables with answered links and others, rings, any statuses, full stations."""
 
-from drafts import TIME, Draft, clamp, make_network, relation_key
-from traffic import Picture, Visit, make_trains
+from drafts import TIME, Draft, clamp, make_closures, make_network, relation_key
+from traffic import Picture, Visit, make_trains, occupied
 
 
 class Inspect:
     """A good file of `inspect`."""
 
     def __init__(self, network, visits, relations):
-        self.network, self.visits = network, visits
+        self.network, self.visits, self.relations = network, visits, relations
         self.draft = Draft()
         self.draft.put_network(network)
-        self.draft.put_timetable(visits, in_order(relations))
+        self.put_rest(self.draft)
+
+    def put_rest(self, draft):
+        """What stands behind the network."""
+        draft.put_timetable(self.visits, in_order(self.relations))
 
 
 def in_order(relations):
@@ -111,6 +115,7 @@ def make_inspect(r, index):
         limit = r.choice([0, 0, 1, 2, 3, 6])
         for _ in range(limit):
             picture.relations[at].add(picture.relation(at))
+    network.closures = make_closures(r, network, occupied(picture))
     return Inspect(network, picture.visits, picture.relations)
 
 
@@ -128,4 +133,5 @@ def make_full(r):
             picture.visits[at, train] = Visit(picture.track_known(at), arrival, picture.stay(arrival))
         while len(picture.relations[at]) < 6:
             picture.relations[at].add(picture.relation(at))
+    network.closures = make_closures(r, network, occupied(picture))
     return Inspect(network, picture.visits, picture.relations)

@@ -4,7 +4,8 @@ Nothing here decides what is right.
 """
 
 from drafts import (
-    FIELDS, LAST_MINUTE, LINE, LONGEST_INPUT, RUN, STATION, TIME, TRACK, TRAIN, Draft, Network, clamp, make_network)
+    FIELDS, LAST_MINUTE, LINE, LONGEST_INPUT, RUN, STATION, TIME, TRACK, TRAIN, Draft, Network, clamp, make_closures,
+    make_network)
 
 
 class Visit:
@@ -334,10 +335,29 @@ class Shift:
             self.network, self.edits = network, edits
             self.draft = Draft()
             self.draft.put_network(network)
-            self.draft.put_edits(edits)
+            self.put_rest(self.draft)
             if len(self.draft.bytes()) <= LONGEST_INPUT:
                 return
             edits = edits[:-20]
+
+    def put_rest(self, draft):
+        """What stands behind the network."""
+        draft.put_edits(self.edits)
+
+
+def occupied(picture):
+    """The occupations of lines in a picture: (line, departure, departure + run)."""
+    leaving = [visit for visit in picture.visits.values() if visit.after]
+    return [(visit.after[1], visit.departure, visit.departure + visit.after[2]) for visit in leaving]
+
+
+def with_closures(r, network, edits):
+    """A good file of these edits, with closures about what they lead to."""
+    picture = Picture(r, network, [])
+    for edit in edits:
+        picture.do(edit)
+    network.closures = make_closures(r, network, occupied(picture))
+    return Shift(network, edits)
 
 
 def journey_of_all(r):
@@ -352,7 +372,7 @@ def journey_of_all(r):
         edits.append((3, path[rank], train, 1, 6 * rank, 6 * rank + 1, path[rank - 1], rank, 5))
     if r.random() < 0.8:
         edits.append((11, train))
-    return Shift(network, edits)
+    return with_closures(r, network, edits)
 
 
 def full_station(r):
@@ -378,7 +398,7 @@ def full_station(r):
         tries.append((1, full, train, track, 90, 91))
     tries += [(11, r.choice(trains)) for _ in range(r.choice([0, 0, 2]))]
     r.shuffle(tries)
-    return Shift(network, edits + tries)
+    return with_closures(r, network, edits + tries)
 
 
 def make_shift(r, index):
@@ -389,37 +409,37 @@ def make_shift(r, index):
     if sort == 0:
         network = make_network(r, stations=r.choice([1, 2, 2, 2, 2, 3]), tracks=r.choice([1, 2, 8]))
         picture = Picture(r, network, make_trains(r, 40), width=r.choice([20, 200, 2000]))
-        return Shift(network, make_edits(r, picture, CROWDING, r.randint(80, 200)))
+        return with_closures(r, network, make_edits(r, picture, CROWDING, r.randint(80, 200)))
     if sort == 1 and index % 40 == 1:
         network = make_network(r, stations=r.choice([4, 8, 16]), lines=32, areas=6)
         picture = Picture(r, network, make_trains(r, r.choice([10, 40])), width=r.choice([60, 600]))
         count = 1000 if index % 80 == 1 else r.randint(300, 999)
-        return Shift(network, make_edits(r, picture, r.choice([TRAFFIC, BUILDING, CROWDING]), count))
+        return with_closures(r, network, make_edits(r, picture, r.choice([TRAFFIC, BUILDING, CROWDING]), count))
     if sort == 1:
         return journey_of_all(r)
     if sort == 2:
         network = make_network(r, stations=16, areas=6, lines=32)
         picture = Picture(r, network, make_trains(r, r.randint(3, 20)))
-        return Shift(network, make_edits(r, picture, BUILDING, r.randint(30, 120)))
+        return with_closures(r, network, make_edits(r, picture, BUILDING, r.randint(30, 120)))
     if sort in (3, 4):
         network = make_network(r, stations=r.choice([1, 2, 3]))
         picture = Picture(r, network, make_trains(r, r.randint(2, 6)))
-        return Shift(network, make_edits(r, picture, RELATING, r.randint(5, 50)))
+        return with_closures(r, network, make_edits(r, picture, RELATING, r.randint(5, 50)))
     if sort in (5, 6):
         network = make_network(r)
         picture = Picture(r, network, make_trains(r, r.randint(2, 6)))
-        return Shift(network, make_edits(r, picture, REPORTING, r.randint(5, 50)))
+        return with_closures(r, network, make_edits(r, picture, REPORTING, r.randint(5, 50)))
     if sort == 7:
         network = make_network(r)
         picture = Picture(r, network, make_trains(r, r.randint(1, 4)))
-        return Shift(network, make_edits(r, picture, WILD, r.randint(0, 30)))
+        return with_closures(r, network, make_edits(r, picture, WILD, r.randint(0, 30)))
     network = make_network(r)
     picture = Picture(r, network, make_trains(r, r.randint(2, 9)))
-    return Shift(network, make_edits(r, picture, TRAFFIC, r.randint(0, 60)))
+    return with_closures(r, network, make_edits(r, picture, TRAFFIC, r.randint(0, 60)))
 
 
 def make_rooms(r):
     """A good file of `shift` with several areas, to be reordered."""
     network = make_network(r, stations=r.choice([3, 4, 6, 8, 16]), areas=r.choice([2, 3, 4, 6]))
     picture = Picture(r, network, make_trains(r, r.randint(2, 9)))
-    return Shift(network, make_edits(r, picture, ROOMS, r.randint(6, 80)))
+    return with_closures(r, network, make_edits(r, picture, ROOMS, r.randint(6, 80)))
