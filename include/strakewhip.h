@@ -1,8 +1,10 @@
-/* libstrakewhip: the calls of document 01, over numbers and lent bytes.
+/* libstrakewhip: the calls of documents 01 and 02, over numbers and lent bytes.
  *
- * A network, an edit, a list of edits and a timetable are the bytes of their files (document 01, "Files"). A sheet is
- * 8,192 bytes and a division 49,152, six sheets by area: the sheet of area a begins at byte 8192 * (a - 1). Bytes that
- * are all zero are an empty sheet or division.
+ * A network, an edit, a list of edits and a timetable are the bytes of their files (document 01, "Files"). A network's
+ * file ends with its closures (document 02, W1): their count (0..32), then line (1..32), start (0..2879) and end
+ * (1..2880) of each, rising by line and start; a line is closed from its start up to but not including its end. A sheet
+ * is 8,192 bytes and a division 49,152, six sheets by area: the sheet of area a begins at byte 8192 * (a - 1). Bytes
+ * that are all zero are an empty sheet or division.
  *
  * A lent slice is a pointer and its length in ELEMENTS, not in bytes. The pointer is never NULL, also where the length
  * is 0, and it is aligned for its type. A slice that is written overlaps no other slice of the same call; slices that
@@ -16,7 +18,7 @@
  *    1  a file ends early or goes on
  *    2  a number isn't shortest, or its third byte has the top bit set
  *    3  a value or an order is outside the ranges
- *    4  a line's ends aren't two different listed stations
+ *    4  a line's ends aren't two different listed stations, or a closure's line isn't listed
  *    5  a wrong buffer length, or a tally field above 1,000,000
  *    6  a sheet that the call reads isn't good
  *    7  station, track or line unknown, or the line doesn't run that way
@@ -26,8 +28,10 @@
  *   11  an amendment alters an occurred time, or the track after an occurred arrival
  *   12  a station limit is reached
  *   13  the output is too short
+ *   14  a closure's end is not after its start
  *
- * "The network's file" below is one of 1, 2, 3 or 4 with `file` 1 and its place. */
+ * "The network's file" below is 1, 2 or 3 by place, else 14, else 4, lines before closures, with `file` 1 and its place,
+ * which of 4 and 14 is the first byte of the line or closure. */
 #ifndef STRAKEWHIP_H
 #define STRAKEWHIP_H
 
@@ -47,7 +51,7 @@ extern "C" {
 #define STRAKEWHIP_MOST_TIMETABLE 7395
 
 typedef struct {
-    uint8_t refusal; /* document 01's number, or 0 */
+    uint8_t refusal; /* the number of one of the refusals above, or 0 */
     uint8_t removed; /* of `_edit` and `_edit_sheet`: how many visits the edit removed; else 0 */
     uint8_t file;    /* which file is refused: 1 the network, 2 the edit, edits or timetable; 0 where none is */
     size_t place;    /* with `file`: the byte of that file that is refused, counted from 0; else 0 */

@@ -1,9 +1,12 @@
-"""The calls of document 01 over libstrakewhip.so, with the standard library alone; include/strakewhip.h has them in C.
+"""The calls of documents 01 and 02 over libstrakewhip.so, with the standard library alone.
 
-A network, an edit, a list of edits and a timetable are the bytes of their files. A sheet is a bytearray of SHEET bytes,
-a division one of DIVISION bytes, six sheets by area; all zeros are an empty one. A refusal raises Refused, and leaves
-every lent buffer as it was; each function names its refusals in the order in which they are tested. "The network" among
-them stands for 1, 2, 3 or 4 of the network's file, with its place.
+include/strakewhip.h has them in C.
+
+A network, an edit, a list of edits and a timetable are the bytes of their files; a network's ends with the count of its
+closures and the closures. A sheet is a bytearray of SHEET bytes, a division one of DIVISION bytes, six sheets by area;
+all zeros are an empty one. A refusal raises Refused, and leaves every lent buffer as it was; each function names its
+refusals in the order in which they are tested. "The network" among them stands for 1, 2 or 3, then 14, then 4 of the
+network's file, with its place.
 
 The shared object is that of STRAKEWHIP_SO, or else where tools/library.sh puts it.
 """
@@ -23,7 +26,7 @@ REFUSALS = {
     1: "the file ends early or goes on",
     2: "a number isn't shortest, or its third byte has the top bit set",
     3: "a value or an order is outside the ranges",
-    4: "a line's ends aren't two different listed stations",
+    4: "a line's ends aren't two different listed stations, or a closure's line isn't listed",
     5: "a wrong buffer length, or a tally field above 1,000,000",
     6: "a sheet isn't good",
     7: "station, track or line unknown, or the line doesn't run that way",
@@ -33,6 +36,7 @@ REFUSALS = {
     11: "an amendment alters an occurred time, or the track after an occurred arrival",
     12: "a station limit is reached",
     13: "the output is too short",
+    14: "a closure's end is not after its start",
 }
 
 

@@ -1,9 +1,10 @@
-//! The calls of document 01 as safe functions over slices; include/strakewhip.h has the same in C.
+//! The calls of documents 01 and 02 as safe functions over slices; include/strakewhip.h has the same in C.
 //!
-//! A network, an edit, a list of edits and a timetable are the bytes of their files. A sheet is [`SHEET`] bytes, a
-//! division [`DIVISION`], six sheets by area; all zeros are an empty one. Every function answers on every input. A
-//! refusal is an [`Error`], and leaves every lent element as it was; each function names its refusals in the order in
-//! which they are tested. "The network" among them stands for 1, 2, 3 or 4 of the network's file, with its place.
+//! A network, an edit, a list of edits and a timetable are the bytes of their files; a network's ends with the count of
+//! its closures and the closures. A sheet is [`SHEET`] bytes, a division [`DIVISION`], six sheets by area; all zeros
+//! are an empty one. Every function answers on every input. A refusal is an [`Error`], and leaves every lent element as
+//! it was; each function names its refusals in the order in which they are tested. "The network" among them stands for
+//! 1, 2 or 3, then 14, then 4 of the network's file, with its place.
 
 pub mod raw;
 mod refusal;

@@ -3,7 +3,7 @@
 use crate::raw::Reply;
 use std::fmt;
 
-/// Document 01's refusals, by their numbers.
+/// The refusals of documents 01 and 02, by their numbers.
 #[derive(Clone, Copy, Debug, PartialEq, Eq, PartialOrd, Ord, Hash)]
 #[repr(u8)]
 pub enum Refusal {
@@ -13,7 +13,7 @@ pub enum Refusal {
     NumberSpelling = 2,
     /// 3: a value or an order is outside the ranges.
     OutOfRange = 3,
-    /// 4: a line's ends aren't two different listed stations.
+    /// 4: a line's ends aren't two different listed stations, or a closure's line isn't listed.
     LineEnds = 4,
     /// 5: a wrong buffer length, or a tally field above 1,000,000.
     BufferLength = 5,
@@ -33,10 +33,12 @@ pub enum Refusal {
     LimitReached = 12,
     /// 13: the output is too short.
     OutputTooShort = 13,
+    /// 14: a closure's end is not after its start.
+    ClosureEnd = 14,
 }
 
 impl Refusal {
-    const ALL: [Refusal; 13] = [
+    const ALL: [Refusal; 14] = [
         Refusal::FileLength,
         Refusal::NumberSpelling,
         Refusal::OutOfRange,
@@ -50,14 +52,15 @@ impl Refusal {
         Refusal::Occurred,
         Refusal::LimitReached,
         Refusal::OutputTooShort,
+        Refusal::ClosureEnd,
     ];
 
-    /// Document 01's number.
+    /// The documents' number.
     pub fn number(self) -> u8 {
         self as u8
     }
 
-    /// The refusal of a number from 1 to 13.
+    /// The refusal of a number from 1 to 14.
     pub fn from_number(number: u8) -> Option<Refusal> {
         Refusal::ALL.into_iter().find(|refusal| refusal.number() == number)
     }
@@ -69,7 +72,7 @@ impl fmt::Display for Refusal {
             Refusal::FileLength => "the file ends early or goes on",
             Refusal::NumberSpelling => "a number isn't shortest, or its third byte has the top bit set",
             Refusal::OutOfRange => "a value or an order is outside the ranges",
-            Refusal::LineEnds => "a line's ends aren't two different listed stations",
+            Refusal::LineEnds => "a line's ends aren't two different listed stations, or a closure's line isn't listed",
             Refusal::BufferLength => "a wrong buffer length, or a tally field above 1,000,000",
             Refusal::BadSheet => "a sheet isn't good",
             Refusal::Unknown => "station, track or line unknown, or the line doesn't run that way",
@@ -79,6 +82,7 @@ impl fmt::Display for Refusal {
             Refusal::Occurred => "an amendment alters an occurred time, or the track after an occurred arrival",
             Refusal::LimitReached => "a station limit is reached",
             Refusal::OutputTooShort => "the output is too short",
+            Refusal::ClosureEnd => "a closure's end is not after its start",
         })
     }
 }
@@ -107,7 +111,7 @@ impl Error {
         if reply.refusal == 0 {
             return None;
         }
-        let refusal = Refusal::from_number(reply.refusal).expect("the library answers 0 to 13");
+        let refusal = Refusal::from_number(reply.refusal).expect("the library answers 0 to 14");
         let place = match reply.file {
             0 => None,
             1 => Some((File::Network, reply.place)),
