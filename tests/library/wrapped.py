@@ -6,7 +6,7 @@ import sys
 sys.path.insert(0, os.path.join(os.path.dirname(os.path.abspath(__file__)), "..", "..", "bindings", "python"))
 import strakewhip as library
 
-NETWORK = bytes([2, 1, 1, 2, 2, 2, 1, 3, 1, 1, 1, 2, 3, 10, 1])
+NETWORK = bytes([2, 1, 1, 2, 2, 2, 1, 3, 1, 1, 1, 2, 3, 10, 1, 0])
 EDITS = [bytes([1, 1, 7, 1, 100, 102]), bytes([1, 2, 9, 1, 110, 111]), bytes([3, 2, 7, 1, 115, 115, 1, 1, 12]),
          bytes([9, 1, 1, 5, 2, 7, 9]), bytes([11, 9])]
 
@@ -48,7 +48,18 @@ def main():
     assert library.read(NETWORK, file, back) == len(file) and back == sheet
     assert library.project(NETWORK, sheet, 1, 7, 104) == [(1, 104, 105, 4), (2, 117, 118, 2)]
 
+    # Line 1 is closed up to train 7's departure, and a minute longer: a finding more, in the first area's list.
+    closed = [NETWORK[:-1] + bytes([1, 1, 90, end]) for end in (102, 103)]
+    before, after = (library.findings(network, sheet) for network in closed)
+    assert before == library.findings(NETWORK, sheet) and sorted(before + [(1, 11, 7, 1)]) == after
+    assert (1, 11, 7, 1) in library.area_findings(closed[1], one, 1)
+    assert (1, 11, 7, 1) not in library.pair_findings(closed[1], one, other, 1, 2)
+
     refused(2, 1, 0, library.network, bytes([128, 0]))
+    refused(14, 1, 16, library.network, NETWORK[:-1] + bytes([2, 1, 90, 90, 2, 0, 1]))
+    refused(4, 1, 19, library.findings, NETWORK[:-1] + bytes([2, 1, 90, 91, 2, 0, 1]), sheet)
+    refused(1, 1, 16, library.edit, NETWORK[:-1] + bytes([1]), EDITS[0], division)
+    refused(3, 1, 20, library.network, NETWORK[:-1] + bytes([2, 1, 90, 91, 1, 90, 92]))
     refused(3, 2, 0, library.names, NETWORK, bytes([12]))
     refused(1, 2, 0, library.edit, NETWORK, b"", division)
     refused(5, 0, 0, library.edit, NETWORK, EDITS[0], bytearray())

@@ -9,7 +9,7 @@ use strakewhip::{Error, File};
 #[derive(Default)]
 pub struct Report {
     pub compared: u64,
-    pub refusals: [u64; 14],
+    pub refusals: [u64; 15],
     pub differing: u64,
     pub place: String,
     /// Each call with the refusals that it answered, and the file that each was of.
@@ -36,7 +36,7 @@ impl Report {
     fn replies(&mut self, call: &'static str, reply: Reply, expected: Reply, wrapped: Wrapped) {
         self.compared += 1;
         self.answered.insert((call, reply.refusal, reply.file));
-        self.refusals[usize::from(reply.refusal.min(13))] += 1;
+        self.refusals[usize::from(reply.refusal.min(14))] += 1;
         if reply != expected {
             self.differs(call, format!("{reply:?}, expected {expected:?}"));
         }

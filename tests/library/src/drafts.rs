@@ -5,8 +5,9 @@ use crate::files::bytes_of;
 use crate::random::Random;
 use reference::network::{Direction, Network};
 use reference::railway::{Line, Relation, Station, Timetable, Train, Visit};
+use std::collections::BTreeMap;
 
-/// The numbers of a network with some stations and lines.
+/// The numbers of a network with some stations, lines and closures.
 pub fn network(r: &mut Random) -> Vec<u32> {
     // Few stations, so that their limits are reached, or many.
     let mut stations: Vec<u32> = if r.one_in(3) {
@@ -25,13 +26,60 @@ pub fn network(r: &mut Random) -> Vec<u32> {
     numbers.push(r.from(1, 12));
     let lines: Vec<u32> = if stations.len() < 2 { Vec::new() } else { (1..=32).filter(|_| r.one_in(2)).collect() };
     numbers.push(lines.len() as u32);
-    for line in lines {
+    for line in &lines {
         let first = r.below(stations.len());
         let second = (first + 1 + r.below(stations.len() - 1)) % stations.len();
         let kind = [3, 3, 1, 2][r.below(4)];
-        numbers.extend([line, stations[first], stations[second], kind, r.from(1, 20), r.from(1, 3)]);
+        numbers.extend([*line, stations[first], stations[second], kind, r.from(1, 20), r.from(1, 3)]);
     }
+    numbers.extend(closures(r, &lines));
     numbers
+}
+
+/// The count of closures, and closures of these lines: none, a few or many, about the times of the traffic.
+fn closures(r: &mut Random, lines: &[u32]) -> Vec<u32> {
+    let most = [0, 3, 8, 32][r.below(4)];
+    let mut windows = BTreeMap::new();
+    for _ in 0..if lines.is_empty() { 0 } else { most } {
+        let start = if r.one_in(9) { r.from(0, 2879) } else { r.from(90, 170) };
+        let length = if r.one_in(9) { r.from(1, 2880) } else { r.from(1, 25) };
+        windows.insert((lines[r.below(lines.len())], start), (start + length).min(2880));
+    }
+    let mut numbers = vec![windows.len() as u32];
+    windows.iter().for_each(|((line, start), end)| numbers.extend([*line, *start, *end]));
+    numbers
+}
+
+/// Where the count of lines stands among a network's numbers.
+fn lines_at(numbers: &[u32]) -> usize {
+    2 + 3 * numbers[0] as usize
+}
+
+/// Where the count of closures stands among them.
+pub fn closures_at(numbers: &[u32]) -> usize {
+    let lines = lines_at(numbers);
+    lines + 1 + 6 * numbers[lines] as usize
+}
+
+/// A network's file with a closure whose end is not after its start, or of any line, listed or not; a line's ends may be
+/// at fault besides.
+pub fn misclosed(r: &mut Random, numbers: &[u32]) -> Vec<u8> {
+    let (lines, count) = (lines_at(numbers), closures_at(numbers));
+    let mut numbers = numbers.to_vec();
+    if numbers[count] == 0 {
+        numbers[count] = 1;
+        numbers.extend([r.from(1, 32), 100, 110]);
+    }
+    let at = count + 1 + 3 * r.below(numbers[count] as usize);
+    match r.from(1, 4) {
+        1 => numbers[at] = r.from(1, 32),
+        _ => numbers[at + 2] = r.from(1, numbers[at + 1].max(1)),
+    }
+    if r.one_in(4) && numbers[lines] > 0 {
+        let line = lines + 1 + 6 * r.below(numbers[lines] as usize);
+        numbers[line + 1] = numbers[line + 2];
+    }
+    bytes_of(&numbers)
 }
 
 /// The lines out of a station: line, station at the far end.

@@ -18,7 +18,7 @@ pub fn network_of(file: &[u8]) -> Result<Network, FileRefusal> {
     let mut reader = Reader::new(file);
     let part = NetworkPart::read(&mut reader)?;
     reader.end()?;
-    part.test_ends()?;
+    part.test_whole()?;
     Ok(part.network)
 }
 

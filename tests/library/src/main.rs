@@ -40,7 +40,7 @@ fn main() {
     let seconds = began.elapsed().as_secs();
     let Report { compared, differing, .. } = report;
     println!("library: {compared} calls on {railways} railways compared, {differing} differ ({seconds} s)");
-    println!("library: calls by refusal, 0 to 13: {:?}", report.refusals);
+    println!("library: calls by refusal, 0 to 14: {:?}", report.refusals);
     for (what, times) in &report.met {
         println!("library: {what}: {times} times");
     }

@@ -1,7 +1,7 @@
 //! What is tried on each railway.
 
 use crate::calls::Report;
-use crate::drafts::{self, damaged, displaced, Dispatcher};
+use crate::drafts::{self, closures_at, damaged, displaced, misclosed, Dispatcher};
 use crate::files::{bytes_of, edit_of, network_of};
 use crate::orders::{shared, whole_list};
 use crate::random::Random;
@@ -66,7 +66,9 @@ pub fn outputs(report: &mut Report, r: &mut Random, railway: &Railway) {
     report.area_findings(file, part(division, one), one as u8, &mut vec![7; MOST_FINDINGS]);
     let sheets = [part(division, one), part(division, other)];
     report.pair_findings(file, sheets, [one as u8, other as u8], &mut vec![7; MOST_FINDINGS]);
-    assert_eq!(whole_list(report, file, sheet), shared(report, file, division), "{}: shared findings", report.place);
+    let found = whole_list(report, file, sheet);
+    assert_eq!(found, shared(report, file, division), "{}: shared findings", report.place);
+    report.meets("a departure found on a closed line", found.iter().any(|[_, rule, ..]| *rule == 11));
     let mut written = vec![7; MOST_TIMETABLE];
     let length = report.write(file, sheet, &mut written).length;
     report.read(file, &written[..length], &mut vec![7; SHEET]);
@@ -221,7 +223,11 @@ pub fn damaged_files(report: &mut Report, r: &mut Random, railway: &Railway) {
     let list = list_of(&edits[..edits.len().min(10)]);
     let own = timetable::write(timetable);
     for _ in 0..12 {
-        let other = if r.one_in(2) { damaged(r, file) } else { displaced(r, numbers) };
+        let other = match r.from(1, 3) {
+            1 => damaged(r, file),
+            2 => displaced(r, numbers),
+            _ => misclosed(r, numbers),
+        };
         network_faults(report, r, railway, &other, &edit);
         let edit = damaged(r, &edit);
         let short = usize::from(r.one_in(4));
@@ -276,6 +282,12 @@ fn network_faults(report: &mut Report, r: &mut Random, railway: &Railway, networ
     let short = usize::from(r.one_in(4));
     let [own, far] = [1, 2].map(|area| part(&division, area)[short..].to_vec());
     let (sheet, division) = (sheet.split_off(short), division.split_off(short));
+    if let Some(refusal) = network_of(network).err().filter(|refusal| refusal.number == 4) {
+        let numbers = numbers_in(network);
+        let closure = refusal.place > bytes_of(&numbers[..closures_at(&numbers)]).len();
+        report.meets("4 of a line", !closure);
+        report.meets("4 of a closure", closure);
+    }
     report.network(network);
     report.names(network, &edit);
     report.edit(network, &edit, &mut division.clone());
@@ -291,12 +303,14 @@ fn network_faults(report: &mut Report, r: &mut Random, railway: &Railway, networ
     report.project(network, &sheet, (r.from(0, 17) as u8, r.from(0, 40) as u16, 100), &mut [7; MOST_ROWS]);
 }
 
-/// Sixteen stations in a ring, with the largest numbers that a network has.
+/// Sixteen stations in a ring, with the largest numbers that a network has, and as many closures.
 fn full_network() -> Vec<u8> {
     let mut numbers = vec![16];
     (1..=16).for_each(|station| numbers.extend([station, (station - 1) % 6 + 1, 8]));
     numbers.extend([30, 16]);
     (1..=16).for_each(|line| numbers.extend([line, line, line % 16 + 1, 3, 240, 9]));
+    numbers.push(32);
+    (1..=16).for_each(|line| numbers.extend([line, 2040, 2050, line, 2879, 2880]));
     bytes_of(&numbers)
 }
 
