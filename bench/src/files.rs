@@ -80,7 +80,7 @@ pub fn edit_bytes(numbers: &[u32]) -> Vec<u8> {
 
 pub fn read_network(file: &[u8]) -> Network {
     let part = NetworkPart::read(&mut Reader::new(file)).expect("a network of this module is good");
-    part.test_ends().expect("its lines join stations");
+    part.test_whole().expect("its lines join stations");
     part.network
 }
 
@@ -103,7 +103,7 @@ pub fn run_edits(known: &Network, edits: &[Edit]) -> Timetable {
 }
 
 impl Size {
-    /// Stations round a ring, joined by as many lines, areas in turn.
+    /// Stations round a ring, joined by as many lines, areas in turn, and no closures.
     fn network(&self) -> Vec<u32> {
         let n = self.stations;
         let mut numbers = vec![n];
@@ -114,6 +114,7 @@ impl Size {
         for l in 1..=n {
             numbers.extend([l, l, l % n + 1, 3, 5, 9]);
         }
+        numbers.push(0);
         numbers
     }
 
@@ -153,7 +154,7 @@ impl Size {
     pub fn railway(&self) -> Railway {
         let (network, edits) = if self.trains == 0 {
             (
-                bytes(&[2, 1, 1, 2, 2, 2, 1, 3, 1, 1, 1, 2, 3, 10, 1]),
+                bytes(&[2, 1, 1, 2, 2, 2, 1, 3, 1, 1, 1, 2, 3, 10, 1, 0]),
                 bytes(&[4, 1, 1, 7, 1, 100, 102, 3, 2, 7, 1, 115, 115, 1, 1, 12, 1, 1, 7, 1, 100, 102, 9, 1, 1, 5, 2, 7, 9]),
             )
         } else {
