@@ -10,6 +10,8 @@ import xml.etree.ElementTree as tree
 from collections import Counter
 from pathlib import Path
 
+from drafts import closures_at, parse
+
 TOOLS = Path(__file__).resolve().parent.parent / "tools"
 SVG = "{http://www.w3.org/2000/svg}"
 
@@ -17,6 +19,13 @@ SVG = "{http://www.w3.org/2000/svg}"
 def encoded(name):
     text = (TOOLS / name).read_bytes()
     return subprocess.run([sys.executable, TOOLS / "encode.py"], input=text, stdout=subprocess.PIPE, check=True).stdout
+
+
+def closed_lines(name):
+    """The line of each closure of a sample."""
+    numbers = parse((TOOLS / name).read_text())
+    at = closures_at(numbers)
+    return Counter(str(line) for line in numbers[at + 1:at + 1 + 3 * numbers[at]:3])
 
 
 def drawn(name, said):
@@ -43,8 +52,14 @@ def faults(inspect):
     visits = {(row[1], row[2]) for row in rows if row[0] == "J"}
     if {(words[4], words[1]) for words in told if words[0] == "Train" and words[2] == "at"} != visits:
         yield "the visits drawn aren't those of the timetable"
-    if not {train for _, train in visits} <= {text.text for text in root.iter(SVG + "text")}:
+    words = {text.text for text in root.iter(SVG + "text")}
+    if not {train for _, train in visits} <= words:
         yield "a train has no number"
+    closed = closed_lines("day.txt")
+    if closed != Counter(words[1] for words in told if words[2] == "closed"):
+        yield "the closures drawn aren't those of the network"
+    if not closed or not {f"line {line} closed" for line in closed} <= words:
+        yield "a closure has no line"
     bad = [("day.txt", "R 3 17\n", "with 3 at byte 17"), ("timetable.txt", said, "another file")]
     for name, given, wanted in bad:
         status, picture, complaint = drawn(name, given)

@@ -6,7 +6,8 @@
 
 Stations go down, as far apart as their least running time, each with its tracks; time goes across. The longest way over
 the lines comes first, then each branch, from the station where it leaves. A train is solid where its times have
-occurred, dashed where they are pending. A mark with a rule's number is a finding; pointing at anything tells about it.
+occurred, dashed where they are pending. A hatched band between two stations is a closure of the line that it names. A
+mark with a rule's number is a finding; pointing at anything tells about it.
 """
 
 import argparse
@@ -24,7 +25,7 @@ sys.dont_write_bytecode = True  # Leaves nothing beside the tools.
 from encode import Damaged, decode, parse
 
 
-# What a file holds, as document 01 lists it.
+# What a file holds, as documents 01 and 02 list it.
 
 class Station(NamedTuple):
     area: int
@@ -37,6 +38,13 @@ class Line(NamedTuple):
     kind: int
     least: int
     capacity: int
+
+
+class Closure(NamedTuple):
+    """From the start up to but not including the end."""
+    line: int
+    start: int
+    end: int
 
 
 class Moment(NamedTuple):
@@ -69,6 +77,7 @@ class Day(NamedTuple):
     stations: dict
     headway: int
     lines: dict
+    closures: list
     visits: dict
     relations: dict
 
@@ -96,10 +105,11 @@ REFUSALS = {
     1: "the file ends early or goes on",
     2: "a number isn't shortest or its third byte has the top bit set",
     3: "a value or order is outside the ranges",
-    4: "a line's ends aren't two different listed stations",
+    4: "a line's ends aren't two different listed stations, or a closure's line isn't listed",
     5: "the file is longer than 16,384 bytes",
     7: "station, track or line unknown, or the line doesn't run that way",
     12: "a station limit is reached",
+    14: "a closure's end is not after its start",
 }
 
 
@@ -150,6 +160,7 @@ def read_day(numbers):
     """The network and the timetable of a file that `inspect` did not refuse."""
     numbers = iter(numbers)
     stations, headway, lines = read_rows(numbers, Station, 2), take(numbers), read_rows(numbers, Line, 5)
+    closures = [Closure(*row(numbers, 3)) for _ in range(take(numbers))]
     visits = dict(read_visit(numbers) for _ in range(take(numbers)))
     relations = {}
     for _ in range(take(numbers)):
@@ -157,7 +168,7 @@ def read_day(numbers):
         relations.setdefault(station, []).append(relation)
     if any(True for _ in numbers):
         raise Damaged("the numbers go on behind the timetable")
-    return Day(stations, headway, lines, visits, relations)
+    return Day(stations, headway, lines, closures, visits, relations)
 
 
 def run_inspect(numbers):
@@ -199,7 +210,7 @@ def read_findings(said):
 
 
 # Rules whose train has an out-link.
-LEAVING = (3, 5, 6, 7, 9, 10)
+LEAVING = (3, 5, 6, 7, 9, 10, 11)
 
 
 def fits(day, finding):
@@ -213,6 +224,8 @@ def fits(day, finding):
     if rule in (2, 3, 10):
         other = day.visits.get((visit.after.station if rule == 10 else station, second))
         return other is not None and (rule == 2 or other.after is not None)
+    if rule == 11:
+        return second == visit.after.line and len(closures_met(day, visit)) > 0
     return 1 <= rule <= 10
 
 
@@ -228,6 +241,7 @@ def check_match(day, found, counts):
     links = [(at, link) for (at, _), visit in day.visits.items() for link in (visit.before, visit.after) if link]
     known = (all(at in day.stations for at, _ in day.visits) and all(at in day.stations for at in day.relations)
              and all({line.first, line.second} <= set(day.stations) for line in day.lines.values())
+             and all(closure.line in day.lines for closure in day.closures)
              and all(joined(day, *link) for link in links))
     if counts != [len(day.visits), relations] or not known or not all(fits(day, finding) for finding in found):
         raise Damaged("the findings are those of another file")
@@ -255,6 +269,12 @@ def runs_of(day):
     """All runs, each train's in the order of time."""
     found = [run_of(day, *key) for key, visit in day.visits.items() if visit.after]
     return sorted(found, key=lambda run: (run.train, run.departure.time))
+
+
+def closures_met(day, visit):
+    """The closures of a leaving train's line that share a minute with its occupation."""
+    begin, end = visit.departure.time, visit.departure.time + visit.run
+    return [one for one in day.closures if one.line == visit.after.line and begin < one.end and one.start < end]
 
 
 def latest(day):
@@ -316,6 +336,10 @@ def moment_words(moment):
 def listing(numbers):
     *most, last = map(str, numbers)
     return f"{', '.join(most)} and {last}" if most else last
+
+
+def window_words(closure):
+    return f"{clock(closure.start)} to {clock(closure.end)}"
 
 
 def rule_1(_day, _station, train, visit, _other):
@@ -382,7 +406,14 @@ def rule_10(_day, station, train, visit, other):
             f"before that nor departs from station {there} after train {train}'s departure + run")
 
 
-RULES = {1: rule_1, 2: rule_2, 3: rule_3, 5: rule_5, 6: rule_6, 7: rule_7, 8: rule_8, 9: rule_9, 10: rule_10}
+def rule_11(day, _station, train, visit, line):
+    begin, end = visit.departure.time, visit.departure.time + visit.run
+    return (f"train {train} is on line {line} from {clock(begin)} to {clock(end)}, but the line is closed from "
+            f"{listing(window_words(closure) for closure in closures_met(day, visit))}")
+
+
+RULES = {1: rule_1, 2: rule_2, 3: rule_3, 5: rule_5, 6: rule_6, 7: rule_7, 8: rule_8, 9: rule_9, 10: rule_10,
+         11: rule_11}
 
 
 def finding_words(day, finding, areas):
@@ -414,6 +445,11 @@ def line_words(number, line):
     start, end = (line.second, line.first) if line.kind == 2 else (line.first, line.second)
     way = f"{start} to {end}{', either way' if line.kind == 3 else ''}"
     return f"Line {number}, station {way}: least running time {line.least} min, capacity {line.capacity}"
+
+
+def closure_words(day, closure):
+    line = day.lines[closure.line]
+    return f"Line {closure.line} closed between stations {line.first} and {line.second}: from {window_words(closure)}"
 
 
 # Where things are drawn.
@@ -483,6 +519,15 @@ class Plan:
         return ((self.x(run.departure.time), self.y(at, run.start, self.day.visits[run.start, run.train].track)),
                 (self.x(run.arrival.time), self.y(at, run.end, far)))
 
+    def band(self, closure):
+        """The corners of a closure between its line's stations, as far as its minutes are drawn; none if none is."""
+        line = self.day.lines[closure.line]
+        at = self.walk_between(line.first, line.second)
+        above, below = sorted((line.first, line.second), key=self.tops[at].get)
+        begin, end = max(closure.start, self.begin), min(closure.end, self.end)
+        top = self.y(at, above, self.day.stations[above].tracks)
+        return ((self.x(begin), top), (self.x(end), self.tops[at][below])) if begin < end else None
+
 
 def between(start, end, share):
     return start[0] + (end[0] - start[0]) * share, start[1] + (end[1] - start[1]) * share
@@ -525,7 +570,15 @@ def spot(plan, finding):
         return max(run[0], plan.run(run_of(day, station, second))[0])
     if rule == 10:
         return crossing(run, plan.run(run_of(day, day.visits[station, first].after.station, second)))
-    return between(*run, {5: 0.5, 6: 0, 7: 1, 9: 0.5}[rule])
+    share = shut_share(day, day.visits[station, first]) if rule == 11 else {5: 0.5, 6: 0, 7: 1, 9: 0.5}[rule]
+    return between(*run, share)
+
+
+def shut_share(day, visit):
+    """How far along its run a train is in the middle of the minutes that it shares with the first closure it meets."""
+    closure, departure = closures_met(day, visit)[0], visit.departure.time
+    begin, end = max(departure, closure.start), min(departure + visit.run, closure.end)
+    return ((begin + end) / 2 - departure) / visit.run
 
 
 class Crowd:
@@ -557,6 +610,7 @@ AREAS = ["#eef4fb", "#fbf6ea", "#eef8ee", "#f8eef6", "#eef7f8", "#f4f1ec"]
 TRAINS = ["#0b4f8a", "#7a3b00", "#0f6b4f", "#6a2c91", "#40474f", "#8a0f5c"]
 PENDING = "5 3"
 NOW = {"stroke": INK, "stroke_width": 1.2, "stroke_dasharray": "8 2 2 2"}
+SHUT = "#8f5a00"
 
 
 def tag(name, *inside, **attributes):
@@ -630,6 +684,54 @@ def draw_lines(plan, at, above, below):
     least = min(line.least for line in joining.values())
     return told("\n".join(line_words(*line) for line in joining.items()),
                 text(14, y, f"line {said}  {least} min", 10, fill="#555555"))
+
+
+def hatching():
+    """The pattern of a closed line."""
+    lines = tag("line", x1=0, y1=0, x2=0, y2=6, stroke=SHUT, stroke_width=1.6, stroke_opacity=0.5)
+    tint = tag("rect", width=6, height=6, fill="#f3b64c", fill_opacity=0.3)
+    return tag("defs", tag("pattern", tint, lines, id="closed", width=6, height=6, patternUnits="userSpaceOnUse",
+                           patternTransform="rotate(45)"))
+
+
+def band(start, end):
+    """A closed line's minutes."""
+    (x, y), (right, foot) = start, end
+    return tag("rect", x=float(x), y=float(y), width=float(right - x), height=float(foot - y), fill="url(#closed)",
+               stroke=SHUT, stroke_width=0.8)
+
+
+def drawn_closures(plan):
+    """The closures that have a band, with it."""
+    found = [(closure, plan.band(closure)) for closure in plan.day.closures]
+    return [(closure, corners) for closure, corners in found if corners]
+
+
+def draw_closures(plan):
+    return [told(closure_words(plan.day, closure), band(*corners)) for closure, corners in drawn_closures(plan)]
+
+
+def shut_choices(corners, said):
+    """Places for the words of a band: at its foot, its head or between, within it or else over it."""
+    (left, top), (right, foot) = corners
+    half, choices = 3 * len(said), []
+    for y in (foot - 6, top + 12, (top + foot) / 2 + 3):
+        for share in (0.5, 0, 1):
+            x = left + half + 4 + max(right - left - 2 * half - 8, 0) * share
+            points = [(x + across, y + up) for across in range(-half, half + 1, 5) for up in (0, -5)]
+            choices.append(((x, y), points, 0))
+    return choices
+
+
+def draw_shut_words(plan, crowd):
+    """Over each band its line."""
+    parts = []
+    for closure, corners in drawn_closures(plan):
+        said = f"line {closure.line} closed"
+        x, y = crowd.least(shut_choices(corners, said), 6)
+        parts.append(text(x, y, said, 10, text_anchor="middle"))
+    return [tag("g", *parts, fill=SHUT, font_weight="bold", stroke="white", stroke_width=2.5,
+                paint_order="stroke")] if parts else []
 
 
 def draw_walk(plan, at):
@@ -762,7 +864,7 @@ def draw_labels(plan, crowd):
 
 def sign(x, y, rule):
     """A rule's mark: round for rules of one station, square for rules 7 to 10, which look at another station too."""
-    shape = (tag("rect", x=float(x - 8), y=float(y - 8), width=16, height=16) if rule >= 7 else
+    shape = (tag("rect", x=float(x - 8), y=float(y - 8), width=16, height=16) if 7 <= rule <= 10 else
              tag("circle", cx=float(x), cy=float(y), r=8.5))
     return (tag("g", shape, fill="white", stroke=ALARM, stroke_width=1.8)
             + text(x, y + 4, str(rule), 11, text_anchor="middle", font_weight="bold", fill=ALARM))
@@ -811,8 +913,8 @@ def draw_now(plan, now):
     return [told(f"The latest report: {clock(now)}", *parts, **NOW)]
 
 
-def draw_legend(y, now, walks):
-    """What the signs mean, in one row, and how far it goes."""
+def draw_legend(y, width, now, walks, closed):
+    """What the signs mean, in rows of a width, and the height of the last row."""
     line = {"stroke": INK, "stroke_width": 1.7}
     items = [(stroke((0, -4), (30, -4), **line), 36, "occurred"),
              (stroke((0, -4), (30, -4), stroke_dasharray=PENDING, **line), 36, "pending"),
@@ -820,15 +922,20 @@ def draw_legend(y, now, walks):
     if walks > 1:
         items.append((stroke((0, -4), (20, -4), stroke=INK, stroke_width=0.8), 26, "thin: it runs in another part"))
     items += [(tag("circle", cx=4, cy=-4, r=2.6, fill=INK), 14, "train begins or ends"),
-              (sign(8, -4, 3), 22, "finding by rule 1 to 6"),
+              (sign(8, -4, 3), 22, "finding by rule 1 to 6 or 11"),
               (sign(8, -4, 9), 22, "by rule 7 to 10, of two stations")]
+    if closed:
+        items.append((band((0, -12), (26, 4)), 32, "line closed"))
     if now is not None:
         items.append((stroke((4, -13), (4, 5), **NOW), 12, f"latest report, {clock(now)}"))
     parts, x = [], 10
     for shape, wide, words in items:
+        end = x + wide + 6.3 * len(words)
+        if end > width:
+            x, y, end = 10, y + 26, end - x + 10
         parts.append(tag("g", shape, text(wide, 0, words), transform=f"translate({x} {y})"))
-        x += wide + 6.3 * len(words) + 20
-    return parts, x
+        x = end + 20
+    return parts, y
 
 
 def draw_list(plan, found, areas, y):
@@ -844,18 +951,20 @@ def draw(day, found, areas, scale):
     """The whole picture."""
     plan, now = Plan(day, scale), latest(day)
     crowd = crowd_of(plan)
-    parts = [part for at in range(len(plan.walks)) for part in draw_walk(plan, at)]
+    parts = [hatching()] + [part for at in range(len(plan.walks)) for part in draw_walk(plan, at)] + draw_closures(plan)
     if now is not None:
         parts += draw_now(plan, now)
     parts += draw_trains(plan, now)
+    closed = draw_shut_words(plan, crowd)
     marks = draw_marks(plan, found, areas, crowd)
-    parts += draw_labels(plan, crowd) + marks
+    parts += closed + draw_labels(plan, crowd) + marks
     trains = len({train for _, train in day.visits})
     span = f"{clock(plan.begin)} to {clock(plan.end)}{' (+1: the next day)' if plan.end >= 1440 else ''}"
     parts.append(text(10, 26, f"Running map, {span}; trains: {trains}", 15, font_weight="bold"))
-    legend, wide = draw_legend(plan.bottom + 8, now, len(plan.walks))
-    parts += legend + draw_list(plan, found, areas, plan.bottom + 44)
-    width, height = max(plan.right + RIGHT, wide), plan.bottom + 64 + 20 * len(found)
+    width = plan.right + RIGHT
+    legend, foot = draw_legend(plan.bottom + 8, width, now, len(plan.walks), bool(closed))
+    parts += legend + draw_list(plan, found, areas, foot + 36)
+    height = foot + 56 + 20 * len(found)
     return tag("svg", tag("style", ".train:hover g { stroke-width: 3.4 }"),
                tag("rect", width=float(width), height=float(height), fill="white"), "\n", "\n".join(parts), "\n",
                xmlns="http://www.w3.org/2000/svg", width=float(width), height=float(height),
