@@ -2,7 +2,7 @@
 
 mod common;
 
-use common::{file, join, lines, NETWORK};
+use common::{file, join, lines, LOOSE, NETWORK};
 use reference::programs::{inspect, shift};
 
 /// Where the closures' count stands behind `NETWORK`, a byte a number.
@@ -132,8 +132,7 @@ fn ends_not_after_their_starts() {
     assert_eq!(shift(&file(&join(&[&empty, &[0, 0]]))), format!("R 1 {}\n", COUNT + 5));
     assert_eq!(inspect(&file(&join(&[&empty, &[0, 97]]))), format!("R 3 {}\n", COUNT + 5));
     // Before 4 of a line, which stands before it, and before 4 of a closure.
-    let loose = [1, 1, 1, 1, 3, 1, 1, 1, 1, 3, 10, 1];
-    refused(&join(&[&loose, &[1, 1, 5, 5]]), 14, 13);
+    refused(&join(&[LOOSE, &[1, 1, 5, 5]]), 14, 13);
     refused(&closed(&[[1, 0, 1], [2, 5, 6], [2, 6, 6]]), 14, COUNT + 7);
 }
 
@@ -143,8 +142,7 @@ fn closures_of_unlisted_lines() {
     refused(&closed(&[[1, 5, 6], [31, 5, 6], [32, 5, 6]]), 4, COUNT + 4);
     assert_eq!(shift(&file(&closed(&[[2, 5, 6]]))), format!("R 1 {}\n", COUNT + 4));
     // A line's ends come first, and in a timetable file 7 and 12 come last.
-    let loose = [1, 1, 1, 1, 3, 1, 1, 1, 1, 3, 10, 1];
-    refused(&join(&[&loose, &[1, 2, 5, 6]]), 4, 6);
+    refused(&join(&[LOOSE, &[1, 2, 5, 6]]), 4, 6);
     let unknown = [1, 3, 7, 1, 90, 0, 90, 0, 0, 0, 0];
     assert_eq!(inspect(&file(&join(&[&closed(&[[2, 5, 6]]), &unknown]))), format!("R 4 {}\n", COUNT + 1));
     assert_eq!(inspect(&file(&join(&[&closed(&[[1, 5, 6]]), &unknown]))), format!("R 7 {}\n", COUNT + 5));

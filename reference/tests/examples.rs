@@ -3,7 +3,7 @@
 
 mod common;
 
-use common::{file, join, lines, NETWORK};
+use common::{file, join, lines, LOOSE, NETWORK};
 use reference::programs::{inspect, shift};
 
 /// No closures.
@@ -173,9 +173,8 @@ fn file_refusals() {
     assert_eq!(shift(&file(&join(&[&good, &[0]]))), "R 1 17\n");
     assert_eq!(shift(&file(&join(&[NETWORK, NONE, &[1001]]))), "R 3 16\n");
     // A line with equal ends is 4 at the line's first byte, but only without an earlier kind of fault.
-    let loose = [1, 1, 1, 1, 3, 1, 1, 1, 1, 3, 10, 1];
-    assert_eq!(shift(&file(&join(&[&loose, NONE, &[0]]))), "R 4 6\n");
-    assert_eq!(shift(&file(&loose)), "R 1 12\n");
+    assert_eq!(shift(&file(&join(&[LOOSE, NONE, &[0]]))), "R 4 6\n");
+    assert_eq!(shift(&file(LOOSE)), "R 1 12\n");
     // Stations out of order, and equal ones.
     assert_eq!(shift(&file(&[2, 3, 1, 1, 2, 1, 1])), "R 3 4\n");
     assert_eq!(shift(&file(&[2, 3, 1, 1, 3, 1, 1])), "R 3 4\n");
