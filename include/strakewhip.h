@@ -45,7 +45,7 @@ extern "C" {
 #define STRAKEWHIP_SHEET 8192
 #define STRAKEWHIP_DIVISION 49152
 /* Room for any list of findings, any projection, any answers of a list, any timetable file. */
-#define STRAKEWHIP_MOST_FINDINGS 332160
+#define STRAKEWHIP_MOST_FINDINGS 369024
 #define STRAKEWHIP_MOST_ROWS 64
 #define STRAKEWHIP_MOST_ANSWERS 2000
 #define STRAKEWHIP_MOST_TIMETABLE 7395

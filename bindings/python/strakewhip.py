@@ -17,7 +17,7 @@ import os
 SHEET = 8192
 DIVISION = 6 * SHEET
 # Room for any list of findings, any projection, any answers of a list, any timetable's file.
-MOST_FINDINGS = 332160
+MOST_FINDINGS = 369024
 MOST_ROWS = 64
 MOST_ANSWERS = 2000
 MOST_TIMETABLE = 7395

@@ -18,7 +18,7 @@ pub const SHEET: usize = 8192;
 /// The bytes of a division.
 pub const DIVISION: usize = 6 * SHEET;
 /// Room for any list of findings, four numbers each.
-pub const MOST_FINDINGS: usize = 332_160;
+pub const MOST_FINDINGS: usize = 369_024;
 /// Room for any projection, four numbers a row.
 pub const MOST_ROWS: usize = 64;
 /// Room for the answers to any list of edits, two bytes each.
