@@ -89,6 +89,30 @@ module _ {A : Type 0} (f : A → Bool) where
   keep-every [] t = refl
   keep-every (x ∷ xs) t = rw (T-true (f x) (every-head f x xs t), keep-every xs (every-tail f x xs t))
 
+-- two tests in either order, and a test of what elements are mapped to
+module _ {A : Type 0} (f g : A → Bool) where
+  pub keep-swap : (xs : List A) → keep f (keep g xs) ≡ keep g (keep f xs)
+  unfolding keep
+  keep-swap [] = refl
+  keep-swap (x ∷ xs) = go (f x) refl (g x) refl (keep-swap xs)
+    where
+      go : (a : Bool) → f x ≡ a → (b : Bool) → g x ≡ b → keep f (keep g xs) ≡ keep g (keep f xs)
+          → keep f (if b then x ∷ keep g xs else keep g xs) ≡ keep g (if a then x ∷ keep f xs else keep f xs)
+      go true p true q e = rw (p, q, e)
+      go true p false q e = rw (q, e)
+      go false p true q e = rw (p, e)
+      go false p false q e = e
+
+pub keep-map : {A B : Type 0} (f : B → Bool) (g : A → B) (xs : List A) → keep f (map g xs) ≡ map g (keep (λ x. f (g x)) xs)
+unfolding keep
+keep-map f g [] = refl
+keep-map f g (x ∷ xs) = go (f (g x)) (keep-map f g xs)
+  where
+    go : (b : Bool) → keep f (map g xs) ≡ map g (keep (λ x. f (g x)) xs)
+        → (if b then g x ∷ keep f (map g xs) else keep f (map g xs)) ≡ map g (if b then x ∷ keep (λ x. f (g x)) xs else keep (λ x. f (g x)) xs)
+    go true e = rw e
+    go false e = e
+
 pub count-same : {A : Type 0} (f g : A → Bool) → ((x : A) → f x ≡ g x) → (xs : List A) → count f xs ≡ count g xs
 count-same f g e xs = rw (fun-ext e)
 

@@ -10,9 +10,8 @@ use lib.Dec.{T, ltb, leb, eqb, le→leb}
 use borrow.Author.Tests.{eqb-true}
 use lib.ListN.{length, take}
 use Rattle.base.specs.Lists.{any, every, keep}
-use Rattle.base.specs.Choice.{if_then_else_}
 use Rattle.base.proofs.Tests.{every-append, every-each}
-use Rattle.base.proofs.Counts.{keep-append, keep-flatMap, keep-none, keep-every}
+use Rattle.base.proofs.Counts.{keep-append, keep-flatMap, keep-none, keep-every, keep-swap, keep-map}
 use Rattle.network.specs.Networks.{line-rows, line-row, closure-rows, station-rows, stations-of}
 use Rattle.railway.specs.declared.visit.OutLink.{OutLink}
 use Rattle.railway.specs.declared.visit.Visit.{Visit}
@@ -108,31 +107,6 @@ module _ (n : Network) (m : Timetable) where
     only-ten : spanning n m ≡ first-ten n m
     unfolding spanning first-ten
     only-ten = ap (λ (f : Station → List Spanning). flatMap f (stations-of n)) (fun-ext (λ s. parts-at s ∙ ap (λ (l : List Spanning). ten-at s ++ l) (last-nothing s) ∙ append-nil (ten-at s)))
-
--- lists of findings
-
-module _ {A : Type 0} (f g : A → Bool) where
-  keep-swap : (xs : List A) → keep f (keep g xs) ≡ keep g (keep f xs)
-  unfolding keep
-  keep-swap [] = refl
-  keep-swap (x ∷ xs) = go (f x) refl (g x) refl (keep-swap xs)
-    where
-      go : (a : Bool) → f x ≡ a → (b : Bool) → g x ≡ b → keep f (keep g xs) ≡ keep g (keep f xs)
-          → keep f (if b then x ∷ keep g xs else keep g xs) ≡ keep g (if a then x ∷ keep f xs else keep f xs)
-      go true p true q e = rw (p, q, e)
-      go true p false q e = rw (q, e)
-      go false p true q e = rw (p, e)
-      go false p false q e = e
-
-keep-map : {A B : Type 0} (f : B → Bool) (g : A → B) (xs : List A) → keep f (map g xs) ≡ map g (keep (λ x. f (g x)) xs)
-unfolding keep
-keep-map f g [] = refl
-keep-map f g (x ∷ xs) = go (f (g x)) (keep-map f g xs)
-  where
-    go : (b : Bool) → keep f (map g xs) ≡ map g (keep (λ x. f (g x)) xs)
-        → (if b then g x ∷ keep f (map g xs) else keep f (map g xs)) ≡ map g (if b then x ∷ keep (λ x. f (g x)) xs else keep (λ x. f (g x)) xs)
-    go true e = rw e
-    go false e = e
 
 -- a station is not in two groups
 apart : (γ : Grouping) (g h : ℕ) → ¬ (g ≡ h) → (s : Station) (a c : ℕ) → T (not (between γ g h (spot s s 11 a c)))
