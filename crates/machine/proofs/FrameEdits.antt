@@ -4,19 +4,19 @@
 -- nothing.
 use Prim.Native.Nat.{ℕ, _+_, _*_, _≤_}
 use mathlib.Core.Path.{_≡_, refl, sym, _∙_, ap, ap₂, fun-ext}
-use mathlib.Core.Bool.{Bool, true, false, not, _||_}
+use mathlib.Core.Bool.{Bool, true, false, _||_}
 use mathlib.Core.List.{List, [], _∷_, map}
 use native.Mathlib.Omega.{arith}
 use lib.Dec.{T, eqb, ltb→lt, eqb-refl}
 use lib.ListN.{length}
 use borrow.Author.Tests.{eqb-true, eqb-false, eq-eqb, ne-eqb}
 use Rattle.base.specs.Choice.{if_then_else_, _if_else_}
-use Rattle.base.specs.Lists.{any, every, each-two, count, rising}
-use Rattle.base.proofs.Tests.{by-value, T-true, true-T, T-false, or-l, or-r, both, parts, held, every-head, every-tail, every-weaker, every-any}
-use Rattle.base.proofs.Sorted.{smaller, two-head, two-tail, two-map, rising-map}
+use Rattle.base.specs.Lists.{any, every, each-two, count}
+use Rattle.base.proofs.Tests.{by-value, T-true, true-T, T-false, or-l, or-r, both, parts, every-head, every-tail, every-weaker, every-any}
+use Rattle.base.proofs.Sorted.{smaller, two-head, two-tail}
 use Rattle.railway.specs.Ranges.{same-station}
-use Rattle.network.specs.Networks.{network-refusal, network-in-range, stations-in-range, stations-rise, lines-joined, station-rows, stations-of, listed}
-use Rattle.network.specs.declared.StationRow.{StationRow}
+use Rattle.network.specs.Networks.{network-refusal, stations-rise, stations-of, listed}
+use Rattle.network.proofs.NetworkLaws.{network-facts}
 use Rattle.timetable.specs.Tables.{Table, has-visit, without}
 use Rattle.timetable.specs.Machine.{Timetable, put, Action, Meaning, local, throughout, meaning, known, sound, refused-as, refusal, changed, removed-by, answer, after}
 use Rattle.timetable.specs.Groups.{reaches, names}
@@ -254,12 +254,7 @@ module _ (n : Network) (e : Edit) (ok : T (sound e)) (fits : T (fits-network n (
 
 -- a good network's stations rise
 pub stations-apart : (n : Network) → network-refusal n ≡ 0 → T (each-two (smaller code) (stations-of n))
-unfolding network-refusal network-in-range stations-in-range stations-rise stations-of
-stations-apart n good =
-    let range = held 2 (network-in-range n) (4 if not (lines-joined n) else 0) good in
-    let up : T (rising (map (λ r. r .station .0) (station-rows n))) = search parts in
-    let two : T (each-two (smaller (λ (r : StationRow). r .station .0)) (station-rows n)) = rw (rising-map (λ (r : StationRow). r .station .0) (station-rows n)) at up in
-    rw (two-map (smaller code) (λ (r : StationRow). r .station) (station-rows n)) two
+stations-apart n good = network-facts n good .stations-rise
 
 pub every-listed : (n : Network) → T (every (listed n) (stations-of n))
 unfolding listed
