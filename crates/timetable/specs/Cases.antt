@@ -122,12 +122,12 @@ network ss h ls = network-with (record { stations = ss; headway = h; lines = ls;
 unfoldable pub closure : ℕ → ℕ → ℕ → Closure
 closure l a b = record { line = ln l; start = at a; end = record { 0 = b } }
 
--- the listing's stations, a line between them, and closures
-unfoldable pub closed-line : LineRow → List Closure → Network
-closed-line l cs = network-with (record { stations = station 1 1 2 ∷ station 2 2 1 ∷ []; headway = 3; lines = l ∷ []; closures = cs })
+-- the listing's stations, lines between them, and closures
+unfoldable pub closed-lines : List LineRow → List Closure → Network
+closed-lines ls cs = network-with (record { stations = station 1 1 2 ∷ station 2 2 1 ∷ []; headway = 3; lines = ls; closures = cs })
 
 unfoldable pub closed : List Closure → Network
-closed cs = closed-line (line 1 1 2 3 10 1) cs
+closed cs = closed-lines (line 1 1 2 3 10 1 ∷ []) cs
 
 -- so many closures of line 1, a minute each
 unfoldable pub windows : ℕ → List Closure
@@ -307,7 +307,7 @@ failing k (c ∷ cs) = if passes c then failing (suc k) cs else k ∷ failing (s
 
 -- The key ring of this module and of all that it computes with.
 unfoldable pub opened : Unit {0}
-unfolding st tr ln at plan place prepend append delete-first delete-last arrives departs relate unrelate delete-train four two pair station line network closure closed-line closed windows
+unfolding st tr ln at plan place prepend append delete-first delete-last arrives departs relate unrelate delete-train four two pair station line network closure closed-lines closed windows
     with-capacity net branch leaving inbound crowd connections visiting by to tabled standing bare counted told run-of listed-edits
     outcome-numbers placed-edits shift-numbers reads-as reads-refused lists answer-numbers signed row-numbers each-before passes failing
     Lists.opened Runs.opened Numbers.opened Relations.opened Edits.opened Networks.opened

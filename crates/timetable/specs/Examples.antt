@@ -12,7 +12,7 @@ use Rattle.timetable.specs.Pieces.{cut, size, station-row, line-row, up-
 use Rattle.timetable.specs.Pieces.{net-numbers, loop-numbers, listed-numbers, each-kind, crowd-visits, connected}
 use Rattle.timetable.specs.Cases as Cases
 use Rattle.timetable.specs.Cases.{st, plan, place, prepend, append, delete-first, delete-last, arrives, departs, relate, unrelate, delete-train}
-use Rattle.timetable.specs.Cases.{four, two, pair, station, line, network, closure, closed-line, closed, windows, with-capacity, net, branch, leaving, inbound, crowd, connections}
+use Rattle.timetable.specs.Cases.{four, two, pair, station, line, network, closure, closed-lines, closed, windows, with-capacity, net, branch, leaving, inbound, crowd, connections}
 use Rattle.timetable.specs.Cases.{visiting, by, to, tabled, standing, bare, counted, told}
 use Rattle.timetable.specs.Cases.{Case, bytes, unread, found, stands, related, answered, answered-on, ordered, network-is, naming, table-is}
 use Rattle.timetable.specs.Cases.{network-file, edits-file, shift-file, timetable-file}
@@ -476,7 +476,7 @@ closures =
     -- inside, around, and of another line
     ∷ found (closed (closure 1 103 105 ∷ [])) (leaving 7 100 12) (finding (st 1) 11 7 1) true
     ∷ found (closed (closure 1 0 2880 ∷ [])) (leaving 7 100 12) (finding (st 1) 11 7 1) true
-    ∷ found net (leaving 7 100 12) (finding (st 1) 11 7 1) false
+    ∷ found (closed-lines (line 1 1 2 3 10 1 ∷ line 2 1 2 3 10 1 ∷ []) (closure 2 0 2880 ∷ [])) (leaving 7 100 12) (finding (st 1) 11 7 1) false
     -- two closures give one finding, in the area's list and in no pair's
     ∷ area-has (closed (closure 1 100 103 ∷ closure 1 105 107 ∷ [])) (run-of (leaving 7 100 12)) 1 (1 ∷ 11 ∷ 7 ∷ 1 ∷ [])
     ∷ pair-has (closed (closure 1 100 103 ∷ closure 1 105 107 ∷ [])) (run-of (leaving 7 100 12)) 1 2 []
@@ -506,7 +506,7 @@ closures =
     ∷ network-is (closed (closure 1 5 4 ∷ closure 2 0 0 ∷ [])) 3
     ∷ network-is (closed (closure 1 0 1 ∷ closure 2 5 5 ∷ [])) 14
     ∷ network-is (closed (closure 2 5 6 ∷ [])) 4
-    ∷ network-is (closed-line (line 1 1 1 3 10 1) (closure 1 5 5 ∷ [])) 14
+    ∷ network-is (closed-lines (line 1 1 1 3 10 1 ∷ []) (closure 1 5 5 ∷ [])) 14
     -- files: good ones; windows may overlap or touch, and a later line may be closed earlier
     ∷ network-file (bytes-of (closed-by (closure-row 1 0 2880 ∷ closure-row 1 100 110 ∷ closure-row 1 110 120 ∷ [])))
     (0 ∷ size (closed-by (closure-row 1 0 2880 ∷ closure-row 1 100 110 ∷ closure-row 1 110 120 ∷ [])) ∷ closed-by (closure-row 1 0 2880 ∷ closure-row 1 100 110 ∷ closure-row 1 110 120 ∷ []))
@@ -522,7 +522,8 @@ closures =
     ∷ network-file (bytes-of (closed-by (closure-row 1 100 110 ∷ closure-row 1 100 120 ∷ []))) (3 ∷ (second-closure + 1) ∷ [])
     ∷ network-file (bytes-of (closed-by (closure-row 1 100 110 ∷ closure-row 1 99 120 ∷ []))) (3 ∷ (second-closure + 1) ∷ [])
     ∷ network-file (bytes-of (closed-by (closure-row 2 100 110 ∷ closure-row 1 101 120 ∷ []))) (3 ∷ second-closure ∷ [])
-    -- 14 at the closure's first byte, the first such closure; before 4 of a line and of a closure, behind a faulty number
+    -- 14 at the closure's first byte, the first such closure; before 4 of a line and of a closure, behind a faulty
+    -- number
     ∷ network-file (bytes-of (closed-by (closure-row 1 100 100 ∷ []))) (14 ∷ first-closure ∷ [])
     ∷ network-file (bytes-of (closed-by (closure-row 1 100 110 ∷ closure-row 1 110 99 ∷ closure-row 1 111 1 ∷ []))) (14 ∷ second-closure ∷ [])
     ∷ network-file (bytes-of (closed-row two-stations 3 (line-row 1 1 1 3 10 1 ∷ []) (closure-row 1 100 100 ∷ []))) (14 ∷ first-closure ∷ [])
