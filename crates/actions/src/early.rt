@@ -1,4 +1,4 @@
-// What refuses an edit before any sheet is looked at, in the order of every call: 3, 4, 7.
+// What refuses an edit before any sheet is looked at, in the order of every call: 3, 14, 4, 7.
 ghost use mathlib.Core.Path.{_≡_};
 ghost use Rattle.timetable.specs.Refusals.{early};
 ghost use Rattle.timetable.specs.Machine.{edit-refusal};

@@ -1,4 +1,4 @@
-// The calls that list findings. Refusals in document 01's order: 5, 3, 4, 6, 13.
+// The calls that list findings. Refusals in the documents' order: 5, 3, 14, 4, 6, 13.
 ghost use mathlib.Core.Path.{_≡_};
 ghost use mathlib.Core.Bool.{_&&_};
 ghost use Prim.Native.Nat.{_≤_};
@@ -75,7 +75,7 @@ fn write_list(out: &mut [u16], sheet: &[u8], n: Network, scope: Scope) -> Output
     write_drafted(out, sheet, n, scope, &mut draft)
 }
 
-// What refuses the list of findings of a sheet: 5, 3, 4, 6, or 0.
+// What refuses the list of findings of a sheet: 5, 3, 14, 4, 6, or 0.
 pub fn sheet_refusal(sheet: &[u8], n: Network) -> u8
     ensures { λ r. ⌜ r ≡ sheet-list-refusal n (now (sheet .entry)) ⌝ }
 {

@@ -8,7 +8,7 @@ use Rattle.timetable.specs.Formats.{bytes-of}
 use Rattle.timetable.specs.NetworkFile.{network-numbers}
 use Rattle.timetable.specs.Outputs.{Reply, output, output-after}
 
--- 3, 4, 13
+-- 3, 14, 4, 13
 unfoldable pub write-network : Network → List ℕ → Reply
 write-network n buffer = output (network-refusal n) (bytes-of (network-numbers n)) buffer
 

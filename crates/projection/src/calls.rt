@@ -1,5 +1,5 @@
 // The call: the rows of a train from one visit on, as numbers into a lent buffer. Document 01, "Projection and tally":
-// "It refuses 5, 3, 4, 7, 6, 9, 13."
+// "It refuses 5, 3, 4, 7, 6, 9, 13.", and 14 straight after 3.
 ghost use mathlib.Core.Path.{_≡_};
 ghost use lib.ListN.{length};
 ghost use Rattle.timetable.specs.Outputs.{reply, output, output-after};
@@ -26,7 +26,7 @@ fn are_valid(s: Station, t: Train, a: Minute) -> bool
     false
 }
 
-// 3, 4, 7, or 0: what refuses before the sheet is looked at.
+// 3, 14, 4, 7, or 0: what refuses before the sheet is looked at.
 fn early_refusal(n: Network, s: Station, t: Train, a: Minute) -> u8
     ensures { λ r. ⌜ r ≡ early-refusal n s t a ⌝ }
 {

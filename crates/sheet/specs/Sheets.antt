@@ -60,7 +60,7 @@ area-part division a = if eqb (length division) 49152 && area-ok a then sheet-at
 unfoldable pub station-part : List ℕ → Station → List ℕ
 station-part sheet s = if eqb (length sheet) 8192 && station-ok s then page-at sheet s else []
 
--- 5, 3, 4, 6 in this order
+-- 5, 3, 14, 4, 6 in this order
 
 -- of a call that reads the sheet of a whole timetable
 abbrev pub whole-refusal : Network → List ℕ → ℕ

@@ -16,7 +16,7 @@ use Rattle.timetable_writing.specs.Types.{Network, Totals}
 unfoldable pub timetable-bytes : Network → List ℕ → List ℕ
 timetable-bytes n sheet = bytes-of (timetable-numbers n (decode-sheet sheet))
 
--- 5, 3, 4, 6, 13: "5 a wrong buffer length", "6 a sheet it reads isn't good"
+-- 5, 3, 14, 4, 6, 13: "5 a wrong buffer length", "6 a sheet it reads isn't good"
 
 unfoldable pub write-timetable : Network → List ℕ → List ℕ → Reply
 write-timetable n sheet buffer = output (whole-refusal n sheet) (timetable-bytes n sheet) buffer
