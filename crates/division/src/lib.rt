@@ -119,7 +119,8 @@ fn areas(network: Network) -> [u8; 16]
     ]
 }
 
-// "Dividing puts each station's entries in its area's sheet": 5, 3, 4 or 6, and the division is left as it was; else 0.
+// "Dividing puts each station's entries in its area's sheet": 5, 3, 14, 4 or 6, and the division is left as it was;
+// else 0.
 pub fn divide(sheet: &[u8], division: &mut [u8], network: Network) -> u8
     ensures { λ r. ⌜
         (r ≡ divide-refusal network (now (sheet .entry)) (now (division .entry)))

@@ -6,3 +6,4 @@ pub mod FloorLaws
 pub mod ByteLaws
 pub mod NumbersPut
 pub mod RowHolds
+pub mod FileRefusals

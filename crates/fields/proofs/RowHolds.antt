@@ -1,5 +1,5 @@
--- A row that holds numbers has them in use; and the numbers of a row copied one by one to the front of another: what was
--- copied and what is left are the numbers to copy. Assumes nothing.
+-- A row that holds numbers has them in use; and the numbers of a row copied one by one to the front of another: what
+-- was copied and what is left are the numbers to copy. Assumes nothing.
 use Prim.Native.Nat.{ℕ, _+_, _-_, _<_, _≤_, min}
 use mathlib.Core.Path.{_≡_, refl, sym, _∙_, ap}
 use mathlib.Core.List.{List, [], _∷_, _++_, append-nil}

@@ -20,8 +20,8 @@ use Rattle.listings.specs.Shift.{shift-text}
 use Rattle.listings.specs.Inspect as Inspect
 use Rattle.listings.specs.Inspect.{inspect-text}
 
--- `2, 1 1 2, 2 2 1, 3, 1, 1 1 2 3 10 1, 4, 1 1 7 1 100 102, 3 2 7 1 115 115 1 1 12, 1 1 7 1 100 102, 9 1 1 5 2 7 9`, with
--- W1's 0 before its edits
+-- `2, 1 1 2, 2 2 1, 3, 1, 1 1 2 3 10 1, 4, 1 1 7 1 100 102, 3 2 7 1 115 115 1 1 12, 1 1 7 1 100 102, 9 1 1 5 2 7 9`,
+-- with W1's 0 before its edits
 pub input : List ℕ
 input =
     2 ∷ 1 ∷ 1 ∷ 2 ∷ 2 ∷ 2 ∷ 1 ∷ 3 ∷ 1 ∷ 1 ∷ 1 ∷ 2 ∷ 3 ∷ 10 ∷ 1 ∷ 0
@@ -68,9 +68,9 @@ listing-holds = refl
 
 -- `inspect`
 
--- `2, 1 1 2, 2 2 1, 3, 1, 1 1 2 3 10 1, 0, 3, 1 7 1 100 1 102 0 0 2 1 12, 2 7 1 130 0 130 0 1 1 0, 2 8 1 128 0 131 0 0 0,
--- 1, 1 1 5 2 7 9`: train 7 runs from area 1 to area 2, where train 8 stands on its track; train 9 of the connection is
--- missing
+-- `2, 1 1 2, 2 2 1, 3, 1, 1 1 2 3 10 1, 0, 3, 1 7 1 100 1 102 0 0 2 1 12, 2 7 1 130 0 130 0 1 1 0, 2 8 1 128 0 131 0 0
+-- 0, 1, 1 1 5 2 7 9`: train 7 runs from area 1 to area 2, where train 8 stands on its track; train 9 of the connection
+-- is missing
 pub inspect-input : List ℕ
 inspect-input =
     bytes-of net-numbers

@@ -5,8 +5,3 @@ pub mod CentralEdits
 pub mod WholeSheets
 pub mod FrameEdits
 pub mod EditCalls
-pub mod KnownGood
-pub mod FileRefusals
-pub mod TakenLaws
-pub mod RunLaws
-pub mod ReplyFixesRun

@@ -1,4 +1,2 @@
 pub mod Types
 pub mod Calls
-pub mod Lists
-pub mod between

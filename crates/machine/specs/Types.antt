@@ -1,4 +1,4 @@
--- The types of the crates below and of this crate, under one module for this crate's own files.
+-- The types of the crates below, under one module for this crate's own files.
 pub use Rattle.railway.specs.declared.sorts.Station.{Station}
 pub use Rattle.railway.specs.declared.sorts.Train.{Train}
 pub use Rattle.railway.specs.declared.visit.Visit.{Visit}
@@ -6,7 +6,3 @@ pub use Rattle.railway.specs.declared.edit.Edit.{Edit}
 pub use Rattle.railway.specs.declared.edit.Edit.the-variants.{Place, Prepend, Append, DeleteFirst, DeleteLast, Amend, ReportArrival, ReportDeparture, AddRelation, RemoveRelation, DeleteTrain}
 pub use Rattle.network.specs.declared.Network.{Network}
 pub use Rattle.timetable.specs.declared.Answer.{Answer}
-pub use Rattle.machine.specs.declared.list.Run.{Run}
-pub use Rattle.edit_files.specs.declared.edit.Cursor.{Cursor}
-pub use Rattle.edit_files.specs.declared.edit.NextEdit.{NextEdit}
-pub use Rattle.edit_files.specs.declared.list.EditsRead.{EditsRead}

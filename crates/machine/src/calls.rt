@@ -1,9 +1,8 @@
-// The calls of the central machine: an edit on a sheet, an edit on a division. Refusals in document 01's order: 5, 3,
-// 4, 7, 6, then 8 to 12. An edit that nothing refuses under a good network has 3 and 4 of its network from the test of
-// its sheets, so that the network is tested once.
+// The calls of the central machine: an edit on a sheet, an edit on a division. Refusals in the documents' order: 5, 3,
+// 14, 4, 7, 6, then 8 to 12. An edit that nothing refuses under a good network has its network's refusals from the test
+// of its sheets, so that the network is tested once.
 ghost use mathlib.Core.Path.{_≡_};
 ghost use Rattle.machine.specs.Calls.{refused-with, sheet-answer, sheet-after, division-answer, division-after};
-use crate::pages;
 use actions::early;
 use network::Network;
 use railway::edit::Edit;
@@ -31,7 +30,7 @@ pub fn edit_sheet(sheet: &mut [u8], n: Network, e: Edit) -> Answer
     }
     let later = test::sheet_refusal(sheet, n, Extent::Whole);
     if later == 0 {
-        return pages::edit_pages(sheet, false, n, e);
+        return page_edits::edit_pages(sheet, false, n, e);
     }
     refused(later)
 }
@@ -47,7 +46,7 @@ pub fn edit_division(division: &mut [u8], n: Network, e: Edit) -> Answer
     }
     let later = named_sheets::named_refusal(division, n, e);
     if later == 0 {
-        return pages::edit_pages(division, true, n, e);
+        return page_edits::edit_pages(division, true, n, e);
     }
     refused(later)
 }

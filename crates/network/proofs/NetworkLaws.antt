@@ -1,7 +1,7 @@
--- What holds of a good network, one that 3, 14 and 4 do not refuse: its values are in range, the numbers of its stations
--- and of its lines rise, so that none is there twice, each of its lines joins two different listed stations, and each of
--- its closures ends after its start and is of a listed line. These are the parts of the tests that decide it. Assumes
--- nothing.
+-- What holds of a good network, one that 3, 14 and 4 do not refuse: its values are in range, the numbers of its
+-- stations and of its lines rise, so that none is there twice, each of its lines joins two different listed stations,
+-- and each of its closures ends after its start and is of a listed line. These are the parts of the tests that decide
+-- it. Assumes nothing.
 use Prim.Native.Nat.{ℕ}
 use mathlib.Core.Path.{_≡_}
 use mathlib.Core.Bool.{not, _&&_}

@@ -1,6 +1,6 @@
 -- The lines of a good network by their numbers. Rows rise by number, so a row in use that has a line's number is the
--- first that has it, and so the line's. A row in use is in range and joins two listed stations, so a line that runs from
--- one station to another is in range, and both are listed. Assumes nothing.
+-- first that has it, and so the line's. A row in use is in range and joins two listed stations, so a line that runs
+-- from one station to another is in range, and both are listed. Assumes nothing.
 use Prim.Native.Nat.{ℕ, zero, suc, _<_}
 use mathlib.Core.Path.{_≡_, ap}
 use mathlib.Core.Bool.{Bool, _&&_}

@@ -192,7 +192,8 @@ impl Network {
         LineFound::Nothing
     }
 
-    // The row in use at the index of its number is the station's, as in a network that lists its stations without a gap.
+    // The row in use at the index of its number is the station's, as in a network that lists its stations without a
+    // gap.
     fn stands_in_place(self, s: Station) -> bool
         ensures { λ r. ⌜ (r ≡ true → listed self s ≡ true) ⌝ }
     {

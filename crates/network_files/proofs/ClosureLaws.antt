@@ -1,5 +1,5 @@
--- A closure read number by number behind the closure before: its line and its start are compared with that one's, its end
--- with nothing. Assumes nothing.
+-- A closure read number by number behind the closure before: its line and its start are compared with that one's, its
+-- end with nothing. Assumes nothing.
 use Prim.Native.Nat.{ℕ, _≤_}
 use mathlib.Core.Path.{_≡_, refl, ap}
 use mathlib.Core.Bool.{Bool, true, false}

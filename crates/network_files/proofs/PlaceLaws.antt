@@ -1,6 +1,6 @@
 -- Reading a file never goes past its end, and what is refused carries a number that is not 0 and a place of the file or
--- its end: by induction over the groups of a number and over the format. An entry's place is where its reading began, so
--- a fault that only the whole network shows has a place of the file too. Assumes nothing.
+-- its end: by induction over the groups of a number and over the format. An entry's place is where its reading began,
+-- so a fault that only the whole network shows has a place of the file too. Assumes nothing.
 use Prim.Native.Nat.{ℕ, zero, suc, _+_, _*_, _-_, _≤_}
 use mathlib.Core.Path.{_≡_, refl, sym, _∙_, subst}
 use mathlib.Core.Bool.{Bool, true, false, not}

@@ -1,6 +1,6 @@
--- Entries rise if each is above the floor that the one before it sets. Above a floor is below the other way round, number
--- by number; a relation's numbers are its key without the places not used, and as the count stands before the trains,
--- both order alike. Assumes nothing.
+-- Entries rise if each is above the floor that the one before it sets. Above a floor is below the other way round,
+-- number by number; a relation's numbers are its key without the places not used, and as the count stands before the
+-- trains, both order alike. Assumes nothing.
 use Prim.Native.Nat.{ℕ, _≤_}
 use mathlib.Core.Path.{_≡_, refl, sym, ap, subst}
 use mathlib.Core.Bool.{Bool, true, false, _&&_, _||_}

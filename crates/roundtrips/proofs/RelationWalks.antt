@@ -1,6 +1,6 @@
 -- A relation's entry, walked: its numbers are those that the relation is written with, it is in range, and it is above
--- the floor; and such a relation walks it. The trains as numbers by induction; the four places of a group by how many are
--- in use. Assumes nothing.
+-- the floor; and such a relation walks it. The trains as numbers by induction; the four places of a group by how many
+-- are in use. Assumes nothing.
 use Prim.Native.Nat.{ℕ, zero, suc, _+_, _-_, _≤_}
 use mathlib.Core.Path.{_≡_, refl, sym, _∙_, ap, ap₂, subst}
 use mathlib.Core.Bool.{Bool, true, false, not, _&&_}

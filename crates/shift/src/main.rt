@@ -4,8 +4,8 @@ use libc::STDIN_FILENO;
 use shift_lines::listing;
 use timetable::Output;
 
-// A buffer that has room for any text, so none is refused. Where nothing was printed, it is tried again so many times. A
-// function that calls itself is not merged into its caller: the buffer's pages are touched only where it is needed.
+// A buffer that has room for any text, so none is refused. Where nothing was printed, it is tried again so many times.
+// A function that calls itself is not merged into its caller: the buffer's pages are touched only where it is needed.
 fn print_long(input: &[u8], tries: u8) {
     let mut out = [0u8; listing::MOST];
     let output = listing::write_listing(input, &mut out);

@@ -3,19 +3,16 @@
 -- edits' (formats). Assumes nothing.
 use Prim.Native.Nat.{ℕ, _-_, _≤_, _<_}
 use mathlib.Core.Path.{_≡_, refl, sym, _∙_, ap, ap₂, subst}
-use mathlib.Core.Bool.{Bool, true, false}
 use mathlib.Core.List.{List, _++_}
 use native.Mathlib.Omega.{arith}
-use lib.Dec.{T, eqb}
+use lib.Dec.{T}
 use lib.ListN.{length, drop, length-append}
 use lib.Seq.{drop-append-seam}
-use borrow.Author.Tests.{lt-ltb, le-ltb, eqb-false}
-use Rattle.base.specs.Choice.{if_then_else_}
+use borrow.Author.Tests.{lt-ltb, le-ltb}
 use Rattle.base.specs.Lists.{every}
 use Rattle.numbers.specs.Numbers.{write-number, width}
 use Rattle.railway.specs.Edits.{edit-ok}
 use Rattle.network.specs.Networks.{network-refusal}
-use Rattle.timetable.specs.declared.Fault.{Fault}
 use Rattle.timetable.specs.Formats.{Outcome, accepted, refused, read, read-file, ended, bytes-of, Placed, number, place-of, value-or}
 use Rattle.timetable.specs.NetworkFile.{network-of, network-numbers, network-fault, unless-fault}
 use Rattle.timetable.specs.EditsFile.{read-edits, edits-numbers, Shift, Input, shift-format, read-shift}
@@ -26,9 +23,9 @@ use Rattle.edit_files.specs.Answers.{edits-answer, shift-answer}
 use Rattle.edit_files.specs.declared.list.EditsRead.{EditsRead}
 use Rattle.edit_files.specs.declared.input.ShiftRead.{ShiftRead}
 use Rattle.page.proofs.FlatLaws.{flat-append}
-use Rattle.machine.specs.between.Taken.{edits-at}
-use Rattle.machine.proofs.FileRefusals.{Told, behind-told, read-told, ended-told}
-use Rattle.machine.proofs.RunLaws.{held}
+use Rattle.edit_lists.specs.between.Taken.{edits-at}
+use Rattle.fields.proofs.FileRefusals.{Told, behind-told, read-told, ended-told, fault-told}
+use Rattle.edit_lists.proofs.RunLaws.{held}
 use Rattle.listings.specs.Shift.{refusal-text, shift-told, shift-text}
 use Rattle.shift_lines.specs.Types.{Edit}
 use Rattle.shift_lines.specs.between.Listing.{EditsFile, run-text}
@@ -36,14 +33,6 @@ use Rattle.network_files.proofs.PlaceLaws.{taken-same}
 use Rattle.shift_lines.proofs.PlacesWithin.{refused-within}
 
 -- the input is never refused with 0
-
-fault-told : {A : Type 0} (f : Fault) (a : A) (next : ℕ) → Told (unless-fault f (accepted a next))
-unfolding unless-fault
-fault-told f a next k p q z = go (eqb (f .number) 0) refl q
-  where
-    go : (b : Bool) → eqb (f .number) 0 ≡ b → (if b then accepted a next else refused (f .number) (f .place)) ≡ refused k p → ⊥
-    go true e r = let s : _≡_ {A = ℕ} 0 1 = cc in omega (arith, s)
-    go false e r = let s : f .number ≡ k = cc in eqb-false (f .number) 0 e (s ∙ z)
 
 abbrev shift-of : Input → Shift
 shift-of x = record { network = network-of (x .listed); edits = x .edits }

@@ -1,5 +1,5 @@
--- The place that a refusal of `shift`'s input carries lies within the file or at its end: reading never goes past it, and
--- what only the whole network shows has a place of the file (network_files). Assumes nothing.
+-- The place that a refusal of `shift`'s input carries lies within the file or at its end: reading never goes past it,
+-- and what only the whole network shows has a place of the file (network_files). Assumes nothing.
 use Prim.Native.Nat.{ℕ, _≤_}
 use mathlib.Core.Path.{_≡_, refl, subst}
 use mathlib.Core.List.{List}

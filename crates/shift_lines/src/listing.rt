@@ -8,15 +8,14 @@ ghost use Rattle.timetable.specs.Listing.{tally-line};
 ghost use Rattle.timetable.specs.Outputs.{Puts, reply, output, output-after};
 ghost use Rattle.sheet.specs.Sheets.{decode-sheet, merged};
 ghost use Rattle.records.specs.Bytes.{zeros};
-ghost use Rattle.machine.specs.Lists.{known-good};
-ghost use Rattle.machine.specs.between.Taken.{edits-at};
+ghost use Rattle.edit_lists.specs.Lists.{known-good};
+ghost use Rattle.edit_lists.specs.between.Taken.{edits-at};
 ghost use Rattle.builder.specs.between.Builder.{findings-most};
 ghost use Rattle.listings.specs.Shift.{line-text, shift-text};
 ghost use Rattle.text.specs.between.Lines.{far};
 ghost use Rattle.shift_lines.specs.between.Listing.{shift-most, EditsFile, end-text, run-text};
 use crate::answers;
 use edit_files::input::read_shift;
-use machine::list;
 use network::Network;
 use sheet_lines::totals;
 use sheet_lines::whole;
@@ -90,7 +89,7 @@ fn run_in(
         × (now division ≡ zeros 49152) ⌝ }
     ensures { λ r. ⌜ Puts 0 (run-text n (edits-at count (now (file .entry)) first)) (now (out .entry)) r (now (out .exit)) shift-most ⌝ }
 {
-    list::run_list(division, n, file, answers);
+    edit_lists::run_list(division, n, file, answers);
     let progress = answers::put_answers(out, file, first, count, answers);
     put_end(out, progress.at, division, n, progress.tally)
 }
@@ -124,8 +123,8 @@ fn put_listing(out: &mut [u8], input: &[u8]) -> usize
     put_run(out, &input[at..], r.network, width, count as u32)
 }
 
-// The text is made in a lent draft first, so that a buffer that is too short is left as it was; one that the draft has no
-// room for is then made again.
+// The text is made in a lent draft first, so that a buffer that is too short is left as it was; one that the draft has
+// no room for is then made again.
 fn write_drafted(input: &[u8], out: &mut [u8], draft: &mut [u8]) -> Output
     ensures { λ r. ⌜
         (reply r ≡ output 0 (shift-text (now (input .entry))) (now (out .entry)))

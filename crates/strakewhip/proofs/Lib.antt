@@ -1,3 +1,1 @@
 pub mod FileLaws
-pub mod NameLaws
-pub mod RaiseLaws

@@ -2,27 +2,21 @@
 -- network's file, the other file, then the refusals of the call itself. Assumes nothing.
 use Prim.Native.Nat.{ℕ}
 use mathlib.Core.Bool.{Bool, _&&_}
-use mathlib.Core.List.{List, [], _∷_}
+use mathlib.Core.List.{List}
 use lib.Dec.{eqb}
 use lib.IntN.{ℤ}
-use lib.ListN.{length, getD}
-use Rattle.base.specs.Choice.{if_then_else_}
-use Rattle.network.specs.Networks.{area-of}
+use lib.ListN.{length}
 use Rattle.timetable.specs.NetworkFile.{read-network}
-use Rattle.timetable.specs.Groups.{names-group}
 use Rattle.timetable.specs.Outputs.{output, output-after}
-use Rattle.timetable.specs.Count.{overfull, raise-refusal, raise}
-use Rattle.actions.specs.Early.{early-refusal}
 use Rattle.sheet.specs.Sheets.{divide-refusal, after-divide, merge-refusal, after-merge}
-use Rattle.machine.specs.Calls.{division-answer, division-after, sheet-answer, sheet-after}
 use Rattle.findings.specs.Lists.{sheet-list, area-list, two-list, sheet-list-refusal, area-list-refusal, two-list-refusal}
-use Rattle.machine.specs.Lists.{run-answer, run-division, run-answers}
+use Rattle.edit_lists.specs.Lists.{run-answer, run-division, run-answers}
 use Rattle.timetable_files.specs.Calls.{read-answer, read-after}
 use Rattle.timetable_writing.specs.Writing.{write-timetable, timetable-written}
 use Rattle.projection.specs.Calls.{project-answer, project-after}
-use Rattle.strakewhip.specs.Types.{Edit, Network, Area, Answer, Tally, Reply}
-use Rattle.strakewhip.specs.Replies.{sized, plain, placed, bits, of-answer, of-reply, of-outcome, by-file, told, left}
-use Rattle.single_edit.specs.Reading.{read-one}
+use Rattle.replies.specs.Replies.{plain, placed, of-reply, of-outcome, by-file, told, left}
+use Rattle.edit_replies.specs.Replies.{named-under, one-reply, one-left, sheet-one-reply, sheet-one-left}
+use Rattle.strakewhip.specs.Types.{Area, Reply}
 
 abbrev pub is-sheet : List ℕ → Bool
 is-sheet sheet = eqb (length sheet) 8192
@@ -35,32 +29,10 @@ is-division division = eqb (length division) 49152
 unfoldable pub network-reply : List ℕ → Reply
 network-reply network = of-outcome 1 (read-network network)
 
--- what refuses it before any sheet is looked at, or the areas: "one refused with 3 or 7 names none"
-unfoldable pub named : Network → Edit → Reply
-named n e = if eqb (early-refusal n e) 0 then sized 0 (bits (names-group n (area-of n) e)) else plain (early-refusal n e)
-
-unfoldable pub named-under : Network → List ℕ → Reply
-named-under n edit = by-file (read-one edit) (placed 2) (named n)
-
 unfoldable pub names-reply : List ℕ → List ℕ → Reply
 names-reply network edit = by-file (read-network network) (placed 1) (λ n. named-under n edit)
 
 -- an edit
-
--- under a network: the edit's file, then the call
-module _ (n : Network) (edit division : List ℕ) where
-  unfoldable pub one-reply : Reply
-  one-reply = by-file (read-one edit) (placed 2) (λ e. of-answer (division-answer n e division))
-
-  unfoldable pub one-left : List ℕ
-  one-left = by-file (read-one edit) (λ k p. division) (λ e. division-after n e division)
-
-module _ (n : Network) (edit sheet : List ℕ) where
-  unfoldable pub sheet-one-reply : Reply
-  sheet-one-reply = by-file (read-one edit) (placed 2) (λ e. of-answer (sheet-answer n e sheet))
-
-  unfoldable pub sheet-one-left : List ℕ
-  sheet-one-left = by-file (read-one edit) (λ k p. sheet) (λ e. sheet-after n e sheet)
 
 module _ (network edit division : List ℕ) where
   unfoldable pub edit-reply : Reply
@@ -165,29 +137,8 @@ module _ (network sheet : List ℕ) (s t a : ℕ) (out : List ℤ) where
   unfoldable pub project-left : List ℤ
   project-left = left (is-sheet sheet) (read-network network) out (λ n. project-after n (record { 0 = s }) (record { 0 = t }) (record { 0 = a }) sheet out)
 
--- the tally, as four numbers
-
-unfoldable pub tally-of : List ℕ → Tally
-tally-of c = record { accepted = getD c 0 0; refused = getD c 1 0; added = getD c 2 0; removed = getD c 3 0 }
-
-unfoldable pub numbers-of : Tally → List ℕ
-numbers-of y = y .accepted ∷ y .refused ∷ y .added ∷ y .removed ∷ []
-
-module _ (edit : List ℕ) (k removed : ℕ) (counts : List ℕ) where
-  abbrev answer : Answer
-  answer = record { refusal = k; removed = removed }
-
-  -- 5, the edit's file, 3
-  unfoldable pub raise-reply : Reply
-  raise-reply = if overfull (tally-of counts) then plain 5 else by-file (read-one edit) (placed 2) (λ e. plain (raise-refusal (tally-of counts) answer))
-
-  unfoldable pub raise-left : List ℕ
-  raise-left =
-      if overfull (tally-of counts) then counts else by-file (read-one edit) (λ k p. counts) (λ e. numbers-of (raise (tally-of counts) e answer))
-
 -- The key ring of this module: `unfolding opened` opens every definition above.
 unfoldable pub opened : Unit {0}
-unfolding network-reply named named-under names-reply one-reply one-left sheet-one-reply sheet-one-left edit-reply edit-left sheet-edit-reply sheet-edit-left run-reply run-left answers-left divide-reply divide-left merge-reply merge-left findings-reply
-    findings-left area-reply area-left pair-reply pair-left read-reply read-left write-reply write-left project-reply project-left tally-of numbers-of raise-reply
-    raise-left
+unfolding network-reply names-reply edit-reply edit-left sheet-edit-reply sheet-edit-left run-reply run-left answers-left divide-reply divide-left merge-reply merge-left findings-reply
+    findings-left area-reply area-left pair-reply pair-left read-reply read-left write-reply write-left project-reply project-left
 opened = tt

@@ -1,18 +1,9 @@
 // What a centre asks before it lends a sheet: whether a network can be read, and which areas an edit names.
 ghost use mathlib.Core.Path.{_≡_};
-ghost use Prim.Native.Nat.{_≤_};
-ghost use Rattle.base.specs.Choice.{_if_else_};
-ghost use Rattle.named_sheets.specs.between.Named.{touches-area};
-ghost use Rattle.strakewhip.specs.Replies.{bits};
-ghost use Rattle.strakewhip.specs.Calls.{network-reply, named, named-under, names-reply};
-use crate::reply;
-use crate::reply::Reply;
-use actions::early;
-use named_sheets::names_area;
-use network::Network;
+ghost use Rattle.strakewhip.specs.Calls.{network-reply, names-reply};
+use edit_replies::naming;
 use network_files::reading::read_network;
-use railway::edit::Edit;
-use railway::sorts::Area;
+use replies::Reply;
 
 // Refusal and place of a network's file; `length` is what was read.
 #[no_mangle]
@@ -21,50 +12,9 @@ pub extern "C" fn strakewhip_network(network: &[u8]) -> Reply
 {
     let read = read_network(network);
     if read.refusal != 0 {
-        return reply::placed(1, read.refusal, read.place);
+        return replies::placed(1, read.refusal, read.place);
     }
-    reply::sized(0, read.place)
-}
-
-// The area's bit where the edit names it, else 0.
-fn bit_of(n: Network, e: Edit, a: Area, bit: usize) -> usize
-    ensures { λ r. ⌜ (r ≡ (bit if touches-area n e (a .0) else 0)) × (r ≤ bit) ⌝ }
-{
-    if names_area(n, e, a) {
-        return bit;
-    }
-    0
-}
-
-// Area a as the bit 1 << (a - 1).
-fn named_areas(n: Network, e: Edit) -> usize
-    ensures { λ r. ⌜ r ≡ bits (touches-area n e) ⌝ }
-{
-    let low = bit_of(n, e, Area(1), 1) + bit_of(n, e, Area(2), 2) + bit_of(n, e, Area(3), 4);
-    let high = bit_of(n, e, Area(4), 8) + bit_of(n, e, Area(5), 16) + bit_of(n, e, Area(6), 32);
-    low + high
-}
-
-// Under a network that is read. "one refused with 3 or 7 names none"
-fn names_of(n: Network, e: Edit) -> Reply
-    ensures { λ r. ⌜ r ≡ named n e ⌝ }
-{
-    let refused = early::early_refusal(n, e);
-    if refused != 0 {
-        return reply::plain(refused);
-    }
-    reply::sized(0, named_areas(n, e))
-}
-
-fn names_under(n: Network, edit: &[u8]) -> Reply
-    ensures { λ r. ⌜ r ≡ named-under n (now (edit .entry)) ⌝ }
-{
-    let found = single_edit::one_edit(edit);
-    if found.refusal != 0 {
-        return reply::placed(2, found.refusal, found.place);
-    }
-    let e = found.edit;
-    names_of(n, e)
+    replies::sized(0, read.place)
 }
 
 // What refuses the edit before any sheet is looked at, and the areas that it names, as bits in `length`.
@@ -74,7 +24,7 @@ pub extern "C" fn strakewhip_names(network: &[u8], edit: &[u8]) -> Reply
 {
     let read = read_network(network);
     if read.refusal != 0 {
-        return reply::placed(1, read.refusal, read.place);
+        return replies::placed(1, read.refusal, read.place);
     }
-    names_under(read.network, edit)
+    naming::names_under(read.network, edit)
 }

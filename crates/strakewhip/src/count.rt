@@ -1,27 +1,8 @@
 // The tally as four numbers: accepted, refused, added, removed.
 ghost use mathlib.Core.Path.{_≡_};
-ghost use Rattle.strakewhip.specs.Calls.{tally-of, numbers-of, raise-reply, raise-left};
-use crate::reply;
-use crate::reply::Reply;
-use timetable::Answer;
-use timetable::Tally;
-
-fn tally_in(counts: &[u32; 4]) -> Tally
-    ensures { λ r. ⌜ r ≡ tally-of (now (counts .entry)) ⌝ }
-{
-    Tally {
-        accepted: counts[0],
-        refused: counts[1],
-        added: counts[2],
-        removed: counts[3],
-    }
-}
-
-fn put_tally(counts: &mut [u32; 4], y: Tally)
-    ensures { λ _. ⌜ now (counts .exit) ≡ numbers-of y ⌝ }
-{
-    *counts = [y.accepted, y.refused, y.added, y.removed];
-}
+ghost use Rattle.edit_replies.specs.Replies.{raise-reply, raise-left};
+use edit_replies::count;
+use replies::Reply;
 
 // The tally after an edit and its answer. 5, the edit's file, 3.
 #[no_mangle]
@@ -33,20 +14,5 @@ pub extern "C" fn strakewhip_raise(
 ) -> Reply
     ensures { λ r. ⌜ (r ≡ raise-reply (now (edit .entry)) refusal removed (now (counts .entry))) × (now (counts .exit) ≡ raise-left (now (edit .entry)) refusal removed (now (counts .entry))) ⌝ }
 {
-    let y = tally_in(counts);
-    if tally::is_overfull(y) {
-        return reply::plain(5);
-    }
-    let found = single_edit::one_edit(edit);
-    if found.refusal != 0 {
-        return reply::placed(2, found.refusal, found.place);
-    }
-    let e = found.edit;
-    let a = Answer {
-        refusal: refusal,
-        removed: removed,
-    };
-    let end = tally::raised(y, e, a);
-    put_tally(counts, end.tally);
-    reply::plain(end.refusal)
+    count::raise(edit, refusal, removed, counts)
 }

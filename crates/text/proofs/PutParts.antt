@@ -1,4 +1,5 @@
--- Texts put one behind the other: the laws of each part of a pass, and one part with nothing behind it. Assumes nothing.
+-- Texts put one behind the other: the laws of each part of a pass, and one part with nothing behind it. Assumes
+-- nothing.
 use Prim.Native.Nat.{ℕ}
 use mathlib.Core.List.{List, [], _++_, append-nil}
 use Rattle.timetable.specs.Outputs.{Puts}

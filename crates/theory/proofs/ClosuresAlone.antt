@@ -1,6 +1,7 @@
--- Rules 1 to 10 find what they found, whatever is closed. The table of rules is its first ten rows and rule 11. The first
--- ten do not read closures, and each finding has the number of its rule, so a test of the number parts the two. Rule 11
--- tells of its own station alone, which is not in two groups; without closures it finds nothing. Assumes nothing.
+-- Rules 1 to 10 find what they found, whatever is closed. The table of rules is its first ten rows and rule 11. The
+-- first ten do not read closures, and each finding has the number of its rule, so a test of the number parts the two.
+-- Rule 11 tells of its own station alone, which is not in two groups; without closures it finds nothing. Assumes
+-- nothing.
 use Prim.Native.Nat.{ℕ, suc, _+_, _≤_}
 use mathlib.Core.Path.{_≡_, refl, sym, _∙_, ap, fun-ext}
 use mathlib.Core.Bool.{Bool, true, false, not, _&&_, _||_}

@@ -1,7 +1,7 @@
--- What closures change of the findings. Document 02, W1: "Rule 11 reads one station, so it belongs to the area lists, and
--- demand 3 includes it." Demand 3 speaks of the lists of timetable Findings, which have rule 11 (Statements). Here stands
--- that rules 1 to 10 find what they found, whatever is closed. The proof is in proofs/ClosuresAlone; nothing here is
--- proved. The letters are those of Statements. Assumes nothing.
+-- What closures change of the findings. Document 02, W1: "Rule 11 reads one station, so it belongs to the area lists,
+-- and demand 3 includes it." Demand 3 speaks of the lists of timetable Findings, which have rule 11 (Statements). Here
+-- stands that rules 1 to 10 find what they found, whatever is closed. The proof is in proofs/ClosuresAlone; nothing
+-- here is proved. The letters are those of Statements. Assumes nothing.
 use Prim.Native.Nat.{ℕ}
 use mathlib.Core.Bool.{Bool}
 use mathlib.Core.List.{List, map, flatMap}

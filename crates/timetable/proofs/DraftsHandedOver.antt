@@ -1,5 +1,5 @@
--- What was put into a draft is handed over to a lent buffer: its first elements stand at the buffer's front, whose rest is
--- as it was; a buffer that is too short for them is left. Assumes nothing.
+-- What was put into a draft is handed over to a lent buffer: its first elements stand at the buffer's front, whose rest
+-- is as it was; a buffer that is too short for them is left. Assumes nothing.
 use Prim.Native.Nat.{ℕ, suc, _+_, _≤_, _<_}
 use mathlib.Core.Path.{_≡_, sym, _∙_, ap}
 use mathlib.Core.List.{List, _++_}

@@ -1,5 +1,5 @@
--- Outcomes of reading taken apart: accepted is not refused, what stands behind an accepted value or before the end of an
--- accepted file, and what a fault that only the whole shows makes of an outcome. Assumes nothing.
+-- Outcomes of reading taken apart: accepted is not refused, what stands behind an accepted value or before the end of
+-- an accepted file, and what a fault that only the whole shows makes of an outcome. Assumes nothing.
 use Prim.Native.Nat.{ℕ}
 use mathlib.Core.Path.{_≡_, refl, _∙_, ap}
 use mathlib.Core.Bool.{Bool, true, false, _||_}

@@ -190,8 +190,8 @@ network-fault x = or-fault (fault-of 14 (unended x)) (or-fault (fault-of 4 (unjo
 unfoldable pub unless-fault : {A : Type 0} → Fault → Outcome A → Outcome A
 unless-fault f o = if eqb (f .number) 0 then o else refused (f .number) (f .place)
 
--- in memory a network is refused at place 0, with 3 before a file is read under it and with what comes behind 3 after the
--- file's own faults: the order of `early` (Refusals), with places
+-- in memory a network is refused at place 0, with 3 before a file is read under it and with what comes behind 3 after
+-- the file's own faults: the order of `early` (Refusals), with places
 unfoldable pub under : {A B : Type 0} → ℕ → Outcome A → (A → ℕ → Outcome B) → Outcome B
 under network own both =
     if eqb network 3 then refused 3 0

@@ -1,5 +1,5 @@
--- The rules of document 01, "Findings", and of document 02, W1, one by one, as tests of visits and tables. t and u are the trains, v and w
--- their visits; `here` is the table of s, `there` that of the far station. Assumes nothing.
+-- The rules of document 01, "Findings", and of document 02, W1, one by one, as tests of visits and tables. t and u are
+-- the trains, v and w their visits; `here` is the table of s, `there` that of the far station. Assumes nothing.
 use Prim.Native.Nat.{ℕ, _+_, min, max}
 use mathlib.Core.Bool.{Bool, true, not, _&&_, _||_}
 use mathlib.Core.List.{List, map}
@@ -130,8 +130,8 @@ single n t o = not (t .visit .departed) && is (λ r. eqb (r .kind) 3) (line-row 
 unfoldable pub breaks-10 : Network → Station → Table → Entry → Outward → Entry → Bool
 breaks-10 n s here t o u = single n t o && opposes here s t o u
 
--- 11. W1: "A pending departure whose occupation, from departure up to but not including departure + run, shares a minute
--- with a closure of its line"
+-- 11. W1: "A pending departure whose occupation, from departure up to but not including departure + run, shares a
+-- minute with a closure of its line"
 unfoldable pub shuts : Visit → Outward → Closure → Bool
 shuts v o c = same-line (c .line) (o .line) && (ltb (dep v) (c .end .0) && ltb (c .start .0) (due v o))
 

@@ -1,5 +1,5 @@
--- The proof of the cycle of calls {print_long}. The measure is the number of tries left. That the buffer has as many bytes
--- as are printed at most is cited, as counting them would take too long. Assumes nothing.
+-- The proof of the cycle of calls {print_long}. The measure is the number of tries left. That the buffer has as many
+-- bytes as are printed at most is cited, as counting them would take too long. Assumes nothing.
 use Prim.Native.Nat.{ℕ, _<_, _-_}
 use mathlib.Core.Path.{_≡_, sym, _∙_}
 use native.Mathlib.Omega.{arith}

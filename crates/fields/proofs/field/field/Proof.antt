@@ -1,5 +1,5 @@
--- `fields::field::field` meets its contract: each return is one law of a field, by its first byte or by what reading its
--- number gave. Assumes nothing.
+-- `fields::field::field` meets its contract: each return is one law of a field, by its first byte or by what reading
+-- its number gave. Assumes nothing.
 use mathlib.Core.Path.{sym, _∙_, ap}
 use native.Mathlib.Omega.{arith}
 use denote.Ref.{now}

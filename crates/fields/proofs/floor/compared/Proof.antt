@@ -1,4 +1,5 @@
--- `fields::floor::compared` meets its contract: the field decides, its least value raised by the floor. Assumes nothing.
+-- `fields::floor::compared` meets its contract: the field decides, its least value raised by the floor. Assumes
+-- nothing.
 use Prim.Native.Nat.{ℕ}
 use mathlib.Core.Path.{sym, _∙_, ap}
 use denote.Ref.{now}

@@ -1,5 +1,5 @@
--- `fields::floor::floor_after` meets its contract: a number equal to its namesake leaves the numbers behind it, any other
--- leaves none. Assumes nothing.
+-- `fields::floor::floor_after` meets its contract: a number equal to its namesake leaves the numbers behind it, any
+-- other leaves none. Assumes nothing.
 use mathlib.Core.Path.{_≡_, _∙_, ap}
 use native.Mathlib.Omega.{arith}
 use lib.ListN.{length, length-map}

@@ -1,5 +1,5 @@
--- `findings::calls::hand_over` meets its contract. The loop's invariant: the first i numbers are the draft's, the rest is
--- as it was. Assumes nothing.
+-- `findings::calls::hand_over` meets its contract. The loop's invariant: the first i numbers are the draft's, the rest
+-- is as it was. Assumes nothing.
 use borrow.Author.Needs.{needs}
 use native.Mathlib.Omega.{arith}
 use Prim.Native.Nat.{_≤_, _-_}

@@ -1,5 +1,5 @@
--- `network::Network::listed` meets its contract: a station is listed where a row in use has its number, and so where its
--- row is found. Assumes nothing.
+-- `network::Network::listed` meets its contract: a station is listed where a row in use has its number, and so where
+-- its row is found. Assumes nothing.
 use borrow.Author.Needs.{needs}
 use mathlib.Core.Path.{sym, _∙_}
 use Rattle.network.specs.Networks.{station-row}

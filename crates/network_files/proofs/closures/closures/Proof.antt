@@ -1,5 +1,5 @@
--- `network_files::closures::closures` meets its contract. The loop's invariant: the rows read stand in the first places,
--- the list is those rows and then what is left, and the two faults are those of the rows read. Assumes nothing.
+-- `network_files::closures::closures` meets its contract. The loop's invariant: the rows read stand in the first
+-- places, the list is those rows and then what is left, and the two faults are those of the rows read. Assumes nothing.
 use Prim.Native.Nat.{ℕ, suc, _+_, _-_, _<_, _≤_}
 use mathlib.Core.Path.{_≡_, sym, _∙_, ap, ap₂}
 use mathlib.Core.Bool.{Bool, true, not}

@@ -1,5 +1,5 @@
--- `network_files::draft::closure_count_draft` meets its contract: the field decides, and an accepted one is followed by the
--- rest. Assumes nothing.
+-- `network_files::draft::closure_count_draft` meets its contract: the field decides, and an accepted one is followed by
+-- the rest. Assumes nothing.
 use Prim.Native.Nat.{ℕ}
 use mathlib.Core.Path.{sym, _∙_, ap}
 use native.Mathlib.Omega.{arith}

@@ -1,5 +1,5 @@
--- `network_files::draft::closures_draft` meets its contract: the closures decide, and accepted ones stand behind what is
--- known. Assumes nothing.
+-- `network_files::draft::closures_draft` meets its contract: the closures decide, and accepted ones stand behind what
+-- is known. Assumes nothing.
 use mathlib.Core.Path.{sym, _∙_, ap}
 use mathlib.Core.List.{List}
 use denote.Ref.{now}

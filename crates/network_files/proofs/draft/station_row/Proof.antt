@@ -1,5 +1,5 @@
--- `network_files::draft::station_row` meets its contract: the row of numbers decides, and an accepted one is the station of
--- its numbers, which all fit bytes. Assumes nothing.
+-- `network_files::draft::station_row` meets its contract: the row of numbers decides, and an accepted one is the
+-- station of its numbers, which all fit bytes. Assumes nothing.
 use denote.Ref.{now}
 use borrow.Author.Needs.{needs}
 use Rattle.base.specs.Lists.{every}

@@ -1,5 +1,5 @@
--- `network_writing::writing::put_closures` meets its contract: what all rows in use would write is what the rows from i on
--- still write, from the place reached. Assumes nothing.
+-- `network_writing::writing::put_closures` meets its contract: what all rows in use would write is what the rows from i
+-- on still write, from the place reached. Assumes nothing.
 use Prim.Native.Nat.{_+_, _-_, _*_, _≤_}
 use mathlib.Core.Path.{_≡_, refl, _∙_}
 use native.Mathlib.Omega.{arith}

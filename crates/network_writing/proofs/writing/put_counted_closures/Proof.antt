@@ -1,4 +1,5 @@
--- `network_writing::writing::put_counted_closures` meets its contract: the rows stand behind their count. Assumes nothing.
+-- `network_writing::writing::put_counted_closures` meets its contract: the rows stand behind their count. Assumes
+-- nothing.
 use mathlib.Core.List.{[], _∷_, flatMap}
 use native.Mathlib.Omega.{arith}
 use borrow.Author.Needs.{needs}

@@ -1,5 +1,5 @@
--- `sheet::test::sheet_under` meets its contract. The loop's invariant: what is asked of all pages is asked of those from
--- i on. Assumes nothing.
+-- `sheet::test::sheet_under` meets its contract. The loop's invariant: what is asked of all pages is asked of those
+-- from i on. Assumes nothing.
 use Prim.Native.Nat.{_+_, _-_, _≤_}
 use mathlib.Core.Path.{_≡_, refl, sym, _∙_}
 use native.Mathlib.Omega.{arith}

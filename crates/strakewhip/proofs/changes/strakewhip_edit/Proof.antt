@@ -4,7 +4,6 @@ use denote.Ref.{now}
 use lib.ListN.{length}
 use borrow.Author.Needs.{needs}
 use borrow.Author.Tests.{eq-eqb, ne-eqb}
-use Rattle.strakewhip.specs.Replies.{plain}
 use Rattle.strakewhip.specs.Calls.{edit-reply, edit-left}
 use Rattle.strakewhip.proofs.FileLaws.{unfit, stopped, reached, so}
 use Rattle.strakewhip.proofs.changes.strakewhip_edit.Statement.{statement}

@@ -4,7 +4,7 @@ use mathlib.Core.Path.{_∙_, ap}
 use denote.Ref.{now}
 use lib.ListN.{length}
 use borrow.Author.Needs.{needs}
-use Rattle.strakewhip.specs.Replies.{of-reply}
+use Rattle.replies.specs.Replies.{of-reply}
 use Rattle.strakewhip.specs.Calls.{pair-reply, pair-left}
 use Rattle.strakewhip.proofs.FileLaws.{unfit, stopped, reached, so, first-unfit, second-unfit, both-fit}
 use Rattle.strakewhip.proofs.lists.strakewhip_pair_findings.Statement.{statement}

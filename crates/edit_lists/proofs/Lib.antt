@@ -1,0 +1,4 @@
+pub mod KnownGood
+pub mod TakenLaws
+pub mod RunLaws
+pub mod ReplyFixesRun
