@@ -123,7 +123,7 @@ def main():
     c = text("include", "strakewhip.h")
     raw, wrapper = text("bindings", "rust", "src", "raw.rs"), text("bindings", "rust", "src", "lib.rs")
     same("reply of Rust", rust_fields(raw), c_fields(c))
-    same("reply of code", rust_fields(text("crates", "strakewhip", "src", "reply.rt")), c_fields(c))
+    same("reply of code", rust_fields(text("crates", "replies", "src", "lib.rt")), c_fields(c))
     same("reply of Python", [(name, PYTHON[sort]) for name, sort in module.Reply._fields_], c_fields(c))
     sizes = constants(c, r"#define STRAKEWHIP_(SHEET|DIVISION|MOST_\w+) (\d+)")
     same("constants of Rust", constants(wrapper, r"pub const (\w+): usize = ([^;]+);"), sizes)
