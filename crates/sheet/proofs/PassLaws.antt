@@ -32,7 +32,7 @@ use Rattle.page.specs.Pages.{slots, encode-page, records-of, visit-records, rel
 use Rattle.sheet.specs.Sheets.{sixteen, page-at, good-sheet, sheet-at, good-division}
 use Rattle.sheet.specs.declared.test.Extent.{Extent}
 use Rattle.sheet.specs.between.Passes.{covers, place-passes, sheet-passes, division-passes}
-use Rattle.sheet.specs.between.Passes.{visit-run, relation-run, in-passes, out-passes, visit-passes, passing-train, relation-passes, train-after, relation-after, earlier, record-passes, comes-after, each-index, records-pass, slots-passes, visits-pass, relations-pass, content-passes, page-passes}
+use Rattle.sheet.specs.between.Passes.{visit-run, relation-run, in-passes, out-passes, visit-passes, train-if, passing-train, relation-passes, train-after, relation-after, earlier, record-passes, comes-after, each-index, records-pass, slots-passes, visits-pass, relations-pass, content-passes, page-passes}
 use Rattle.page.proofs.SlotLaws.{length-records, record-there}
 use Rattle.page.proofs.FlatLaws.{flat-length, slots-length, records-flat}
 use Rattle.page.proofs.PageLaws.{linked, always, Coded, page-length, relations-behind, good-coded, good-bytes, good-table}
@@ -429,9 +429,16 @@ unfolding visit-passes record-passes encode-entry decode-entry entry-good
 visit-record-tests n s r own t v e f o a b c p q w = rw (p, q, w, o, e, f)
 
 -- so the train, or 0
-pub train-tests : (n : Network) (s : Station) (r : List ℕ) (t : Train) → t ≡ decode-train r → (x : Bool) → x ≡ visit-passes n s r → (t .0 if x else 0) ≡ passing-train n s r
-unfolding passing-train
-train-tests n s r t e x p = rw (p, e)
+pub train-tests : (r own : List ℕ) (t : Train) (v : Visit) → t ≡ decode-train r → v ≡ decode-visit r → own ≡ visit-bytes t v
+    → (a b fits : Bool) → a ≡ same r own → b ≡ train-ok t → (t .0 if a && (b && fits) else 0) ≡ train-if fits r
+unfolding train-if
+train-tests r own t v e f o a b fits p q = rw (p, q, o, e, f)
+
+pub train-passing : (n : Network) (s : Station) (r : List ℕ) (v : Visit) → v ≡ decode-visit r → (fits : Bool) → fits ≡ visit-good n s v
+    → train-if fits r ≡ passing-train n s r
+unfolding train-if passing-train
+train-passing n s r v e fits p =
+    rw (visit-record-tests n s r (visit-bytes (decode-train r) (decode-visit r)) (decode-train r) (decode-visit r) refl refl refl _ _ fits refl refl (p ∙ ap (visit-good n s) e))
 
 pub relation-record-tests : (r own : List ℕ) (q : Relation) → q ≡ decode-relation r → own ≡ encode-relation q
     → (a b : Bool) → a ≡ same r own → b ≡ relation-ok q → (a && b) ≡ relation-passes r

@@ -12,9 +12,9 @@ ghost use Rattle.network.specs.Networks.{runs, network-refusal};
 ghost use Rattle.timetable.specs.Good.{visit-good};
 ghost use Rattle.timetable.specs.Refusals.{or-else};
 ghost use Rattle.railway.specs.Relations.{precedes};
-ghost use Rattle.records.specs.Records.{decode-relation};
+ghost use Rattle.records.specs.Records.{decode-visit, decode-relation};
 ghost use Rattle.page.specs.Pages.{good-page};
-ghost use Rattle.sheet.specs.between.Passes.{tracks-at, values-pass, row-place, row-there, RowOfIn, RowOfOut, RowOfByte};
+ghost use Rattle.sheet.specs.between.Passes.{tracks-at, values-pass, row-place, row-there, RowOfIn, RowOfOut, RowOfByte, train-if};
 ghost use Rattle.sheet.specs.between.Passes.{in-passes, out-passes, passing-train, relation-passes, visit-run, relation-run};
 ghost use Rattle.sheet.specs.between.Passes.{visits-pass, relations-pass, covers, place-passes, sheet-passes, division-passes};
 use network::LineRow;
@@ -167,29 +167,29 @@ fn good_values(v: Visit, tracks: u8) -> bool
     false
 }
 
-// With the count of tracks and the rows of the two links' lines looked up before; where the network is not known to be
-// good, the links are tested as any.
-fn good_visit(
-    v: Visit,
-    a: LineRow,
-    b: LineRow,
-    network: Network,
-    s: Station,
-    tracks: u8,
-    good: bool,
-) -> bool
-    requires { ⌜ (tracks ≡ tracks-at network s) × (good ≡ true → network-refusal network ≡ 0) × RowOfIn network (v .inward) a × RowOfOut network (v .outward) b ⌝ }
+// In a good network, with the count of tracks and the rows of the two links' lines looked up before.
+fn known_visit(v: Visit, a: LineRow, b: LineRow, network: Network, s: Station, tracks: u8) -> bool
+    requires { ⌜ (tracks ≡ tracks-at network s) × (network-refusal network ≡ 0) × RowOfIn network (v .inward) a × RowOfOut network (v .outward) b ⌝ }
     ensures { λ r. ⌜ r ≡ visit-good network s v ⌝ }
 {
     let inward = v.inward;
     let outward = v.outward;
     if good_values(v, tracks) {
-        if good {
-            if in_runs(inward, a, network, s) {
-                return out_runs(outward, b, network, s);
-            }
-            return false;
+        if in_runs(inward, a, network, s) {
+            return out_runs(outward, b, network, s);
         }
+    }
+    false
+}
+
+// In any network.
+fn any_visit(v: Visit, network: Network, s: Station, tracks: u8) -> bool
+    requires { ⌜ tracks ≡ tracks-at network s ⌝ }
+    ensures { λ r. ⌜ r ≡ visit-good network s v ⌝ }
+{
+    let inward = v.inward;
+    let outward = v.outward;
+    if good_values(v, tracks) {
         if in_good(inward, network, s) {
             return out_good(outward, network, s);
         }
@@ -199,30 +199,40 @@ fn good_visit(
 
 // Records
 
-// The number of the train of a good visit record, and 0 for any other: no train is 0.
-fn good_train(
-    r: &[u8],
-    a: LineRow,
-    b: LineRow,
-    network: Network,
-    s: Station,
-    tracks: u8,
-    good: bool,
-) -> u16
-    requires { ⌜ (tracks ≡ tracks-at network s) × (good ≡ true → network-refusal network ≡ 0) × RowOfByte network (getD (now r) 10 0) a × RowOfByte network (getD (now r) 12 0) b ⌝ }
-    ensures { λ t. ⌜ t ≡ passing-train network s (now (r .entry)) ⌝ }
+// The number of the train of a visit record, 0 where the bytes are not those of a train and its visit, or the visit
+// does not fit: no train is 0.
+fn own_train(r: &[u8], v: Visit, fits: bool) -> u16
+    requires { ⌜ v ≡ decode-visit (now r) ⌝ }
+    ensures { λ t. ⌜ t ≡ train-if fits (now (r .entry)) ⌝ }
 {
     let t = record::train_in(r);
-    let v = record::visit_in(r);
     let own = record::visit_record(t, v);
     if is_same(r, &own) {
         if t.valid() {
-            if good_visit(v, a, b, network, s, tracks, good) {
+            if fits {
                 return t.0;
             }
         }
     }
     0
+}
+
+// The number of the train of a good visit record, and 0 for any other: in a good network, and in any.
+
+fn known_train(r: &[u8], a: LineRow, b: LineRow, network: Network, s: Station, tracks: u8) -> u16
+    requires { ⌜ (tracks ≡ tracks-at network s) × (network-refusal network ≡ 0) × RowOfByte network (getD (now r) 10 0) a × RowOfByte network (getD (now r) 12 0) b ⌝ }
+    ensures { λ t. ⌜ t ≡ passing-train network s (now (r .entry)) ⌝ }
+{
+    let v = record::visit_in(r);
+    own_train(r, v, known_visit(v, a, b, network, s, tracks))
+}
+
+fn any_train(r: &[u8], network: Network, s: Station, tracks: u8) -> u16
+    requires { ⌜ tracks ≡ tracks-at network s ⌝ }
+    ensures { λ t. ⌜ t ≡ passing-train network s (now (r .entry)) ⌝ }
+{
+    let v = record::visit_in(r);
+    own_train(r, v, any_visit(v, network, s, tracks))
 }
 
 fn good_relation_record(r: &[u8], q: Relation) -> bool
@@ -236,7 +246,8 @@ fn good_relation_record(r: &[u8], q: Relation) -> bool
     false
 }
 
-// The first n records: each is good and comes after the one before it, whose train or relation is kept.
+// The first n records: each is good and comes after the one before it, whose train or relation is kept. The two tests
+// are asked for here and not one function down, so that a good network is not copied for each record.
 fn visit_run(slots: &[u8], n: usize, network: Network, s: Station, good: bool) -> bool
     requires { ⌜ (16 * n ≤ length (now slots)) × (good ≡ true → network-refusal network ≡ 0) ⌝ }
     ensures { λ r. ⌜ r ≡ visit-run network s n (now (slots .entry)) ⌝ }
@@ -248,7 +259,12 @@ fn visit_run(slots: &[u8], n: usize, network: Network, s: Station, good: bool) -
         let at = 16 * i;
         let a = network.lines[place_of(Line(slots[at + 10]))];
         let b = network.lines[place_of(Line(slots[at + 12]))];
-        let t = good_train(&slots[at..at + 16], a, b, network, s, tracks, good);
+        let mut t: u16 = 0;
+        if good {
+            t = known_train(&slots[at..at + 16], a, b, network, s, tracks);
+        } else {
+            t = any_train(&slots[at..at + 16], network, s, tracks);
+        }
         if last < t {
             last = t;
             i += 1;

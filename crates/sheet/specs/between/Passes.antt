@@ -10,13 +10,13 @@ use lib.Dec.{ltb, leb, eqb}
 use lib.ListN.{length, getD, take, drop}
 use Rattle.base.specs.Choice.{if_then_else_, _if_else_}
 use Rattle.base.specs.Lists.{same}
-use Rattle.railway.specs.Ranges.{track-ok, line-ok, minute-ok}
+use Rattle.railway.specs.Ranges.{train-ok, track-ok, line-ok, minute-ok}
 use Rattle.network.specs.Networks.{listed, area-of, station-row, blank-line}
 use Rattle.railway.specs.Relations.{relation-ok, precedes}
 use Rattle.timetable.specs.Good.{in-good, out-good, entry-good}
 use Rattle.timetable.specs.Tables.{Entry}
 use Rattle.records.specs.Bytes.{chunk, blank}
-use Rattle.records.specs.Records.{decode-train, encode-entry, decode-entry, encode-relation, decode-relation}
+use Rattle.records.specs.Records.{decode-train, decode-visit, visit-bytes, encode-entry, decode-entry, encode-relation, decode-relation}
 use Rattle.sheet.specs.Types.{Station, Line, InLink, OutLink, Visit, StationRow, LineRow, Network}
 use Rattle.sheet.specs.declared.test.Extent.{Extent}
 use Rattle.page.specs.Pages.{good-page}
@@ -94,6 +94,10 @@ earlier e f = ltb (e .train .0) (f .train .0)
 unfoldable pub visit-passes : Network → Station → List ℕ → Bool
 visit-passes n s r = record-passes encode-entry decode-entry (entry-good n s) r
 
+-- the number of the train of a record that is its train's and visit's own, where the visit fits
+unfoldable pub train-if : Bool → List ℕ → ℕ
+train-if fits r = decode-train r .0 if same r (visit-bytes (decode-train r) (decode-visit r)) && (train-ok (decode-train r) && fits) else 0
+
 -- the number of its train, 0 where it does not pass
 unfoldable pub passing-train : Network → Station → List ℕ → ℕ
 passing-train n s r = decode-train r .0 if visit-passes n s r else 0
@@ -150,6 +154,6 @@ division-passes n division = eqb (length division) 49152 && good-division n divi
 
 -- The key ring of this module: `unfolding opened` opens every definition above.
 unfoldable pub opened : Unit {0}
-unfolding in-passes out-passes tracks-at values-pass row-place row-there record-passes comes-after each-index records-pass slots-passes visit-passes passing-train relation-passes train-after relation-after visit-run relation-run
+unfolding in-passes out-passes tracks-at values-pass row-place row-there record-passes comes-after each-index records-pass slots-passes visit-passes train-if passing-train relation-passes train-after relation-after visit-run relation-run
     visits-pass relations-pass content-passes page-passes covers place-passes sheet-passes division-passes
 opened = tt

@@ -5,6 +5,7 @@ use Prim.Native.Nat.{ℕ, _+_, _*_, _≤_, _-_}
 use mathlib.Core.Bool.{Bool, true, false, _&&_}
 use mathlib.Core.List.{List}
 use lib.ListN.{take, drop}
+use mathlib.Core.Logic.{⊎-elim}
 use mathlib.Core.Path.{_≡_, refl, sym, _∙_, ap}
 use native.Mathlib.Omega.{arith}
 use lib.Dec.{ltb}
@@ -74,27 +75,42 @@ mul-b c = omega (arith, place-low _ _ (c .place-of2 .ensures))
 element-copy-out-b : tie.Need-element-copy-out-b Inv-loop μ-loop
 element-copy-out-b c = omega (arith, place-low _ _ (c .place-of2 .ensures))
 
-add-good-train : tie.Need-add-good-train Inv-loop μ-loop
-add-good-train c = omega arith
+add-known-train : tie.Need-add-known-train Inv-loop μ-loop
+add-known-train c = omega arith
 
-sub-good-train : tie.Need-sub-good-train Inv-loop μ-loop
-sub-good-train c = omega arith
+sub-known-train : tie.Need-sub-known-train Inv-loop μ-loop
+sub-known-train c = omega arith
 
-part-good-train-start : tie.Need-part-good-train-start Inv-loop μ-loop
-part-good-train-start c = omega arith
+part-known-train-start : tie.Need-part-known-train-start Inv-loop μ-loop
+part-known-train-start c = omega arith
 
-part-good-train-end : tie.Need-part-good-train-end Inv-loop μ-loop
-part-good-train-end c = omega arith
+part-known-train-end : tie.Need-part-known-train-end Inv-loop μ-loop
+part-known-train-end c = omega arith
 
-good-train-requires : tie.Need-good-train-requires Inv-loop μ-loop
-good-train-requires c κs =
-    let l = c .before .before .before .before .before .before .before .before .loop in
-    let s = c .before .before .before .before .before .before .before .before .before .before .before .args in (
-      c .before .before .before .before .before .before .before .before .before .tracks-of .ensures,
-      c .before .before .before .before .before .before .before .before .before .before .before .pre .1,
-      row-read (s .t3) (now (s .slots)) (l .i) 10 (c .before .before .before .before .before .place-of .result) (omega arith) (c .before .before .before .before .before .place-of .ensures),
-      row-read (s .t3) (now (s .slots)) (l .i) 12 (c .before .before .place-of2 .result) (omega arith) (c .before .before .place-of2 .ensures),
+known-train-requires : tie.Need-known-train-requires Inv-loop μ-loop
+known-train-requires c κs =
+    let l = c .before .before .before .before .before .before .before .before .before .loop in
+    let s = c .before .before .before .before .before .before .before .before .before .before .before .before .args in (
+      c .before .before .before .before .before .before .before .before .before .before .tracks-of .ensures,
+      c .before .before .before .before .before .before .before .before .before .before .before .before .pre .1 (c .before .if1 .taken),
+      row-read (s .t3) (now (s .slots)) (l .i) 10 (c .before .before .before .before .before .before .place-of .result) (omega arith) (c .before .before .before .before .before .before .place-of .ensures),
+      row-read (s .t3) (now (s .slots)) (l .i) 12 (c .before .before .before .place-of2 .result) (omega arith) (c .before .before .before .place-of2 .ensures),
     )
+
+add-any-train : tie.Need-add-any-train Inv-loop μ-loop
+add-any-train c = omega arith
+
+sub-any-train : tie.Need-sub-any-train Inv-loop μ-loop
+sub-any-train c = omega arith
+
+part-any-train-start : tie.Need-part-any-train-start Inv-loop μ-loop
+part-any-train-start c = omega arith
+
+part-any-train-end : tie.Need-part-any-train-end Inv-loop μ-loop
+part-any-train-end c = omega arith
+
+any-train-requires : tie.Need-any-train-requires Inv-loop μ-loop
+any-train-requires c κs = c .before .before .before .before .before .before .before .before .before .before .tracks-of .ensures
 
 add-i : tie.Need-add-i Inv-loop μ-loop
 add-i c = omega arith
@@ -104,21 +120,23 @@ loop-less c = omega arith
 
 loop-again : tie.Need-loop-again Inv-loop μ-loop
 loop-again c =
-    let l = c .before .before .before .before .before .before .before .before .before .before .loop in
-    let s = c .before .before .before .before .before .before .before .before .before .before .before .before .before .args in
-    let t = c .before .good-train in
-    let good = passes (l .last) (t .result) (now (s .slots)) (l .i) (s .t3) (s .s) (l .inv .1) (t .ensures) true (lt-ltb _ _ (c .if1 .taken)) in (
+    let l = c .before .before .before .before .before .before .before .before .before .loop in
+    let s = c .before .before .before .before .before .before .before .before .before .before .before .before .args in
+    let t = c .before .if1 in
+    let same : t .t ≡ passing-train (s .t3) (s .s) (take (16 * (l .i) + 16 - 16 * (l .i)) (drop (16 * (l .i)) (now (s .slots)))) = ⊎-elim (λ w. w .3 ∙ w .2 .ensures) (λ w. w .3 ∙ w .2 .ensures) (t .came) in
+    let good = passes (l .last) (t .t) (now (s .slots)) (l .i) (s .t3) (s .s) (l .inv .1) same true (lt-ltb _ _ (c .if2 .taken)) in (
       omega arith,
-      train-kept (now (s .slots)) (l .i) (s .t3) (s .s) (t .result) (t .ensures) good,
+      train-kept (now (s .slots)) (l .i) (s .t3) (s .s) (t .t) same good,
       l .inv .2 ∙ from-both (λ j. visit-passes (s .t3) (s .s) (chunk j (now (s .slots)))) (train-after (now (s .slots))) (s .n) (l .i) (omega arith) good,
     )
 
 returns : tie.Need-returns Inv-loop μ-loop
 returns c =
-    let l = c .before .before .before .before .before .before .before .before .before .before .loop in
-    let s = c .before .before .before .before .before .before .before .before .before .before .before .before .before .args in
-    let t = c .before .good-train in
-    let bad = passes (l .last) (t .result) (now (s .slots)) (l .i) (s .t3) (s .s) (l .inv .1) (t .ensures) false (le-ltb _ _ (c .if1 .left)) in
+    let l = c .before .before .before .before .before .before .before .before .before .loop in
+    let s = c .before .before .before .before .before .before .before .before .before .before .before .before .args in
+    let t = c .before .if1 in
+    let same : t .t ≡ passing-train (s .t3) (s .s) (take (16 * (l .i) + 16 - 16 * (l .i)) (drop (16 * (l .i)) (now (s .slots)))) = ⊎-elim (λ w. w .3 ∙ w .2 .ensures) (λ w. w .3 ∙ w .2 .ensures) (t .came) in
+    let bad = passes (l .last) (t .t) (now (s .slots)) (l .i) (s .t3) (s .s) (l .inv .1) same false (le-ltb _ _ (c .if2 .left)) in
     sym (l .inv .2 ∙ from-not (λ j. visit-passes (s .t3) (s .s) (chunk j (now (s .slots)))) (train-after (now (s .slots))) (s .n) (l .i) (omega arith) bad)
 
 returns-2 : tie.Need-returns-2 Inv-loop μ-loop
@@ -132,5 +150,6 @@ visit-run-spec =
     tie.close
     (tie.spec Inv-loop μ-loop tracks-of-requires loop-holds mul-at add-t17 shared-slice-read-t19 place-of-requires
     mul-a element-copy-out-a add-t17-2 shared-slice-read-t19-2 place-of-requires-2 mul-b element-copy-out-b
-    add-good-train sub-good-train part-good-train-start part-good-train-end good-train-requires add-i loop-less
-    loop-again returns returns-2)
+    add-known-train sub-known-train part-known-train-start part-known-train-end known-train-requires add-any-train
+    sub-any-train part-any-train-start part-any-train-end any-train-requires add-i loop-less loop-again returns
+    returns-2)
