@@ -16,3 +16,4 @@ pub mod StationLists
 pub mod WrittenTables
 pub mod ReadTables
 pub mod TimetableTrips
+pub mod InspectTrips

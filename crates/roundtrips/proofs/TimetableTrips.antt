@@ -16,7 +16,7 @@ use Rattle.timetable.specs.TimetableFile.{StationVisit, visit-numbers, Entries,
 use Rattle.timetable.specs.TimetableFile.{enter-visit, enter-relation, entered, timetable-of}
 use Rattle.timetable.specs.TimetableFile.{read-timetable-as, read-timetable, timetable-numbers}
 use Rattle.roundtrips.specs.Types.{StationRelation, Network}
-use Rattle.roundtrips.specs.RoundTrips.{TimetableRead, TimetableRoundTrip}
+use Rattle.roundtrips.specs.RoundTrips.{TimetableRoundTrip}
 use Rattle.timetable.proofs.OutcomeLaws.{behind-taken, under-taken, under-free}
 use Rattle.roundtrips.proofs.WalkLaws.{span, file-read, file-walks}
 use Rattle.roundtrips.proofs.RowsWalked.{values-entries}
@@ -66,37 +66,33 @@ module _ (n : Network) (x : Entries) (next : ℕ) where
       (ap (λ (m : Timetable). entered (relation-refusal n) enter-relation (x .relations) m p) (no-relations vs ∙ sym a) ∙ v) in
       (f, b ∙ g, c, d)
 
--- the entries of a whole timetable, read, make it
-written-read : (n : Network) (g : network-refusal n ≡ 0) (m : Timetable) → Whole n m → (next : ℕ)
-    → timetable-of n (file-entries 0 (all-visits n m) (all-relations n m)) next ≡ accepted m next
-written-read n g m w next =
+-- the entries of a whole timetable, read from any place on, make it
+pub written-read : (n : Network) (g : network-refusal n ≡ 0) (m : Timetable) → Whole n m → (p next : ℕ)
+    → timetable-of n (file-entries p (all-visits n m) (all-relations n m)) next ≡ accepted m next
+written-read n g m w p next =
     let vs = all-visits n m in
     let rs = all-relations n m in
-    let x = file-entries 0 vs rs in
-    let p : vs ≡ entries-of (x .visits) = sym (values-entries visit-numbers (0 + width (length vs)) vs) in
-    let q : rs ≡ entries-of (x .relations) = sym (values-entries station-relation-numbers (0 + width (length vs) + span (flatMap visit-numbers vs) + width (length rs)) rs) in
-    entries-made n x next (subst (λ (l : List StationVisit). T (each-two (before visit-key) l)) p (visits-in n g m w .order))
-    (subst (λ (l : List StationRelation). T (each-two (before relation-key) l)) q (relations-in n g m w .order))
-    (subst (VisitsClear n) p (visits-clear n g m w))
-    (subst (RelationsClear n (with-visits (entries-of (x .visits)))) q (relations-clear n g m w (with-visits (entries-of (x .visits)))))
+    let x = file-entries p vs rs in
+    let i : vs ≡ entries-of (x .visits) = sym (values-entries visit-numbers (p + width (length vs)) vs) in
+    let j : rs ≡ entries-of (x .relations) = sym (values-entries station-relation-numbers (p + width (length vs) + span (flatMap visit-numbers vs) + width (length rs)) rs) in
+    entries-made n x next (subst (λ (l : List StationVisit). T (each-two (before visit-key) l)) i (visits-in n g m w .order))
+    (subst (λ (l : List StationRelation). T (each-two (before relation-key) l)) j (relations-in n g m w .order))
+    (subst (VisitsClear n) i (visits-clear n g m w))
+    (subst (RelationsClear n (with-visits (entries-of (x .visits)))) j (relations-clear n g m w (with-visits (entries-of (x .visits)))))
     ∙ ap (λ (m : Timetable). accepted m next)
-    (ap₂ (λ (vs : List StationVisit) (rs : List StationRelation). with-relations (with-visits vs) rs) (sym p) (sym q) ∙ written-back n g m w)
+    (ap₂ (λ (vs : List StationVisit) (rs : List StationRelation). with-relations (with-visits vs) rs) (sym i) (sym j) ∙ written-back n g m w)
 
--- what an accepted file gives
-taken : (n : Network) (file : List ℕ) (x : Entries) (p : ℕ) (m : Timetable) (next : ℕ) → network-refusal n ≡ 0 → (ns : List ℕ) → file ≡ bytes-of ns → p ≡ span ns
+-- what numbers that are accepted as entries give: the timetable that they write
+pub entries-written : (n : Network) (x : Entries) (p : ℕ) (m : Timetable) (next : ℕ) → network-refusal n ≡ 0 → (ns : List ℕ)
     → (ns ≡ file-numbers (entries-of (x .visits)) (entries-of (x .relations))) × VisitsIn (entries-of (x .visits)) × RelationsIn (entries-of (x .relations))
-    → timetable-of n x p ≡ accepted m next → TimetableRead n file m next
+    → timetable-of n x p ≡ accepted m next → (ns ≡ timetable-numbers n m) × Whole n m × (p ≡ next)
 unfolding timetable-numbers
-taken n file x p m next g ns b e (k, i, j) v =
+entries-written n x p m next g ns (k, i, j) v =
     let vs = entries-of (x .visits) in
     let rs = entries-of (x .relations) in
     let (y, z, c, d) = made-of n x p m next (i .order) (j .order) v in
-    subst (λ (m : Timetable). TimetableRead n file m next) (sym y) (record {
-      file-is = b ∙ ap bytes-of (k ∙ sym (ap₂ file-numbers (visits-written n g vs rs i j c d) (relations-written n g vs rs i j c d)));
-      end = sym z ∙ e ∙ ap length (sym b);
-      network-good = g;
-      whole = made-whole n g vs rs i j c d;
-    })
+    subst (λ (m : Timetable). (ns ≡ file-numbers (all-visits n m) (all-relations n m)) × Whole n m × (p ≡ next)) (sym y)
+    (k ∙ sym (ap₂ file-numbers (visits-written n g vs rs i j c d) (relations-written n g vs rs i j c d)), made-whole n g vs rs i j c d, z)
 
 pub timetable-trip : TimetableRoundTrip
 unfolding read-timetable read-timetable-as behind timetable-numbers
@@ -106,10 +102,11 @@ timetable-trip = record {
       let rs = all-relations n m in
       let e = file-read timetable-format (file-numbers vs rs) (file-entries 0 vs rs) (walks-timetable 0 vs rs (visits-in n g m w) (relations-in n g m w)) in
       under-free (network-refusal n) (read-file timetable-format (bytes-of (file-numbers vs rs))) (timetable-of n) g
-      ∙ ap (λ (o : Outcome Entries). behind o (λ x next. timetable-of n x next)) e ∙ written-read n g m w (span (file-numbers vs rs));
+      ∙ ap (λ (o : Outcome Entries). behind o (λ x next. timetable-of n x next)) e ∙ written-read n g m w 0 (span (file-numbers vs rs));
   only = λ n file m next s e.
       let (g, f) = under-taken (network-refusal n) (read-file timetable-format file) (timetable-of n) m next e in
       let (x, p, r, q) = behind-taken (read-file timetable-format file) (timetable-of n) m next f in
       let w = file-walks timetable-format file x p s r in
-      taken n file x p m next g (w .numbers) (w .bytes) (w .end) (timetable-walks 0 (w .numbers) x (w .walk)) q;
+      let (k, h, z) = entries-written n x p m next g (w .numbers) (timetable-walks 0 (w .numbers) x (w .walk)) q in
+      record { file-is = w .bytes ∙ ap bytes-of k; end = sym z ∙ w .end ∙ ap length (sym (w .bytes)); network-good = g; whole = h };
 }

@@ -2,7 +2,7 @@
 -- Document 01, "Files"; docs/DECISIONS.md, "Files": "A written file is the only file that reads to that timetable, as
 -- every number has one shortest form and every order is strict." The proofs are in proofs/; nothing here is proved. A
 -- reader needs the definitions of the crate timetable: Formats (reading, and the bytes of numbers), NetworkFile,
--- EditsFile, TimetableFile.
+-- EditsFile, TimetableFile, InspectFile.
 --
 -- The letters: file the bytes of a file, at and next places in it, n a network, e an edit, es a list of edits, m a
 -- timetable. `T b` says that the test b passes. `bytes-of (x-numbers x)` is the file that is written for x. A record
@@ -22,6 +22,7 @@ use Rattle.timetable.specs.EditsFile.{edit-entry, edit-numbers, read-edits, edi
 use Rattle.timetable.specs.Machine.{Timetable}
 use Rattle.timetable.specs.Good.{Whole}
 use Rattle.timetable.specs.TimetableFile.{read-timetable, timetable-numbers}
+use Rattle.timetable.specs.InspectFile.{Inspection, read-inspect}
 use Rattle.roundtrips.specs.Types.{Edit, Network}
 
 -- a file is bytes
@@ -111,3 +112,19 @@ pub record TimetableRoundTrip : Type 0 where
   pub back : (n : Network) (m : Timetable) → network-refusal n ≡ 0 → Whole n m
       → read-timetable n (bytes-of (timetable-numbers n m)) ≡ accepted m (length (bytes-of (timetable-numbers n m)))
   pub only : (n : Network) (file : List ℕ) (m : Timetable) (next : ℕ) → Bytes file → read-timetable n file ≡ accepted m next → TimetableRead n file m next
+
+-- "network, then timetable"
+pub record InspectRead (file : List ℕ) (x : Inspection) (next : ℕ) : Type 0 where
+  pub file-is : file ≡ bytes-of (network-numbers (x .network) ++ timetable-numbers (x .network) (x .timetable))
+  pub end : next ≡ length file
+  pub good : network-refusal (x .network) ≡ 0
+  pub unused : UnusedBlank (x .network)
+  pub whole : Whole (x .network) (x .timetable)
+  -- the timetable stands behind the network
+  pub first : x .first ≡ length (bytes-of (network-numbers (x .network)))
+
+pub record InspectRoundTrip : Type 0 where
+  pub back : (n : Network) (m : Timetable) → network-refusal n ≡ 0 → UnusedBlank n → Whole n m
+      → read-inspect (bytes-of (network-numbers n ++ timetable-numbers n m))
+      ≡ accepted (record { network = n; first = length (bytes-of (network-numbers n)); timetable = m }) (length (bytes-of (network-numbers n ++ timetable-numbers n m)))
+  pub only : (file : List ℕ) (x : Inspection) (next : ℕ) → Bytes file → read-inspect file ≡ accepted x next → InspectRead file x next
