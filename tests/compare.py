@@ -56,7 +56,7 @@ JOURNEY = "2, 1 1 7 1 100 102, 3 2 7 1 114 115 1 1 12"
 JOURNEY_PRINTS = b"E 1 0 0\nE 2 0 0\nT 2 0 0\nA 2 0 2 0\n"
 CLOSED_PRINTS = b"E 1 0 0\nE 2 0 0\nF 1 11 7 1\nT 2 0 1\nA 2 0 2 0\n"
 
-# Name, program, bytes, and what they print or none. The letters are document 01's examples, W1 is document 02's.
+# Name, program, bytes, and what they print or none. The letters are document 01's examples, W1 and W2 document 02's.
 FIXED = [
     ("the listing", "shift", LISTING, LISTING_PRINTS),
     ("(b)", "shift", b"\x80\0", b"R 2 0\n"),
@@ -98,6 +98,14 @@ FIXED = [
      b"F 1 7 7 0\nF 1 11 7 1\nD 1 1 11 7 1\nP 1 2 1 7 7 0\nT 1 0 2\nJ 1 7 1 95 102 5\nW 1\n"),
     ("W1 departed", "inspect", numbers(OPEN + "1, 1 105 106, 1, 1 7 1 90 1 102 1 0 2 1 12, 0"),
      b"F 1 7 7 0\nP 1 2 1 7 7 0\nT 1 0 1\nJ 1 7 1 90 102 0\nW 1\n"),
+    ("W2 found", "shift", numbers(NETWORK + "3, 1 1 7 1 100 102, 1 1 8 1 102 104, 7 1 7 100"),
+     b"E 1 0 0\nE 2 0 0\nE 3 0 0\nF 1 2 7 8\nT 2 0 1\nA 3 0 2 0\n"),
+    ("W2 not found", "shift", numbers(NETWORK + "3, 1 1 7 1 100 102, 1 1 8 1 103 104, 7 1 7 100"),
+     b"E 1 0 0\nE 2 0 0\nE 3 0 0\nT 2 0 0\nA 3 0 2 0\n"),
+    ("W2 departed", "shift", numbers(NETWORK + "4, 1 1 7 1 100 102, 1 1 8 1 102 104, 7 1 7 100, 8 1 7 102"),
+     b"E 1 0 0\nE 2 0 0\nE 3 0 0\nE 4 0 0\nT 2 0 0\nA 4 0 2 0\n"),
+    ("W2 the larger train stands", "shift", numbers(NETWORK + "3, 1 1 8 1 100 102, 1 1 7 1 102 104, 7 1 8 100"),
+     b"E 1 0 0\nE 2 0 0\nE 3 0 0\nF 1 2 7 8\nT 2 0 1\nA 3 0 2 0\n"),
 ]
 
 # The same, and how many bytes come at a time; the last ones are too long for a file by a byte, and as long as may be.
@@ -234,6 +242,7 @@ TO_REACH = (
     + [f"inspect R {refusal}" for refusal in (1, 2, 3, 4, 5, 7, 12)]
     + [f"inspect {letter} rule {rule}" for letter in "FD" for rule in range(1, 12)]
     + [f"inspect P rule {rule}" for rule in RULES_ACROSS]
+    + ["inspect the smaller train stands", "inspect the larger train stands"]
     + ["inspect 16 rows", "inspect early", "inspect late", "inspect beyond the last minute", "inspect written again"]
     + ["inspect 384 visits", "inspect 96 relations"]
 )
@@ -272,10 +281,26 @@ def closure_mark(data, refusal, place):
     return "R 3 at the count of closures" if field == "count" else f"R 3 at the {field} of a closure"
 
 
+def standing(data):
+    """The visits of a file of `inspect`, as (station, train), that have arrived and not departed."""
+    numbers = decode(data)
+    at = closures_at(numbers)
+    at += 3 * numbers[at] + 1
+    found = set()
+    for _ in range(numbers[at]):
+        station, train, _, _, arrived, _, departed, before = numbers[at + 1:at + 9]
+        if arrived and not departed:
+            found.add((station, train))
+        at += 9 if before else 8
+        at += 3 if numbers[at + 1] else 1
+    return found
+
+
 def reached(program, data, output, edits):
     """What a file reached, by the reference's output; each counts once in a file."""
     marks = set()
     rows = collections.Counter()
+    stand = None
     for line in output.decode().splitlines():
         letter, *rest = line.split()
         rest = list(map(int, rest))
@@ -294,6 +319,11 @@ def reached(program, data, output, edits):
                 marks.add("1000 edits")
         elif letter in "FDP":
             marks.add(f"{letter} rule {rest[-3]}")
+            if letter == "F" and rest[1] == 2 and program == "inspect":
+                stand = stand if stand is not None else standing(data)
+                for train, which in zip(rest[2:], ("smaller", "larger")):
+                    if (rest[0], train) in stand:
+                        marks.add(f"the {which} train stands")
         elif letter == "T":
             numbers = decode(data)
             if numbers[closures_at(numbers)] == 32:

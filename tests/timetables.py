@@ -63,8 +63,8 @@ def make_journeys(r, network, picture, count, ring):
 
 
 def loosen(r, network, picture, much):
-    """Links that are not answered, other statuses, other runs."""
-    statuses = r.choice(["pending", "any", "past", "arrived"])
+    """Links that are not answered, other statuses, other runs. Late trains stand: arrived, and to depart about now."""
+    statuses = r.choice(["pending", "any", "past", "arrived", "standing"])
     now = picture.time()
     for (at, train), visit in list(picture.visits.items()):
         if statuses == "any":
@@ -73,6 +73,9 @@ def loosen(r, network, picture, much):
             visit.arrived, visit.departed = int(visit.arrival <= now), int(visit.departure <= now)
         elif statuses == "arrived":
             visit.arrived = r.randint(0, 1)
+        elif statuses == "standing" and visit.arrival <= now:
+            visit.arrived, visit.departed = 1, int(visit.departure <= now and r.random() < 0.5)
+            visit.departure = visit.departure if visit.departed else picture.near(now)
         if r.random() < much:
             what = r.randrange(7)
             outwards, inwards = network.out_of(at), network.into(at)

@@ -117,9 +117,13 @@ fn rule_1(visit: &Visit) -> bool {
 }
 
 /// "t < u, same track, both: u's arrival is pending and earlier than t's departure + 1; the same with t and u exchanged."
+/// W2: "if t, either of them, has arrived, its departure is pending, and u's arrival is pending and earlier than t's
+/// departure + 1, the pair is found, smaller train first. The other cases of rule 2 remain."
 fn rule_2(t: &Visit, u: &Visit) -> bool {
     let arrives_too_early = |one: &Visit, other: &Visit| one.arrival.pending() && one.arrival.time < other.departure.time + 1;
-    t.track == u.track && arrives_too_early(u, t) && arrives_too_early(t, u)
+    let stands = |one: &Visit| one.arrival.occurred && one.departure.pending();
+    let holds = |one: &Visit, other: &Visit| stands(one) && arrives_too_early(other, one);
+    t.track == u.track && ((arrives_too_early(u, t) && arrives_too_early(t, u)) || holds(t, u) || holds(u, t))
 }
 
 /// "t < u leave on one line, either pending, departures closer than the headway."

@@ -26,6 +26,26 @@ module _ {A : Type 0} (f : A → Bool) where
   count-flatMap g [] = refl
   count-flatMap g (x ∷ xs) = rw (count-append (g x) (flatMap g xs), count-flatMap g xs)
 
+  -- lists formed of parts, each counted by two others
+  pub count-parted : {B : Type 0} (g h k : B → List A) → ((b : B) → count f (g b) ≡ count f (h b) + count f (k b))
+      → (xs : List B) → count f (flatMap g xs) ≡ count f (flatMap h xs) + count f (flatMap k xs)
+  unfolding count flatMap
+  count-parted g h k e [] = refl
+  count-parted g h k e (x ∷ xs) =
+      omega
+      (arith, e x, count-parted g h k e xs, count-append (g x) (flatMap g xs), count-append (h x) (flatMap h xs), count-append (k x) (flatMap k xs))
+
+  -- of those that are kept
+  pub count-kept : (g : A → Bool) (xs : List A) → count f (keep g xs) ≡ count (λ x. g x && f x) xs
+  unfolding count keep
+  count-kept g [] = refl
+  count-kept g (x ∷ xs) = go (g x) (count-kept g xs)
+    where
+      go : (b : Bool) → count f (keep g xs) ≡ count (λ y. g y && f y) xs
+          → count f (if b then x ∷ keep g xs else keep g xs) ≡ (1 if b && f x else 0) + count (λ y. g y && f y) xs
+      go true e = omega (arith, e)
+      go false e = omega (arith, e)
+
   pub any-count : (xs : List A) → T (any f xs) → 1 ≤ count f xs
   unfolding any count
   any-count [] t = absurd t

@@ -2,7 +2,7 @@
 ghost use mathlib.Core.Path.{_≡_};
 ghost use mathlib.Core.Bool.{_&&_};
 ghost use Rattle.timetable.specs.Visits.{stops};
-ghost use Rattle.timetable.specs.Rules.{breaks-1, comes-too-soon, breaks-2, on-one-line, breaks-3, connected, disconnected, depends, breaks-5};
+ghost use Rattle.timetable.specs.Rules.{breaks-1, comes-too-soon, both-too-soon, stands-for, breaks-2, on-one-line, breaks-3, connected, disconnected, depends, breaks-5};
 ghost use Rattle.rules.specs.between.Parts.{leaves-by, runs-below, apart};
 use crate::clock;
 use network::LineFound;
@@ -35,14 +35,41 @@ fn comes_too_soon(v: Visit, w: Visit) -> bool
     clock::wide(w.arrival.0) < clock::wide(v.departure.0) + 1
 }
 
-// 2. "t < u, same track, both: ..; the same with t and u exchanged."
+// "both: ..; the same with t and u exchanged."
+fn both_too_soon(v: Visit, w: Visit) -> bool
+    ensures { λ r. ⌜ r ≡ both-too-soon v w ⌝ }
+{
+    if comes_too_soon(v, w) {
+        return comes_too_soon(w, v);
+    }
+    false
+}
+
+// W2: "a standing train holds its track"
+fn stands_for(v: Visit, w: Visit) -> bool
+    ensures { λ r. ⌜ r ≡ stands-for v w ⌝ }
+{
+    if v.arrived {
+        if v.departed {
+            return false;
+        }
+        return comes_too_soon(v, w);
+    }
+    false
+}
+
+// 2. "t < u, same track"; W2: "t, either of them"; "The other cases of rule 2 remain."
 pub fn breaks_2(v: Visit, w: Visit) -> bool
     ensures { λ r. ⌜ r ≡ breaks-2 v w ⌝ }
 {
     if v.track.0 == w.track.0 {
-        if comes_too_soon(v, w) {
-            return comes_too_soon(w, v);
+        if both_too_soon(v, w) {
+            return true;
         }
+        if stands_for(v, w) {
+            return true;
+        }
+        return stands_for(w, v);
     }
     false
 }

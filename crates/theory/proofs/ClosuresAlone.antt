@@ -4,11 +4,10 @@
 -- nothing.
 use Prim.Native.Nat.{ℕ, suc, _+_, _≤_}
 use mathlib.Core.Path.{_≡_, refl, sym, _∙_, ap, fun-ext}
-use mathlib.Core.Bool.{Bool, true, false, not, _&&_, _||_}
+use mathlib.Core.Bool.{Bool, true, false, not, _&&_}
 use mathlib.Core.List.{List, [], _∷_, _++_, map, flatMap, append-nil, append-assoc}
 use native.Mathlib.Omega.{arith}
-use lib.Dec.{T, ltb, leb, eqb, le→leb}
-use borrow.Author.Tests.{eqb-true}
+use lib.Dec.{T, leb, le→leb}
 use lib.ListN.{length, take}
 use Rattle.base.specs.Lists.{any, every, keep}
 use Rattle.base.proofs.Tests.{every-append, every-each}
@@ -19,12 +18,11 @@ use Rattle.railway.specs.declared.visit.Visit.{Visit}
 use Rattle.timetable.specs.Visits.{leaves}
 use Rattle.timetable.specs.Tables.{Entry, Table}
 use Rattle.timetable.specs.Machine.{Timetable}
-use Rattle.timetable.specs.Groups.{Grouping, in-group}
 use Rattle.timetable.specs.Rules.{breaks-5, breaks-6, single, breaks-10, breaks-11, out-line}
 use Rattle.timetable.specs.Findings.{Spanning, Rule, of-one, one, by-one, rules, found-by, found-by-all, at-station, spanning, picked, findings, inside, group-findings, between, pair-findings}
 use Rattle.theory.specs.Types.{Station, Network}
 use Rattle.theory.specs.Closures.{first-ten, reopened, of-first-ten, OnlyRule11}
-use Rattle.theory.proofs.Placed.{spot, anywhere, every-by-one, every-found}
+use Rattle.theory.proofs.Placed.{spot, apart, anywhere, every-by-one, every-found}
 
 -- the number of the rule, and its contrary
 abbrev early : Spanning → Bool
@@ -109,26 +107,6 @@ module _ (n : Network) (m : Timetable) where
     unfolding spanning first-ten
     only-ten = ap (λ (f : Station → List Spanning). flatMap f (stations-of n)) (fun-ext (λ s. parts-at s ∙ ap (λ (l : List Spanning). ten-at s ++ l) (last-nothing s) ∙ append-nil (ten-at s)))
 
--- a station is not in two groups
-apart : (γ : Grouping) (g h : ℕ) → ¬ (g ≡ h) → (s : Station) (a c : ℕ) → T (not (between γ g h (spot s s 11 a c)))
-unfolding between in-group
-apart γ g h d s a c = go (eqb g (γ s)) refl (eqb h (γ s)) refl (ltb 0 g) (ltb 0 h)
-  where
-    go : (x : Bool) → eqb g (γ s) ≡ x → (y : Bool) → eqb h (γ s) ≡ y → (u v : Bool) → T (not (((u && x) && (v && y)) || ((v && y) && (u && x))))
-    go true p true q u v = absurd (d (eqb-true g (γ s) p ∙ sym (eqb-true h (γ s) q)))
-    go true p false q true true = tt
-    go true p false q true false = tt
-    go true p false q false true = tt
-    go true p false q false false = tt
-    go false p true q true true = tt
-    go false p true q true false = tt
-    go false p true q false true = tt
-    go false p true q false false = tt
-    go false p false q true true = tt
-    go false p false q true false = tt
-    go false p false q false true = tt
-    go false p false q false false = tt
-
 -- the first ten rows read no closure
 reopened-ten : (n : Network) (m : Timetable) → first-ten n m ≡ first-ten (reopened n) m
 unfolding first-ten reopened rules breaks-5 breaks-6 breaks-10 single line-row line-rows stations-of station-rows
@@ -142,7 +120,7 @@ closures-alone n γ m = record {
   group-ten = λ g.
       keep-map of-first-ten (λ x. x .found) (keep (inside γ g) (spanning n m))
       ∙ ap (map (λ (x : Spanning). x .found)) (keep-swap early (inside γ g) (spanning n m) ∙ ap (keep (inside γ g)) (early-ten n m));
-  pair-ten = λ g h d. ap (map (λ (x : Spanning). x .found)) (kept-ten n m (between γ g h) (apart γ g h d));
+  pair-ten = λ g h d. ap (map (λ (x : Spanning). x .found)) (kept-ten n m (between γ g h) (λ s a c. apart γ g h d s 11 a c));
   whole-had = λ z. ap (map (λ (x : Spanning). x .found)) (only-ten n m z);
   group-had = λ z g. ap (picked (inside γ g)) (only-ten n m z);
 }

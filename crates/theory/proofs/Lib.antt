@@ -15,3 +15,4 @@ pub mod Kept
 pub mod Balance
 pub mod Demand
 pub mod ClosuresAlone
+pub mod StandingAlone

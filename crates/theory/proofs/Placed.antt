@@ -2,10 +2,12 @@
 -- there. So in a whole timetable both stations of every finding are listed: the station is one of the network's, and a
 -- good link leads to a listed one. Assumes nothing.
 use Prim.Native.Nat.{ℕ, suc, _+_, _≤_}
-use mathlib.Core.Bool.{Bool, true, false, _&&_}
+use mathlib.Core.Path.{_≡_, refl, sym, _∙_}
+use mathlib.Core.Bool.{Bool, true, false, not, _&&_, _||_}
 use mathlib.Core.List.{List, [], _∷_, flatMap}
 use native.Mathlib.Omega.{arith}
-use lib.Dec.{T}
+use lib.Dec.{T, ltb, eqb}
+use borrow.Author.Tests.{eqb-true}
 use Rattle.base.specs.Lists.{every}
 use Rattle.base.proofs.Tests.{and-l, and-r, both, parts}
 use Rattle.base.proofs.Tests.{every-head, every-tail, every-append, every-all, every-true, every-each, every-flatMap, every-weaker}
@@ -18,9 +20,10 @@ use Rattle.network.proofs.NetworkLaws.{stations-listed}
 use Rattle.timetable.specs.Visits.{ins, outs}
 use Rattle.timetable.specs.Tables.{Entry, Table}
 use Rattle.timetable.specs.Machine.{Timetable}
+use Rattle.timetable.specs.Groups.{Grouping, in-group}
 use Rattle.timetable.specs.Good.{in-good, out-good, entry-good, table-good, Whole}
 use Rattle.timetable.specs.Findings.{Spanning, finding, one, by-one, by-two, by-rank, by-out, by-in, Rule, of-one, of-two, of-relation, of-out, of-in, of-facing}
-use Rattle.timetable.specs.Findings.{rules, found-by, found-by-all, at-station, spanning}
+use Rattle.timetable.specs.Findings.{rules, found-by, found-by-all, at-station, spanning, between}
 use Rattle.timetable.proofs.Partition.{spans}
 use Rattle.timetable.proofs.TableLaws.{GoodVisit, visit-facts, table-facts}
 use Rattle.theory.specs.Types.{Station, Network}
@@ -28,6 +31,26 @@ use Rattle.theory.specs.Types.{Station, Network}
 -- a finding at s with the far station p
 abbrev pub spot : Station → Station → ℕ → ℕ → ℕ → Spanning
 spot s p rule a b = record { far = p; found = record { station = s; rule = rule; first = a; second = b } }
+
+-- a station is not in two groups, so a finding that reads one station is in no pair
+pub apart : (γ : Grouping) (g h : ℕ) → ¬ (g ≡ h) → (s : Station) (k a c : ℕ) → T (not (between γ g h (spot s s k a c)))
+unfolding between in-group
+apart γ g h d s k a c = go (eqb g (γ s)) refl (eqb h (γ s)) refl (ltb 0 g) (ltb 0 h)
+  where
+    go : (x : Bool) → eqb g (γ s) ≡ x → (y : Bool) → eqb h (γ s) ≡ y → (u v : Bool) → T (not (((u && x) && (v && y)) || ((v && y) && (u && x))))
+    go true p true q u v = absurd (d (eqb-true g (γ s) p ∙ sym (eqb-true h (γ s) q)))
+    go true p false q true true = tt
+    go true p false q true false = tt
+    go true p false q false true = tt
+    go true p false q false false = tt
+    go false p true q true true = tt
+    go false p true q true false = tt
+    go false p true q false true = tt
+    go false p true q false false = tt
+    go false p false q true true = tt
+    go false p false q true false = tt
+    go false p false q false true = tt
+    go false p false q false false = tt
 
 -- both links lead to stations that pass the test
 abbrev leads-in : (Station → Bool) → Entry → Bool

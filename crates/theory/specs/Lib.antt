@@ -3,3 +3,4 @@ pub mod Reordering
 pub mod Serial
 pub mod Statements
 pub mod Closures
+pub mod Standing

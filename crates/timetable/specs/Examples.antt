@@ -183,11 +183,9 @@ rules =
     ∷ found net (place 1 7 1 100 99 ∷ []) (finding (st 1) 1 7 0) true
     ∷ found net (place 1 7 1 100 102 ∷ departs 1 7 102 ∷ []) (finding (st 1) 1 7 0) true
     ∷ found net (place 1 7 1 100 102 ∷ arrives 1 7 100 ∷ departs 1 7 102 ∷ []) (finding (st 1) 1 7 0) false
-    -- 2: the other way round; one arrival occurred, either; another track
+    -- 2: the other way round; another track
     ∷ found net (place 1 8 1 100 102 ∷ place 1 7 1 102 104 ∷ []) (finding (st 1) 2 7 8) true
     ∷ found net (place 1 8 1 100 102 ∷ place 1 7 1 103 104 ∷ []) (finding (st 1) 2 7 8) false
-    ∷ found net (place 1 7 1 100 102 ∷ place 1 8 1 102 104 ∷ arrives 1 7 100 ∷ []) (finding (st 1) 2 7 8) false
-    ∷ found net (place 1 7 1 100 102 ∷ place 1 8 1 102 104 ∷ arrives 1 8 102 ∷ []) (finding (st 1) 2 7 8) false
     ∷ found net (place 1 7 1 100 102 ∷ place 1 8 2 102 104 ∷ []) (finding (st 1) 2 7 8) false
     -- 3: one departed, both departed; another line
     ∷ found net (leaving 7 102 12 ++ leaving 8 104 12 ++ (departs 1 7 102 ∷ [])) (finding (st 1) 3 7 8) true
@@ -541,9 +539,34 @@ closures =
     ∷ timetable-file (closed (closure 2 5 6 ∷ [])) (bytes-of (0 ∷ 0 ∷ [])) (4 ∷ 0 ∷ [])
     ∷ []
 
+-- document 02, W2
+pub standing-trains : List Case
+standing-trains =
+    -- (c)'s standing twin: "t arrived at 100 and departs at 102; u at 102 is found, u at 103 isn't."
+    found net (place 1 7 1 100 102 ∷ place 1 8 1 102 104 ∷ arrives 1 7 100 ∷ []) (finding (st 1) 2 7 8) true
+    ∷ found net (place 1 7 1 100 102 ∷ place 1 8 1 103 104 ∷ arrives 1 7 100 ∷ []) (finding (st 1) 2 7 8) false
+    -- the larger train stands: found once, the smaller first
+    ∷ found net (place 1 8 1 100 102 ∷ place 1 7 1 102 104 ∷ arrives 1 8 100 ∷ []) (finding (st 1) 2 7 8) true
+    ∷ found net (place 1 8 1 100 102 ∷ place 1 7 1 103 104 ∷ arrives 1 8 100 ∷ []) (finding (st 1) 2 7 8) false
+    ∷ area-has net (run-of (place 1 8 1 100 102 ∷ place 1 7 1 102 104 ∷ arrives 1 8 100 ∷ [])) 1 (1 ∷ 2 ∷ 7 ∷ 8 ∷ [])
+    -- the later one has arrived before the earlier one
+    ∷ found net (place 1 7 1 100 102 ∷ place 1 8 1 102 104 ∷ arrives 1 8 102 ∷ []) (finding (st 1) 2 7 8) true
+    -- both arrived; t departed; another track
+    ∷ found net (place 1 7 1 100 102 ∷ place 1 8 1 101 104 ∷ arrives 1 7 100 ∷ arrives 1 8 101 ∷ []) (finding (st 1) 2 7 8) false
+    ∷ found net (place 1 7 1 100 102 ∷ place 1 8 1 102 104 ∷ arrives 1 7 100 ∷ departs 1 7 102 ∷ []) (finding (st 1) 2 7 8) false
+    ∷ found net (place 1 7 1 100 102 ∷ place 1 8 2 102 104 ∷ arrives 1 7 100 ∷ []) (finding (st 1) 2 7 8) false
+    -- u's plan lies wholly before t's arrival: found to the letter, though not by the old rule
+    ∷ found net (place 1 7 1 100 102 ∷ place 1 8 1 80 84 ∷ []) (finding (st 1) 2 7 8) false
+    ∷ found net (place 1 7 1 100 102 ∷ place 1 8 1 80 84 ∷ arrives 1 7 100 ∷ []) (finding (st 1) 2 7 8) true
+    -- t's arrival time plays no part: reported later than it departs
+    ∷ found net (place 1 7 1 100 102 ∷ place 1 8 1 102 104 ∷ arrives 1 7 300 ∷ []) (finding (st 1) 2 7 8) true
+    -- a departure that occurred before its arrival did: nothing stands
+    ∷ found net (place 1 7 1 100 102 ∷ place 1 8 1 103 104 ∷ departs 1 7 102 ∷ []) (finding (st 1) 2 7 8) false
+    ∷ []
+
 pub table : List Case
-unfolding document ranges edits rules relations others files closures
-table = document ++ (ranges ++ (edits ++ (rules ++ (relations ++ (others ++ (files ++ closures))))))
+unfolding document ranges edits rules relations others files closures standing-trains
+table = document ++ (ranges ++ (edits ++ (rules ++ (relations ++ (others ++ (files ++ (closures ++ standing-trains)))))))
 
 pub examples-hold : failing 1 table ≡ []
 unfolding table Cases.opened

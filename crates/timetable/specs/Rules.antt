@@ -23,9 +23,18 @@ breaks-1 v = ltb (dep v) (arr v) || (v .departed && not (v .arrived))
 unfoldable pub comes-too-soon : Visit → Visit → Bool
 comes-too-soon v w = not (w .arrived) && ltb (arr w) (dep v + 1)
 
--- "t < u, same track, both: ..; the same with t and u exchanged."
+-- "both: ..; the same with t and u exchanged."
+unfoldable pub both-too-soon : Visit → Visit → Bool
+both-too-soon v w = comes-too-soon v w && comes-too-soon w v
+
+-- W2, "a standing train holds its track": "t .. has arrived, its departure is pending, and u's arrival is pending and
+-- earlier than t's departure + 1"
+unfoldable pub stands-for : Visit → Visit → Bool
+stands-for v w = (v .arrived && not (v .departed)) && comes-too-soon v w
+
+-- "t < u, same track"; W2: "t, either of them"; "The other cases of rule 2 remain."
 unfoldable pub breaks-2 : Visit → Visit → Bool
-breaks-2 v w = same-track (v .track) (w .track) && (comes-too-soon v w && comes-too-soon w v)
+breaks-2 v w = same-track (v .track) (w .track) && (both-too-soon v w || (stands-for v w || stands-for w v))
 
 -- 3. "t < u leave on one line"
 unfoldable pub on-one-line : Visit → Visit → Bool
@@ -145,6 +154,6 @@ out-line (OutLink.To o) = o .line .0
 
 -- The key ring of this module: `unfolding opened` opens every definition above.
 unfoldable pub opened : Unit {0}
-unfolding breaks-1 comes-too-soon breaks-2 on-one-line breaks-3 connected disconnected depends both-visit met breaks-5 due ahead caught crowded others
+unfolding breaks-1 comes-too-soon both-too-soon stands-for breaks-2 on-one-line breaks-3 connected disconnected depends both-visit met breaks-5 due ahead caught crowded others
     breaks-6 out-answered in-answered misses breaks-9 arrival-of opposes single breaks-10 shuts breaks-11 out-line
 opened = tt
