@@ -1,5 +1,5 @@
--- The rules of document 01, "Findings", and of document 02, W1, one by one, as tests of visits and tables. t and u are
--- the trains, v and w their visits; `here` is the table of s, `there` that of the far station. Assumes nothing.
+-- The rules of document 01, "Findings", and of document 02, W1 and W2, one by one, as tests of visits and tables. t and
+-- u are the trains, v and w their visits; `here` is the table of s, `there` that of the far station. Assumes nothing.
 use Prim.Native.Nat.{ℕ, _+_, min, max}
 use mathlib.Core.Bool.{Bool, true, not, _&&_, _||_}
 use mathlib.Core.List.{List, map}
