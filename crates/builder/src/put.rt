@@ -15,7 +15,7 @@ fn put_one(out: &mut [u16], at: usize, x: u16)
 }
 
 // The four numbers of a finding, where it is found: the place behind them.
-pub fn finding(
+pub(crate) fn finding(
     out: &mut [u16],
     at: usize,
     found: bool,

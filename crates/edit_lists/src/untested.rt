@@ -9,7 +9,7 @@ use network::Network;
 use railway::edit::Edit;
 use timetable::Answer;
 
-pub fn edit_untested(division: &mut [u8], n: Network, e: Edit) -> Answer
+pub(crate) fn edit_untested(division: &mut [u8], n: Network, e: Edit) -> Answer
     requires { ⌜ known-good n (now division) ≡ true ⌝ }
     ensures { λ r. ⌜ Edits n e (now (division .entry)) r (now (division .exit)) ⌝ }
 {

@@ -24,7 +24,7 @@ fn join_page(page: &mut [u8], first: &[u8], second: &[u8], n: Network, a: Area, 
     bytes::clear(page);
 }
 
-pub fn join(sheet: &mut [u8], first: &[u8], second: &[u8], n: Network, a: Area, b: Area)
+pub(crate) fn join(sheet: &mut [u8], first: &[u8], second: &[u8], n: Network, a: Area, b: Area)
     requires { ⌜ (length (now sheet) ≡ 8192) × (length (now first) ≡ 8192) × (length (now second) ≡ 8192) ⌝ }
     ensures { λ _. ⌜ now (sheet .exit) ≡ joined n a b (now (first .entry)) (now (second .entry)) ⌝ }
 {

@@ -29,7 +29,7 @@ fn is_written(sheet: &[u8], n: Network, bytes: &[u8]) -> bool
 }
 
 // 1 where it is, else 0.
-pub fn put_written(out: &mut [u8], sheet: &[u8], n: Network, bytes: &[u8]) -> usize
+pub(crate) fn put_written(out: &mut [u8], sheet: &[u8], n: Network, bytes: &[u8]) -> usize
     requires { ⌜ (sheet-list-refusal n (now sheet) ≡ 0) × (length (now bytes) ≤ 16384) ⌝ }
     ensures { λ r. ⌜ Puts 0 (written-text n (decode-sheet (now (sheet .entry))) (now (bytes .entry))) (now (out .entry)) r (now (out .exit)) 68 ⌝ }
 {

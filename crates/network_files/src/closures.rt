@@ -112,7 +112,7 @@ fn refused_closures(known: Network, refusal: u8, place: usize) -> ClosuresRead
 }
 
 // The closures, with the faults that the known lines show.
-pub fn closures(file: &[u8], at: usize, count: u8, known: Network) -> ClosuresRead
+pub(crate) fn closures(file: &[u8], at: usize, count: u8, known: Network) -> ClosuresRead
     requires { ⌜ count ≤ 32 ⌝ }
     ensures { λ r. ⌜ r ≡ closures-read known (read (closures-format count) (now (file .entry)) at) ⌝ }
 {

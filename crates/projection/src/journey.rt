@@ -21,7 +21,7 @@ use sheet::station_page;
 use timetable::Row;
 
 // The train's visit at a station.
-pub fn visit_at(sheet: &[u8], s: Station, t: Train) -> VisitFound
+pub(crate) fn visit_at(sheet: &[u8], s: Station, t: Train) -> VisitFound
     requires { ⌜ length (now sheet) ≡ 8192 ⌝ }
     ensures { λ r. ⌜ r ≡ visit-answer (visit-of t (decode-sheet (now (sheet .entry)) s)) ⌝ }
 {
@@ -61,7 +61,7 @@ fn put_row(out: &mut [i32], at: usize, r: Row)
 
 // From an arrival on, at most `left` visits: its row, and the rows from its departure on. Answers how many numbers they
 // are.
-pub fn arrive(
+pub(crate) fn arrive(
     sheet: &[u8],
     t: Train,
     s: Station,

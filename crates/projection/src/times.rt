@@ -68,7 +68,7 @@ fn lateness(a: u32, standing: Minute) -> i32
 }
 
 // "Each visit's row is station, expected arrival, expected departure and lateness"
-pub fn row_of(s: Station, v: Visit, a: u32) -> Row
+pub(crate) fn row_of(s: Station, v: Visit, a: u32) -> Row
     requires { ⌜ a ≤ 70000 ⌝ }
     ensures { λ r. ⌜ (r ≡ row s v a) × (r .arrival ≤ a) × (r .departure ≤ max (a + 1) 65535) ⌝ }
 {

@@ -81,7 +81,7 @@ fn count_next(file: &[u8], cursor: Cursor, a: Answer, tally: Tally) -> Counted
 
 // The lines of `count` edits, which can all be read from the place on, and what they and their answers make of an empty
 // tally.
-pub fn put_answers(
+pub(crate) fn put_answers(
     out: &mut [u8],
     file: &[u8],
     first: usize,

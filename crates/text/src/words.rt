@@ -8,7 +8,7 @@ ghost use Rattle.listings.specs.Text.{digits, word, head, line};
 ghost use Rattle.listings.specs.Inspect.{signed};
 ghost use Rattle.text.specs.between.Rows.{signed-word};
 
-pub fn put_byte(out: &mut [u8], at: usize, b: u8) -> usize
+pub(crate) fn put_byte(out: &mut [u8], at: usize, b: u8) -> usize
     requires { ⌜ at ≤ 2000000000 ⌝ }
     ensures { λ r. ⌜ (r ≡ at + 1) × (now (out .exit) ≡ put at (b ∷ []) (now (out .entry))) ⌝ }
 {
@@ -35,7 +35,7 @@ fn put_digits(out: &mut [u8], at: usize, x: u32, left: u8) -> usize
 }
 
 // A number with a blank before it.
-pub fn put_word(out: &mut [u8], at: usize, x: u32) -> usize
+pub(crate) fn put_word(out: &mut [u8], at: usize, x: u32) -> usize
     requires { ⌜ at ≤ 999999999 ⌝ }
     ensures { λ r. ⌜ Puts at (word x) (now (out .entry)) r (now (out .exit)) 11 ⌝ }
 {
@@ -56,7 +56,7 @@ fn put_signed(out: &mut [u8], at: usize, x: i32) -> usize
 }
 
 // The same with a blank before it.
-pub fn put_signed_word(out: &mut [u8], at: usize, x: i32) -> usize
+pub(crate) fn put_signed_word(out: &mut [u8], at: usize, x: i32) -> usize
     requires { ⌜ at ≤ 880000000 ⌝ }
     ensures { λ r. ⌜ Puts at (signed-word x) (now (out .entry)) r (now (out .exit)) 12 ⌝ }
 {
@@ -79,7 +79,7 @@ fn put_head(out: &mut [u8], at: usize, letter: u8, xs: [u32; 6], k: usize) -> us
 }
 
 // A line of the first k numbers.
-pub fn put_line(out: &mut [u8], at: usize, letter: u8, xs: [u32; 6], k: usize) -> usize
+pub(crate) fn put_line(out: &mut [u8], at: usize, letter: u8, xs: [u32; 6], k: usize) -> usize
     requires { ⌜ (at ≤ 900000000) × (k ≤ 6) ⌝ }
     ensures { λ r. ⌜ Puts at (line letter (take k xs)) (now (out .entry)) r (now (out .exit)) 68 ⌝ }
 {

@@ -69,7 +69,7 @@ fn put_relation(part: &mut [u8], q: Relation)
 }
 
 // The visit of a train at a station, whose entry starts at a place of the file.
-pub fn enter_visit(
+pub(crate) fn enter_visit(
     sheet: &mut [u8],
     n: Network,
     s: Station,
@@ -97,7 +97,7 @@ pub fn enter_visit(
     fault
 }
 
-pub fn enter_relation(
+pub(crate) fn enter_relation(
     sheet: &mut [u8],
     n: Network,
     x: StationRelation,

@@ -154,7 +154,7 @@ fn relation_part(file: &[u8], at: usize, n: Network, sheet: &mut [u8], fault: Fa
 }
 
 // All entries from a place of the file on, put into the sheet.
-pub fn entries(file: &[u8], at: usize, n: Network, sheet: &mut [u8]) -> EntriesRead
+pub(crate) fn entries(file: &[u8], at: usize, n: Network, sheet: &mut [u8]) -> EntriesRead
     requires { ⌜ length (now sheet) ≡ 8192 ⌝ }
     ensures { λ r. ⌜
         (r ≡ timetable-entries n (record { sheet = now (sheet .entry); fault = no-fault }) (read timetable-format (now (file .entry)) at))
