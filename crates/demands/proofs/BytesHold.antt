@@ -23,8 +23,8 @@ use Rattle.machine.specs.Calls.{sheet-after, division-answer, division-after}
 use Rattle.machine.proofs.ByteEdits.{whole-of, sheet-of}
 use Rattle.machine.proofs.ListEdits.{GoodSheet, sheets-kept}
 use Rattle.machine.proofs.CentralEdits.{central-run, central-answers}
-use Rattle.edit_lists.specs.Lists.{answers-of, division-of, told-run, division-left, answers-left, run-answer, run-division, run-answers}
-use Rattle.edit_lists.proofs.RunLaws.{answers-length}
+use Rattle.edit_calls.specs.Lists.{answers-of, division-of, told-run, division-left, answers-left, run-answer, run-division, run-answers}
+use Rattle.edit_calls.proofs.RunLaws.{answers-length}
 use Rattle.demands.specs.Types.{Edit, Network}
 use Rattle.demands.specs.Demand.{Demand3}
 use Rattle.demands.specs.Bytes.{FromBytes, DemandFromBytes, DemandFromDivision, PartsAreSheets}

@@ -41,7 +41,7 @@ use Rattle.fields.specs.Outcomes.{end-of}
 use Rattle.timetable_entries.specs.Answers as sheetfile
 use Rattle.timetable_files.specs.Calls.{read-outcome, read-answer, read-after}
 use Rattle.timetable_files.specs.Inspect.{inspect-outcome, inspect-read, inspect-sheet, inspect-answer, inspect-after}
-use Rattle.edit_lists.specs.Lists.{answers-of, told-run, division-left, answers-left, run-answer, run-division, run-answers}
+use Rattle.edit_calls.specs.Lists.{answers-of, told-run, division-left, answers-left, run-answer, run-division, run-answers}
 use Rattle.projection.specs.Calls.{project-refusal, projected, project-answer, project-after}
 use Rattle.demands.specs.Types.{Edit, Network, Answer}
 use Rattle.demands.specs.Refusals.{Untouched, RefusalsLeaveAll}

@@ -16,7 +16,7 @@ use Rattle.timetable.specs.Groups.{names-group}
 use Rattle.theory.specs.Reordering.{along, Reordering}
 use Rattle.sheet.specs.Sheets.{good-sheet, divided}
 use Rattle.machine.specs.Calls.{sheet-answer, sheet-after, division-answer, division-after}
-use Rattle.edit_lists.specs.Lists.{answer-numbers, run-answer, run-division, run-answers}
+use Rattle.edit_calls.specs.Lists.{answer-numbers, run-answer, run-division, run-answers}
 use Rattle.demands.specs.Types.{Edit, Network, Answer}
 
 -- the file is accepted, and holds these edits

@@ -26,7 +26,7 @@ use Rattle.edit_writing.specs.Writing.{write-edit, edit-written, write-edits, e
 use Rattle.timetable_writing.specs.Writing.{write-timetable, timetable-written}
 use Rattle.timetable_files.specs.Calls.{read-answer, read-after}
 use Rattle.timetable_files.specs.Inspect.{inspect-answer, inspect-after}
-use Rattle.edit_lists.specs.Lists.{run-answer, run-division, run-answers}
+use Rattle.edit_calls.specs.Lists.{run-answer, run-division, run-answers}
 use Rattle.projection.specs.Calls.{project-answer, project-after}
 use Rattle.demands.specs.Types.{Station, Train, Minute, Area, Edit, Network, Answer, Tally}
 

@@ -7,7 +7,7 @@ use Rattle.timetable.specs.Groups.{names-group}
 use Rattle.actions.specs.Early.{early-refusal}
 use Rattle.actions.proofs.EarlyLaws.{Early, early-facts}
 use Rattle.named_sheets.specs.between.Named.{touches-area}
-use Rattle.machine.proofs.EditCalls.{area-named}
+use Rattle.edit_calls.proofs.CallTests.{area-named}
 use Rattle.edit_replies.specs.Types.{Edit, Network}
 use Rattle.replies.specs.Replies.{sized, plain, bits}
 use Rattle.edit_replies.specs.Replies.{named}

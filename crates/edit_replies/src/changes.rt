@@ -1,7 +1,7 @@
 // An edit under a network that is read: its file, then the call.
 ghost use mathlib.Core.Path.{_≡_};
 ghost use Rattle.edit_replies.specs.Replies.{one-reply, one-left, sheet-one-reply, sheet-one-left};
-use machine::calls;
+use edit_calls::calls;
 use network::Network;
 use replies::Reply;
 

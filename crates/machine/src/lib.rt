@@ -1,2 +1,2 @@
-// The central machine on bytes: an edit on a sheet, an edit on a division.
-pub mod calls; // the calls
+// What edits on a sheet and on a division answer and leave (specs/), and that these are the central machine's (proofs/).
+// No code.

@@ -5,7 +5,7 @@ ghost use mathlib.Core.Path.{_≡_};
 ghost use Prim.Native.Nat.{_*_, _-_, _≤_, _<_, min};
 ghost use Rattle.edit_changes.specs.between.EditPages.{page-without, here-page};
 ghost use Rattle.page_edits.specs.between.PageEdits.{place-of, places, visits-on, swept, sweep};
-ghost use Rattle.page_edits.specs.between.PageEdits.{far-changed, frames-refusal, frames-removed, frames-changed, frames-answer, frames-after};
+ghost use Rattle.page_edits.specs.between.PageEdits.{far-changed, frames-refusal, frames-removed, frames-changed};
 ghost use Rattle.sheet.specs.between.Frames.{frame, change-frame};
 use actions::shape;
 use network::Network;
@@ -14,7 +14,6 @@ use railway::edit::Edit;
 use railway::sorts::Station;
 use railway::sorts::Train;
 use records::bytes;
-use timetable::Answer;
 
 // One less, and 0 for 0.
 fn before(x: u8) -> usize
@@ -125,7 +124,7 @@ fn sweep_all(b: &mut [u8], divided: bool, n: Network, t: Train) -> u8
 // An edit on all the pages that it names
 
 // What the pages refuse it with: 8 to 12, or 0.
-fn refusal_on(b: &[u8], divided: bool, n: Network, e: Edit) -> u8
+pub fn refusal_on(b: &[u8], divided: bool, n: Network, e: Edit) -> u8
     ensures { λ r. ⌜ r ≡ frames-refusal divided n e (now (b .entry)) ⌝ }
 {
     let a = shape::shape_of(e);
@@ -138,7 +137,7 @@ fn refusal_on(b: &[u8], divided: bool, n: Network, e: Edit) -> u8
 }
 
 // What it makes of them, where they do not refuse it; how many visits that removes.
-fn change_on(b: &mut [u8], divided: bool, n: Network, e: Edit) -> u8
+pub fn change_on(b: &mut [u8], divided: bool, n: Network, e: Edit) -> u8
     ensures { λ r. ⌜ (r ≡ frames-removed divided n e (now (b .entry))) × (now (b .exit) ≡ frames-changed divided n e (now (b .entry))) ⌝ }
 {
     let a = shape::shape_of(e);
@@ -150,21 +149,4 @@ fn change_on(b: &mut [u8], divided: bool, n: Network, e: Edit) -> u8
     change_far(b, i, j, e);
     change_near(b, i, e);
     a.removes
-}
-
-// An edit on the pages of its stations, in a sheet or in a division: refused by them, or done. No sheet is tested here.
-pub fn edit_pages(b: &mut [u8], divided: bool, n: Network, e: Edit) -> Answer
-    ensures { λ r. ⌜ (r ≡ frames-answer divided n e (now (b .entry))) × (now (b .exit) ≡ frames-after divided n e (now (b .entry))) ⌝ }
-{
-    let r = refusal_on(b, divided, n, e);
-    if r == 0 {
-        return Answer {
-            refusal: 0,
-            removed: change_on(b, divided, n, e),
-        };
-    }
-    Answer {
-        refusal: r,
-        removed: 0,
-    }
 }

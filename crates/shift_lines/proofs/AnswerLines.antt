@@ -8,8 +8,8 @@ use Rattle.timetable.specs.Formats.{Outcome, accepted, refused, read}
 use Rattle.timetable.specs.EditsFile.{edit-entry}
 use Rattle.timetable.specs.Listing.{answer-lines}
 use Rattle.timetable.specs.Count.{raise-all}
-use Rattle.edit_lists.specs.between.Taken.{edits-at, can-be-read}
-use Rattle.edit_lists.proofs.TakenLaws.{first-taken, none-taken, rest-read, not-stopped}
+use Rattle.edit_calls.specs.between.Taken.{edits-at, can-be-read}
+use Rattle.edit_calls.proofs.TakenLaws.{first-taken, none-taken, rest-read, not-stopped}
 use Rattle.listings.specs.Text.{line}
 use Rattle.listings.specs.Shift.{line-text}
 use Rattle.shift_lines.specs.Types.{Edit, Answer, Tally}

@@ -11,9 +11,9 @@ use borrow.Author.Tests.{eq-eqb, le-leb}
 use Rattle.base.specs.Runs.{answers}
 use Rattle.timetable.specs.Outputs.{output-after}
 use Rattle.machine.specs.Calls.{division-after}
-use Rattle.edit_lists.specs.Lists.{answer-numbers, answers-of, division-of, division-left, answers-left, run-division, run-answers}
-use Rattle.edit_lists.specs.between.Taken.{edits-at}
-use Rattle.edit_lists.proofs.RunLaws.{answers-length}
+use Rattle.edit_calls.specs.Lists.{answer-numbers, answers-of, division-of, division-left, answers-left, run-division, run-answers}
+use Rattle.edit_calls.specs.between.Taken.{edits-at}
+use Rattle.edit_calls.proofs.RunLaws.{answers-length}
 use Rattle.shift_lines.specs.Types.{Edit, Network, Answer}
 use Rattle.shift_lines.specs.between.Listing.{told, answer-at, answers-from, EditsFile}
 

@@ -23,9 +23,9 @@ use Rattle.edit_files.specs.Answers.{edits-answer, shift-answer}
 use Rattle.edit_files.specs.declared.list.EditsRead.{EditsRead}
 use Rattle.edit_files.specs.declared.input.ShiftRead.{ShiftRead}
 use Rattle.page.proofs.FlatLaws.{flat-append}
-use Rattle.edit_lists.specs.between.Taken.{edits-at}
+use Rattle.edit_calls.specs.between.Taken.{edits-at}
 use Rattle.fields.proofs.FileRefusals.{Told, behind-told, read-told, ended-told, fault-told}
-use Rattle.edit_lists.proofs.RunLaws.{held}
+use Rattle.edit_calls.proofs.RunLaws.{held}
 use Rattle.listings.specs.Shift.{refusal-text, shift-told, shift-text}
 use Rattle.shift_lines.specs.Types.{Edit}
 use Rattle.shift_lines.specs.between.Listing.{EditsFile, run-text}

@@ -37,8 +37,8 @@ use Rattle.builder.specs.between.Builder.{findings-most}
 use Rattle.timetable.proofs.BuffersFilled.{puts-two, puts-as}
 use Rattle.builder.proofs.FindingsPut.{puts-more}
 use Rattle.builder.proofs.BuildLaws.{flat-map}
-use Rattle.edit_lists.specs.Lists.{known-good, division-of}
-use Rattle.edit_lists.proofs.KnownGood.{sheets-good, is-known}
+use Rattle.edit_calls.specs.Lists.{known-good, division-of}
+use Rattle.edit_calls.proofs.KnownGood.{sheets-good, is-known}
 use Rattle.timetable_writing.proofs.TimetableLaws.{flat-append}
 use Rattle.listings.specs.Text.{line}
 use Rattle.listings.specs.Shift.{line-text, shift-text}

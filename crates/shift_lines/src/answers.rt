@@ -8,7 +8,7 @@ ghost use Rattle.timetable.specs.Outputs.{Puts};
 ghost use Rattle.timetable.specs.Count.{zero-tally, raise-all};
 ghost use Rattle.timetable.specs.Formats.{read};
 ghost use Rattle.timetable.specs.EditsFile.{edit-entry};
-ghost use Rattle.edit_lists.specs.between.Taken.{edits-at, can-be-read};
+ghost use Rattle.edit_calls.specs.between.Taken.{edits-at, can-be-read};
 ghost use Rattle.listings.specs.Text.{line};
 ghost use Rattle.text.specs.between.Lines.{far};
 ghost use Rattle.shift_lines.specs.between.Listing.{answer-at, answers-from, answers-text, next-tally, next-place};

@@ -8,8 +8,8 @@ ghost use Rattle.timetable.specs.Listing.{tally-line};
 ghost use Rattle.timetable.specs.Outputs.{Puts, reply, output, output-after};
 ghost use Rattle.sheet.specs.Sheets.{decode-sheet, merged};
 ghost use Rattle.records.specs.Bytes.{zeros};
-ghost use Rattle.edit_lists.specs.Lists.{known-good};
-ghost use Rattle.edit_lists.specs.between.Taken.{edits-at};
+ghost use Rattle.edit_calls.specs.Lists.{known-good};
+ghost use Rattle.edit_calls.specs.between.Taken.{edits-at};
 ghost use Rattle.builder.specs.between.Builder.{findings-most};
 ghost use Rattle.listings.specs.Shift.{line-text, shift-text};
 ghost use Rattle.text.specs.between.Lines.{far};
@@ -89,7 +89,7 @@ fn run_in(
         × (now division ≡ zeros 49152) ⌝ }
     ensures { λ r. ⌜ Puts 0 (run-text n (edits-at count (now (file .entry)) first)) (now (out .entry)) r (now (out .exit)) shift-most ⌝ }
 {
-    edit_lists::run_list(division, n, file, answers);
+    edit_calls::run_list(division, n, file, answers);
     let progress = answers::put_answers(out, file, first, count, answers);
     put_end(out, progress.at, division, n, progress.tally)
 }

@@ -10,7 +10,7 @@ use Rattle.timetable.specs.NetworkFile.{read-network}
 use Rattle.timetable.specs.Outputs.{output, output-after}
 use Rattle.sheet.specs.Sheets.{divide-refusal, after-divide, merge-refusal, after-merge}
 use Rattle.findings.specs.Lists.{sheet-list, area-list, two-list, sheet-list-refusal, area-list-refusal, two-list-refusal}
-use Rattle.edit_lists.specs.Lists.{run-answer, run-division, run-answers}
+use Rattle.edit_calls.specs.Lists.{run-answer, run-division, run-answers}
 use Rattle.timetable_files.specs.Calls.{read-answer, read-after}
 use Rattle.timetable_writing.specs.Writing.{write-timetable, timetable-written}
 use Rattle.projection.specs.Calls.{project-answer, project-after}

@@ -1,9 +1,9 @@
 // Edits on a division. Refusals: 5, then the network's file, then the edits', then those of the call.
 ghost use mathlib.Core.Path.{_≡_};
-ghost use Rattle.edit_lists.specs.Lists as lists;
+ghost use Rattle.edit_calls.specs.Lists as lists;
 ghost use Rattle.replies.specs.Replies.{of-reply};
 ghost use Rattle.strakewhip.specs.Calls.{edit-reply, edit-left, sheet-edit-reply, sheet-edit-left, run-reply, run-left, answers-left};
-use edit_lists::Run;
+use edit_calls::Run;
 use edit_replies::changes;
 use network_files::reading::read_network;
 use replies::Reply;
@@ -65,5 +65,5 @@ pub extern "C" fn strakewhip_run(
     if read.refusal != 0 {
         return replies::placed(1, read.refusal, read.place);
     }
-    of_run(edit_lists::run_list(division, read.network, edits, answers))
+    of_run(edit_calls::run_list(division, read.network, edits, answers))
 }

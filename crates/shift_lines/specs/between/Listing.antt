@@ -11,7 +11,7 @@ use Rattle.timetable.specs.Machine.{Timetable}
 use Rattle.timetable.specs.Count.{raise}
 use Rattle.timetable.specs.Listing.{answer-lines, tally-line, listing}
 use Rattle.machine.specs.Calls.{division-answer, division-after}
-use Rattle.edit_lists.specs.between.Taken.{edits-at, can-be-read}
+use Rattle.edit_calls.specs.between.Taken.{edits-at, can-be-read}
 use Rattle.builder.specs.between.Builder.{findings-most}
 use Rattle.listings.specs.Shift.{line-text}
 use Rattle.listings.specs.Inspect.{whole-text, totals-text}

@@ -8,7 +8,7 @@ use Rattle.edit_replies.specs.Replies.{one-reply, one-left}
 use Rattle.edit_replies.proofs.EditFile.{edit-refused, edit-held}
 use Rattle.edit_replies.proofs.changes.one_on_division.Reads as reads
 use Rattle.edit_replies.proofs.changes.one_on_division.Lts as lts
-use Rattle.machine.proofs.calls.edit_division.Reads as edit-division-reads
+use Rattle.edit_calls.proofs.calls.edit_division.Reads as edit-division-reads
 use Rattle.replies.proofs.of_answer.Reads as of-answer-reads
 use Rattle.replies.proofs.placed.Reads as placed-reads
 use Rattle.edit_replies.proofs.changes.one_on_division.Statement.{statement}

@@ -8,7 +8,7 @@ use Rattle.edit_replies.specs.Replies.{sheet-one-reply, sheet-one-left}
 use Rattle.edit_replies.proofs.EditFile.{edit-refused, edit-held}
 use Rattle.edit_replies.proofs.changes.one_on_sheet.Reads as reads
 use Rattle.edit_replies.proofs.changes.one_on_sheet.Lts as lts
-use Rattle.machine.proofs.calls.edit_sheet.Reads as edit-sheet-reads
+use Rattle.edit_calls.proofs.calls.edit_sheet.Reads as edit-sheet-reads
 use Rattle.replies.proofs.of_answer.Reads as of-answer-reads
 use Rattle.replies.proofs.placed.Reads as placed-reads
 use Rattle.edit_replies.proofs.changes.one_on_sheet.Statement.{statement}

@@ -9,7 +9,7 @@ use borrow.Author.Needs.{needs}
 use lib.ListN.{length}
 use Rattle.timetable.specs.Count.{zero-tally, raise-all}
 use Rattle.builder.proofs.FindingsPut.{Left, left-start, left-on, left-end}
-use Rattle.edit_lists.specs.between.Taken.{edits-at, can-be-read}
+use Rattle.edit_calls.specs.between.Taken.{edits-at, can-be-read}
 use Rattle.shift_lines.specs.between.Listing.{answers-from, answers-text}
 use Rattle.shift_lines.proofs.AnswerLines.{lines-next, next-taken, lines-none, tally-none}
 use Rattle.shift_lines.proofs.answers.put_answers.Statement.{statement}

@@ -5,7 +5,7 @@ use denote.Ref.{now}
 use borrow.Author.Needs.{needs}
 use Rattle.sheet.specs.Sheets.{merged}
 use Rattle.findings.specs.Lists.{sheet-list-refusal}
-use Rattle.edit_lists.proofs.KnownGood.{network-good}
+use Rattle.edit_calls.proofs.KnownGood.{network-good}
 use Rattle.shift_lines.proofs.ListingLines.{merges, merged-listed, end-put}
 use Rattle.shift_lines.proofs.listing.end_in.Statement.{statement}
 use Rattle.shift_lines.proofs.listing.end_in.Tie as tie

@@ -8,8 +8,8 @@ use denote.Ref.{now}
 use lib.ListN.{length, length-replicate}
 use borrow.Author.Needs.{needs}
 use Rattle.records.specs.Bytes.{zeros}
-use Rattle.edit_lists.specs.Lists.{known-good, division-of}
-use Rattle.edit_lists.specs.between.Taken.{edits-at}
+use Rattle.edit_calls.specs.Lists.{known-good, division-of}
+use Rattle.edit_calls.specs.between.Taken.{edits-at}
 use Rattle.shift_lines.specs.Types.{Edit}
 use Rattle.shift_lines.specs.between.Listing.{told, answers-from}
 use Rattle.shift_lines.proofs.EditsRun.{division-run, answers-told}

@@ -1,7 +1,7 @@
 -- `strakewhip::changes::of_run` meets its contract: each case by itself. Assumes nothing.
 use mathlib.Core.Path.{sym, _∙_, ap}
 use borrow.Author.Needs.{needs}
-use Rattle.edit_lists.specs.Lists.{reply}
+use Rattle.edit_calls.specs.Lists.{reply}
 use Rattle.replies.specs.Replies.{file-of, or-nought, of-reply}
 use Rattle.strakewhip.proofs.changes.of_run.Statement.{statement}
 use Rattle.strakewhip.proofs.changes.of_run.Tie as tie

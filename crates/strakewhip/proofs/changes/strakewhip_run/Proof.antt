@@ -7,7 +7,7 @@ use borrow.Author.Needs.{needs}
 use borrow.Author.Tests.{eq-eqb, ne-eqb}
 use Rattle.replies.specs.Replies.{of-reply}
 use Rattle.strakewhip.specs.Calls.{run-reply, run-left, answers-left}
-use Rattle.edit_lists.specs.Lists.{run-answer, run-division, run-answers}
+use Rattle.edit_calls.specs.Lists.{run-answer, run-division, run-answers}
 use Rattle.strakewhip.proofs.FileLaws.{unfit, stopped, reached, so}
 use Rattle.strakewhip.proofs.changes.strakewhip_run.Statement.{statement}
 use Rattle.strakewhip.proofs.changes.strakewhip_run.Tie as tie

@@ -1,4 +1,0 @@
-pub mod KnownGood
-pub mod TakenLaws
-pub mod RunLaws
-pub mod ReplyFixesRun
