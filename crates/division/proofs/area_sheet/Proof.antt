@@ -1,4 +1,4 @@
--- `sheet::division::area_sheet` meets its contract: the tests that led to each return decide the part. Assumes nothing.
+-- `division::area_sheet` meets its contract: the tests that led to each return decide the part. Assumes nothing.
 use mathlib.Core.Path.{sym, _∙_}
 use native.Mathlib.Omega.{arith}
 use denote.Ref.{now}

@@ -1,4 +1,4 @@
--- `sheet::division::areas` meets its contract: each element is what its call answers. Assumes nothing.
+-- `division::areas` meets its contract: each element is what its call answers. Assumes nothing.
 use mathlib.Core.List.{[], _∷_}
 use Rattle.sheet.specs.Sheets.{sixteen}
 use Rattle.division.specs.between.Copies.{areas-in}

@@ -1,5 +1,5 @@
--- `sheet::division::collect` meets its contract. The loop's invariant: the first i pages are those of the sheet to be
--- made. Assumes nothing.
+-- `division::collect` meets its contract. The loop's invariant: the first i pages are those of the sheet to be made.
+-- Assumes nothing.
 use Prim.Native.Nat.{_*_, _-_, _≤_}
 use mathlib.Core.Path.{_≡_, refl, sym, _∙_}
 use native.Mathlib.Omega.{arith}

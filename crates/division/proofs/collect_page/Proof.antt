@@ -1,4 +1,4 @@
--- `sheet::division::collect_page` meets its contract: each arm is one call, on parts of 512 bytes. Assumes nothing.
+-- `division::collect_page` meets its contract: each arm is one call, on parts of 512 bytes. Assumes nothing.
 use Prim.Native.Nat.{_+_, _*_, _-_}
 use mathlib.Core.Path.{_≡_, _∙_, ap}
 use native.Mathlib.Nat.{add-sub-cancel-left}

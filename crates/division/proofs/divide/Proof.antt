@@ -1,4 +1,4 @@
--- `sheet::division::divide` meets its contract: the tests that led to each return decide. Assumes nothing.
+-- `division::divide` meets its contract: the tests that led to each return decide. Assumes nothing.
 use mathlib.Core.Path.{sym, _∙_}
 use denote.Ref.{now}
 use Rattle.division.proofs.DividingCalls.{divide-no-sheet, divide-no-division, divide-bad-network, divide-bad-sheet, divide-done}

@@ -1,5 +1,5 @@
--- `sheet::division::fill` meets its contract. The loop's invariant: the first i pages are those of the sheet to be
--- made. Each turn fills one page more; after the last turn all are filled. Assumes nothing.
+-- `division::fill` meets its contract. The loop's invariant: the first i pages are those of the sheet to be made. Each
+-- turn fills one page more; after the last turn all are filled. Assumes nothing.
 use Prim.Native.Nat.{_*_, _-_, _≤_}
 use mathlib.Core.Path.{_≡_, refl, sym, _∙_}
 use native.Mathlib.Nat.{add-sub-cancel-left}

@@ -1,5 +1,5 @@
--- `sheet::division::fill_all` meets its contract. The loop's invariant: the first i sheets are those of the division to
--- be made, and a is the next area. Assumes nothing.
+-- `division::fill_all` meets its contract. The loop's invariant: the first i sheets are those of the division to be
+-- made, and a is the next area. Assumes nothing.
 use Prim.Native.Nat.{_+_, _*_, _-_, _≤_}
 use mathlib.Core.Path.{_≡_, refl, sym, _∙_, ap}
 use native.Mathlib.Omega.{arith}

@@ -1,4 +1,4 @@
--- `sheet::division::keep_page` meets its contract: each arm is one call, on parts of 512 bytes. Assumes nothing.
+-- `division::keep_page` meets its contract: each arm is one call, on parts of 512 bytes. Assumes nothing.
 use mathlib.Core.Path.{_∙_, ap}
 use native.Mathlib.Omega.{arith}
 use denote.Ref.{now}

@@ -1,4 +1,4 @@
--- `sheet::division::merge` meets its contract: the tests that led to each return decide. Assumes nothing.
+-- `division::merge` meets its contract: the tests that led to each return decide. Assumes nothing.
 use mathlib.Core.Path.{sym, _∙_}
 use lib.Dec.{T}
 use denote.Ref.{now}

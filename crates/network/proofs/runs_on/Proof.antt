@@ -1,4 +1,4 @@
--- `railway::network::runs_on` meets its contract: each return rewrites with the tests that led there. Assumes nothing.
+-- `network::runs_on` meets its contract: each return rewrites with the tests that led there. Assumes nothing.
 use borrow.Author.Tests.{eq-eqb, ne-eqb}
 use Rattle.network.specs.Networks.{way-open}
 use Rattle.network.proofs.runs_on.Statement.{statement}

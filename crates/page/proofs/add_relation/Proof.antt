@@ -1,5 +1,5 @@
--- `sheet::page::add_relation` meets its contract: on a page with room the record is put in at the relation's place,
--- else nothing changes. Assumes nothing.
+-- `page::add_relation` meets its contract: on a page with room the record is put in at the relation's place, else
+-- nothing changes. Assumes nothing.
 use native.Mathlib.Omega.{arith}
 use borrow.Author.Needs.{needs}
 use Prim.Native.Nat.{ℕ, min}

@@ -1,5 +1,5 @@
--- `sheet::page::find_train` meets its contract: the index that the search gives is below the count where a record is
--- the train's. Assumes nothing.
+-- `page::find_train` meets its contract: the index that the search gives is below the count where a record is the
+-- train's. Assumes nothing.
 use borrow.Author.Needs.{needs}
 use mathlib.Core.Path.{_∙_}
 use denote.Ref.{now}

@@ -1,5 +1,5 @@
--- `sheet::page::has_relation` meets its contract: the index that the search gives is below the count where a record is
--- the relation. Assumes nothing.
+-- `page::has_relation` meets its contract: the index that the search gives is below the count where a record is the
+-- relation. Assumes nothing.
 use borrow.Author.Needs.{needs}
 use mathlib.Core.Path.{_∙_}
 use denote.Ref.{now}

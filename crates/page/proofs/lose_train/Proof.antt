@@ -1,5 +1,5 @@
--- `sheet::page::lose_train` meets its contract: the relations are written anew into zeros, and copied in with their
--- count. Assumes nothing.
+-- `page::lose_train` meets its contract: the relations are written anew into zeros, and copied in with their count.
+-- Assumes nothing.
 use native.Mathlib.Omega.{arith}
 use borrow.Author.Needs.{needs}
 use lib.ListN.{take, drop}

@@ -1,5 +1,5 @@
--- `sheet::page::put_in` meets its contract: the part from the record's place to one record behind the last is lent, and
--- the count follows. Assumes nothing.
+-- `page::put_in` meets its contract: the part from the record's place to one record behind the last is lent, and the
+-- count follows. Assumes nothing.
 use native.Mathlib.Omega.{arith}
 use borrow.Author.Needs.{needs}
 use Prim.Native.Nat.{_+_, _*_, _-_}

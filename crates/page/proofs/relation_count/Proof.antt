@@ -1,5 +1,5 @@
--- `sheet::page::relation_count` meets its contract: a page's table has as many relations as the page counts, and at
--- most 6. Assumes nothing.
+-- `page::relation_count` meets its contract: a page's table has as many relations as the page counts, and at most 6.
+-- Assumes nothing.
 use native.Mathlib.Omega.{arith}
 use borrow.Author.Needs.{needs}
 use denote.Ref.{now}

@@ -1,5 +1,5 @@
--- `sheet::page::remove_relation` meets its contract: the record is taken out where it is found, else nothing changes.
--- Assumes nothing.
+-- `page::remove_relation` meets its contract: the record is taken out where it is found, else nothing changes. Assumes
+-- nothing.
 use native.Mathlib.Omega.{arith}
 use borrow.Author.Needs.{needs}
 use Prim.Native.Nat.{min}

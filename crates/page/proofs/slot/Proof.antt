@@ -1,5 +1,5 @@
--- `sheet::page::slot` meets its contract: the part is left as it was where the relation is found, else the record is
--- put in at its place. Assumes nothing.
+-- `page::slot` meets its contract: the part is left as it was where the relation is found, else the record is put in at
+-- its place. Assumes nothing.
 use native.Mathlib.Omega.{arith}
 use borrow.Author.Needs.{needs}
 use mathlib.Core.Path.{_≡_, sym, ap, _∙_}

@@ -1,4 +1,4 @@
--- `sheet::page::slot_left` meets its contract, case by case. Assumes nothing.
+-- `page::slot_left` meets its contract, case by case. Assumes nothing.
 use borrow.Author.Needs.{needs}
 use mathlib.Core.Path.{sym, _∙_}
 use Rattle.page.specs.between.Changes.{slotted-left, left-count}

@@ -1,5 +1,5 @@
--- `sheet::page::slot_rest` meets its contract. The loop's invariant: the part holds what is left of the relations
--- from index k on. Assumes nothing.
+-- `page::slot_rest` meets its contract. The loop's invariant: the part holds what is left of the relations from index k
+-- on. Assumes nothing.
 use borrow.Author.Needs.{needs}
 use native.Mathlib.Omega.{arith}
 use Prim.Native.Nat.{ℕ, _≤_}

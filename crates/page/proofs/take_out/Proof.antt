@@ -1,5 +1,5 @@
--- `sheet::page::take_out` meets its contract: the part from the record's place to the last record's end is lent, and
--- the count follows. Assumes nothing.
+-- `page::take_out` meets its contract: the part from the record's place to the last record's end is lent, and the count
+-- follows. Assumes nothing.
 use native.Mathlib.Omega.{arith}
 use borrow.Author.Needs.{needs}
 use denote.Ref.{now}

@@ -1,5 +1,5 @@
--- `sheet::page::visit_count` meets its contract: a page's table has as many visits as the page counts, and at most 24.
--- Assumes nothing.
+-- `page::visit_count` meets its contract: a page's table has as many visits as the page counts, and at most 24. Assumes
+-- nothing.
 use native.Mathlib.Omega.{arith}
 use borrow.Author.Needs.{needs}
 use denote.Ref.{now}

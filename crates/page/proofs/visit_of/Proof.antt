@@ -1,5 +1,4 @@
--- `sheet::page::visit_of` meets its contract: the record where the train was found is read as its visit. Assumes
--- nothing.
+-- `page::visit_of` meets its contract: the record where the train was found is read as its visit. Assumes nothing.
 use native.Mathlib.Omega.{arith}
 use borrow.Author.Needs.{needs}
 use mathlib.Core.Path.{sym, ap, _∙_}

@@ -1,5 +1,4 @@
--- `railway::network::LineRow::runs` meets its contract: each return rewrites with the tests that led there. Assumes
--- nothing.
+-- `network::LineRow::runs` meets its contract: each return rewrites with the tests that led there. Assumes nothing.
 use borrow.Author.Needs.{needs}
 use Rattle.network.specs.Networks.{row-runs}
 use Rattle.network.proofs.LineRow.runs.Statement.{statement}

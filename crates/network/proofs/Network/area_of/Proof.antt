@@ -1,4 +1,4 @@
--- `railway::network::Network::area_of` meets its contract: the row that was found says it. Assumes nothing.
+-- `network::Network::area_of` meets its contract: the row that was found says it. Assumes nothing.
 use borrow.Author.Needs.{needs}
 use mathlib.Core.Path.{sym, _∙_}
 use Rattle.network.specs.Networks.{station-row}

@@ -1,5 +1,5 @@
--- `railway::network::Network::ends_listed` meets its contract: each return rewrites with the tests that led there.
--- Assumes nothing.
+-- `network::Network::ends_listed` meets its contract: each return rewrites with the tests that led there. Assumes
+-- nothing.
 use borrow.Author.Needs.{needs}
 use Rattle.network.specs.Networks.{ends-listed}
 use Rattle.network.proofs.Network.ends_listed.Statement.{statement}

@@ -1,4 +1,4 @@
--- `railway::network::Network::group_of` meets its contract: the area that was found has the number. Assumes nothing.
+-- `network::Network::group_of` meets its contract: the area that was found has the number. Assumes nothing.
 use borrow.Author.Needs.{needs}
 use mathlib.Core.Path.{sym, _∙_}
 use Rattle.network.specs.Networks.{area-of, station-row}

@@ -1,5 +1,5 @@
--- `railway::network::Network::lines_joined` meets its contract. The loop's invariant: every line's ends are listed if
--- those from i on are. Assumes nothing.
+-- `network::Network::lines_joined` meets its contract. The loop's invariant: every line's ends are listed if those from
+-- i on are. Assumes nothing.
 use Prim.Native.Nat.{_≤_, _-_}
 use mathlib.Core.Path.{_≡_, refl, sym, _∙_, ap}
 use native.Mathlib.Omega.{arith}

@@ -1,5 +1,5 @@
--- `railway::network::Network::station_row` meets its contract. The loop's invariant: the first row that fits is the
--- first of those from i on. Assumes nothing.
+-- `network::Network::station_row` meets its contract. The loop's invariant: the first row that fits is the first of
+-- those from i on. Assumes nothing.
 use Prim.Native.Nat.{_≤_, _-_}
 use mathlib.Core.Path.{_≡_, refl, sym, _∙_, ap}
 use native.Mathlib.Omega.{arith}

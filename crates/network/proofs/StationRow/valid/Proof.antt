@@ -1,5 +1,4 @@
--- `railway::network::StationRow::valid` meets its contract: each return rewrites with the tests that led there. Assumes
--- nothing.
+-- `network::StationRow::valid` meets its contract: each return rewrites with the tests that led there. Assumes nothing.
 use borrow.Author.Needs.{needs}
 use Rattle.network.specs.Networks.{station-row-ok}
 use Rattle.network.proofs.StationRow.valid.Statement.{statement}
