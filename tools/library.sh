@@ -13,6 +13,7 @@
 #   tools/library.sh all        the archive, and then all of these
 set -euo pipefail
 cd "$(dirname "${BASH_SOURCE[0]}")/.."
+. tools/scratch.sh
 top=$PWD
 archive=target/staticlib/libstrakewhip.a
 export STRAKEWHIP_LIB=$top/target/staticlib

@@ -10,6 +10,7 @@ if [ $# -ne 2 ]; then
 fi
 tools=$(cd "$(dirname "${BASH_SOURCE[0]}")" && pwd)
 built="$tools/../target/bin/$1"
+. "$tools/scratch.sh"
 
 # Proves the program and the crates that it rests on, and says which of how many is done.
 prove() {
