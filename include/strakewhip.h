@@ -1,10 +1,12 @@
 /* libstrakewhip: the calls of documents 01 and 02, over numbers and lent bytes.
  *
- * A network, an edit, a list of edits and a timetable are the bytes of their files (document 01, "Files"). A network's
- * file ends with its closures (document 02, W1): their count (0..32), then line (1..32), start (0..2879) and end
- * (1..2880) of each, rising by line and start; a line is closed from its start up to but not including its end. A sheet
- * is 8,192 bytes and a division 49,152, six sheets by area: the sheet of area a begins at byte 8192 * (a - 1). Bytes
- * that are all zero are an empty sheet or division.
+ * A network, an edit, a list of edits and a timetable are the bytes of their files (document 01, "Files"). In a
+ * network's file each line has two least running times (document 02, W3), that of passenger trains and then that of
+ * freight trains, which are those numbered 5000 and up; before them stand number, first station, second station and
+ * kind, behind them the capacity. The file ends with its closures (W1): their count (0..32), then line (1..32), start
+ * (0..2879) and end (1..2880) of each, rising by line and start; a line is closed from its start up to but not
+ * including its end. A sheet is 8,192 bytes and a division 49,152, six sheets by area: the sheet of area a begins at
+ * byte 8192 * (a - 1). Bytes that are all zero are an empty sheet or division.
  *
  * A lent slice is a pointer and its length in ELEMENTS, not in bytes. The pointer is never NULL, also where the length
  * is 0, and it is aligned for its type. A slice that is written overlaps no other slice of the same call; slices that
@@ -44,11 +46,12 @@ extern "C" {
 
 #define STRAKEWHIP_SHEET 8192
 #define STRAKEWHIP_DIVISION 49152
-/* Room for any list of findings, any projection, any answers of a list, any timetable file. */
+/* Room for any list of findings, any projection, any answers of a list, any timetable's file, any network's file. */
 #define STRAKEWHIP_MOST_FINDINGS 369024
 #define STRAKEWHIP_MOST_ROWS 64
 #define STRAKEWHIP_MOST_ANSWERS 2000
 #define STRAKEWHIP_MOST_TIMETABLE 7395
+#define STRAKEWHIP_MOST_NETWORK 500
 
 typedef struct {
     uint8_t refusal; /* the number of one of the refusals above, or 0 */
@@ -61,6 +64,12 @@ typedef struct {
 
 /* A network's file. Refuses: the network's file. `length`: the bytes read, that is all. */
 strakewhip_reply strakewhip_network(const uint8_t *network, size_t network_length);
+
+/* A network's file of an earlier form, turned into the newest, its closures kept. Form 1 is W1's, with one least
+ * running time a line, which becomes both. Refuses: 3 (a form that there is not); the old file, as the network's file,
+ * with `file` 1 and the place in the old file; 13. `length`: bytes. */
+strakewhip_reply strakewhip_turn(uint8_t form, const uint8_t *file, size_t file_length, uint8_t *out,
+                                 size_t out_length);
 
 /* Which areas an edit names, so that their sheets can be locked before it runs: area a is the bit 1 << (a - 1) of
  * `length`. The edit is the bytes that it has in a file, kind and fields, and nothing behind them.

@@ -24,7 +24,7 @@ import tempfile
 import time
 
 from damage import damage, sweep
-from drafts import END, LINE, MANY, TIME, Draft, closures_at, encode, parse
+from drafts import END, LINE, MANY, TIME, Draft, closures_at, encode, lines_at, parse
 from encode import Damaged, decode
 from orders import areas_named, reordered
 from timetables import make_inspect
@@ -49,14 +49,34 @@ def numbers(text):
 with open(os.path.join(HERE, "..", "tools", "sample.txt")) as sample:
     LISTING = numbers(sample.read())
 LISTING_PRINTS = b"E 1 0 0\nE 2 0 0\nE 3 8 0\nE 4 0 0\nF 1 4 1 0\nF 1 9 7 0\nT 2 1 2\nA 3 1 2 0\n"
-OPEN = "2, 1 1 2, 2 2 2, 3, 1, 1 1 2 3 10 1, "  # its closures follow
+OPEN = "2, 1 1 2, 2 2 2, 3, 1, 1 1 2 3 10 10 1, "  # its closures follow
 NETWORK = OPEN + "0, "
 # Train 7 occupies line 1 from 102 up to 114.
 JOURNEY = "2, 1 1 7 1 100 102, 3 2 7 1 114 115 1 1 12"
 JOURNEY_PRINTS = b"E 1 0 0\nE 2 0 0\nT 2 0 0\nA 2 0 2 0\n"
 CLOSED_PRINTS = b"E 1 0 0\nE 2 0 0\nF 1 11 7 1\nT 2 0 1\nA 2 0 2 0\n"
 
-# Name, program, bytes, and what they print or none. The letters are document 01's examples, W1 and W2 document 02's.
+
+def timed(passenger, freight):
+    """The network with these least running times, and no closures."""
+    return f"2, 1 1 2, 2 2 2, 3, 1, 1 1 2 3 {passenger} {freight} 1, 0, "
+
+
+def journey(train, run):
+    return f"2, 1 1 {train} 1 100 102, 3 2 {train} 1 {102 + run} 120 1 1 {run}"
+
+
+def too_fast(train):
+    return b"E 1 0 0\nE 2 0 0\nF 1 5 %d 0\nT 2 0 1\nA 2 0 2 0\n" % train
+
+
+# Trains 4999 and 5000 leave station 1 on line 1, the second when the first is through, both with a run of 12.
+BOTH_SORTS = "2, 1 4999 1 90 0 100 0 0 2 1 12, 1 5000 2 90 0 112 0 0 2 1 12, 0"
+# What is printed where rule 5 finds the one or the other.
+BOTH_PRINT = {train: b"F 1 5 %d 0\nF 1 7 4999 0\nF 1 7 5000 0\nD 1 1 5 %d 0\nP 1 2 1 7 4999 0\nP 1 2 1 7 5000 0\n"
+                     b"T 2 0 3\nJ 1 4999 1 95 100 5\nJ 1 5000 1 95 112 5\nW 1\n" % (train, train) for train in (4999, 5000)}
+
+# Name, program, bytes, and what they print or none. The letters are document 01's examples, W1 to W3 document 02's.
 FIXED = [
     ("the listing", "shift", LISTING, LISTING_PRINTS),
     ("(b)", "shift", b"\x80\0", b"R 2 0\n"),
@@ -106,6 +126,20 @@ FIXED = [
      b"E 1 0 0\nE 2 0 0\nE 3 0 0\nE 4 0 0\nT 2 0 0\nA 4 0 2 0\n"),
     ("W2 the larger train stands", "shift", numbers(NETWORK + "3, 1 1 8 1 100 102, 1 1 7 1 102 104, 7 1 8 100"),
      b"E 1 0 0\nE 2 0 0\nE 3 0 0\nF 1 2 7 8\nT 2 0 1\nA 3 0 2 0\n"),
+    ("W3 4999 above the lesser time", "shift", numbers(timed(10, 13) + journey(4999, 12)), JOURNEY_PRINTS),
+    ("W3 5000 below the greater time", "shift", numbers(timed(10, 13) + journey(5000, 12)), too_fast(5000)),
+    ("W3 4999 below the greater time", "shift", numbers(timed(13, 10) + journey(4999, 12)), too_fast(4999)),
+    ("W3 5000 above the lesser time", "shift", numbers(timed(13, 10) + journey(5000, 12)), JOURNEY_PRINTS),
+    ("W3 4999 at its least", "shift", numbers(timed(10, 13) + journey(4999, 10)), JOURNEY_PRINTS),
+    ("W3 4999 below its least", "shift", numbers(timed(10, 13) + journey(4999, 9)), too_fast(4999)),
+    ("W3 5000 at its least", "shift", numbers(timed(10, 13) + journey(5000, 13)), JOURNEY_PRINTS),
+    ("W3 5000 at its lesser least", "shift", numbers(timed(13, 10) + journey(5000, 10)), JOURNEY_PRINTS),
+    ("W3 freight is slower", "inspect", numbers(timed(10, 13) + BOTH_SORTS), BOTH_PRINT[5000]),
+    ("W3 freight is quicker", "inspect", numbers(timed(13, 10) + BOTH_SORTS), BOTH_PRINT[4999]),
+    ("W3 no passenger time", "shift", numbers(timed(0, 241) + journey(7, 12)), b"R 3 13\n"),
+    ("W3 no freight time", "inspect", numbers(timed(240, 0) + "0, 0"), b"R 3 15\n"),
+    # A line's capacity is where the earlier form has the count of closures.
+    ("W3 the listing in the earlier form", "shift", LISTING[:14] + LISTING[15:], b"R 3 15\n"),
 ]
 
 # The same, and how many bytes come at a time; the last ones are too long for a file by a byte, and as long as may be.
@@ -230,10 +264,13 @@ CLOSURES = (
     + [f"R 3 at the {field} of a closure" for field in ("line", "start", "end")]
     + [f"R 3 by the order of closures, at the {field}" for field in ("line", "start")]
 )
+# The sorts of trains, in the order of a line's two least running times.
+SORTS = ("passenger", "freight")
 # All that a run has to reach. Rules 7 and 8 never occur in `shift`: from an empty timetable every link stays answered.
 TO_REACH = (
     [f"shift R {refusal}" for refusal in range(1, 6)]
     + [f"{program} {refused}" for program in ("shift", "inspect") for refused in CLOSURES]
+    + [f"{program} R 3 at the {sort} time" for program in ("shift", "inspect") for sort in SORTS]
     + ["shift 32 closures", "inspect 32 closures"]
     + [f"shift E {refusal}" for refusal in (0, 7, 8, 9, 10, 11, 12)]
     + [f"shift edit {kind} answer {refusal}" for kind in ANSWERS for refusal in ANSWERS[kind]]
@@ -243,6 +280,7 @@ TO_REACH = (
     + [f"inspect {letter} rule {rule}" for letter in "FD" for rule in range(1, 12)]
     + [f"inspect P rule {rule}" for rule in RULES_ACROSS]
     + ["inspect the smaller train stands", "inspect the larger train stands"]
+    + [f"inspect a {sort} train {how} between the times" for sort in SORTS for how in ("found", "not found")]
     + ["inspect 16 rows", "inspect early", "inspect late", "inspect beyond the last minute", "inspect written again"]
     + ["inspect 384 visits", "inspect 96 relations"]
 )
@@ -281,32 +319,57 @@ def closure_mark(data, refusal, place):
     return "R 3 at the count of closures" if field == "count" else f"R 3 at the {field} of a closure"
 
 
-def standing(data):
-    """The visits of a file of `inspect`, as (station, train), that have arrived and not departed."""
-    numbers = decode(data)
+def time_mark(data, refusal, place):
+    """Which of a line's least times is refused with 3 at a place of a file, or none."""
+    before = numbers_before(data, place)
+    count_at = lines_at(before)
+    if refusal != 3 or count_at is None or len(before) <= count_at:
+        return None
+    rank, field = divmod(len(before) - count_at - 1, 7)
+    return f"R 3 at the {SORTS[field - 4]} time" if rank < before[count_at] and field in (4, 5) else None
+
+
+def visits_in(numbers):
+    """The visits of a file of `inspect`, as (station, train): (arrived, departed, out-link or none)."""
     at = closures_at(numbers)
     at += 3 * numbers[at] + 1
-    found = set()
+    visits = {}
     for _ in range(numbers[at]):
         station, train, _, _, arrived, _, departed, before = numbers[at + 1:at + 9]
-        if arrived and not departed:
-            found.add((station, train))
         at += 9 if before else 8
-        at += 3 if numbers[at + 1] else 1
-    return found
+        link = numbers[at + 1:at + 4] if numbers[at + 1] else None
+        visits[station, train] = arrived, departed, link
+        at += 3 if link else 1
+    return visits
+
+
+def between_times(numbers, visits, fast):
+    """What rule 5 says of runs that only one of their line's two least times finds; `fast` is all that it finds."""
+    lines = range(lines_at(numbers) + 1, closures_at(numbers), 7)
+    times = {numbers[at]: numbers[at + 4:at + 6] for at in lines}
+    marks = set()
+    for key, (_, _, link) in visits.items():
+        if link and min(times[link[1]]) <= link[2] < max(times[link[1]]):
+            judge = max if key in fast else min  # a train that is found goes by the greater time
+            sort = SORTS[times[link[1]].index(judge(times[link[1]]))]
+            marks.add(f"a {sort} train {'found' if key in fast else 'not found'} between the times")
+    return marks
 
 
 def reached(program, data, output, edits):
     """What a file reached, by the reference's output; each counts once in a file."""
     marks = set()
     rows = collections.Counter()
-    stand = None
+    visits, fast = {}, set()
+    if program == "inspect" and not output.startswith(b"R"):
+        visits = visits_in(decode(data))
     for line in output.decode().splitlines():
         letter, *rest = line.split()
         rest = list(map(int, rest))
         if letter == "R":
             marks.add(f"R {rest[0]}")
             marks.add(closure_mark(data, *rest))
+            marks.add(time_mark(data, *rest))
         elif letter == "E":
             marks.add(f"E {rest[1]}")
             if edits is not None:
@@ -320,10 +383,11 @@ def reached(program, data, output, edits):
         elif letter in "FDP":
             marks.add(f"{letter} rule {rest[-3]}")
             if letter == "F" and rest[1] == 2 and program == "inspect":
-                stand = stand if stand is not None else standing(data)
                 for train, which in zip(rest[2:], ("smaller", "larger")):
-                    if (rest[0], train) in stand:
+                    if visits[rest[0], train][:2] == (1, 0):
                         marks.add(f"the {which} train stands")
+            if letter == "F" and rest[1] == 5:
+                fast.add((rest[0], rest[2]))
         elif letter == "T":
             numbers = decode(data)
             if numbers[closures_at(numbers)] == 32:
@@ -342,6 +406,8 @@ def reached(program, data, output, edits):
             marks.add("written again")
     if 16 in rows.values():
         marks.add("16 rows")
+    if visits:
+        marks |= between_times(decode(data), visits, fast)
     return {f"{program} {mark}" for mark in marks if mark}
 
 

@@ -10,8 +10,8 @@ from traffic import Shift, Visit
 def damage(r, good, index):
     """A damaged file from a good one: its bytes and the output that it must give, or none where that is left open."""
     ways = [truncated, surplus, longer_spelling, third_byte, out_of_range, out_of_order, trains_out_of_order, bad_ends,
-            changed_bytes, two_faults, oversize, ends_and_more, bad_closure, bad_window, window_and_more, unlisted_closure,
-            closure_and_more]
+            bad_time, changed_bytes, two_faults, oversize, ends_and_more, bad_closure, bad_window, window_and_more,
+            unlisted_closure, closure_and_more]
     if isinstance(good, Inspect):
         ways += [unknown, out_of_order, unknown, over_limit, limit_and_unknown, relation_at_unlisted]
     data, expected = ways[index % len(ways)](r, good)
@@ -151,6 +151,20 @@ def ends_and_more(r, good):
         return data + b"\0", must(1, len(data))
     end = r.randrange(bad[1], len(data))
     return data[:end], must(1, end)
+
+
+def bad_time(r, good):
+    """A least running time of a line out of range, that of passenger or freight trains; of both the first decides."""
+    draft = good.draft
+    if not draft.lines:
+        return out_of_range(r, good)
+    index = passenger = r.choice(draft.lines) + 4
+    what = r.randrange(3)
+    if what == 1:
+        index = passenger + 1
+    elif what == 2:
+        draft = changed(draft, {passenger + 1: r.choice([0, 241])})
+    return fault_in(r, draft, index, r.choice([0, 241, 241, r.randint(241, 2097151)]))
 
 
 def closed(good, closures):
@@ -417,19 +431,21 @@ def relation_at_unlisted(r, good):
 def rich_files():
     """A small file of each program that has every sort of number."""
     network = Network(
-        {2: (1, 2), 3: (6, 8), 16: (1, 1)}, 3, {1: (2, 3, 3, 10, 1), 5: (16, 2, 1, 130, 9), 32: (3, 16, 2, 4, 2)},
+        {2: (1, 2), 3: (6, 8), 16: (1, 1)}, 3,
+        {1: (2, 3, 3, 10, 12, 1), 5: (16, 2, 1, 130, 7, 9), 32: (3, 16, 2, 4, 240, 2)},
         [(1, 0, 100), (1, 100, 131), (1, 130, 2880), (5, 5, 6), (32, 2879, 2880)])
     four, three, two = (1, 5, (7, 8, 130, 9999)), (2, 150, (7, 8, 9)), (3, 0, (300, 7))
     edits = [
         (1, 2, 7, 1, 100, 130), (3, 3, 7, 8, 142, 150, 2, 1, 12), (2, 16, 7, 1, 0, 5, 2, 5, 131), (6, 3, 7, 2, 142, 2879),
         (7, 2, 7, 99), (8, 2, 7, 131), (9, 2, four), (9, 3, three), (9, 3, two), (10, 3, three), (5, 3, 7, 2), (4, 16, 7, 2),
-        (11, 7),
+        (1, 16, 5000, 1, 20, 25), (3, 2, 5000, 2, 32, 40, 16, 5, 7), (11, 7),
     ]
     visits = {
         (2, 7): Visit(1, 100, 130, (16, 5), (3, 1, 12), 1, 0),
         (2, 300): Visit(2, 90, 2879, None, (3, 1, 240), 0, 0),
         (3, 7): Visit(8, 142, 142, (2, 1), None, 1, 1),
         (16, 7): Visit(1, 0, 5, None, (2, 5, 131)),
+        (16, 5000): Visit(1, 20, 25, None, (2, 5, 7)),
     }
     relations = {2: [four, three, (2, 150, (7, 8, 10))], 3: [two, (3, 0, (300, 8))], 16: [three]}
     return {"shift": Shift(network, edits), "inspect": Inspect(network, visits, relations)}
@@ -450,6 +466,10 @@ def sweep():
             for other in sorted({low - 1, low, high, high + 1} - {-1, value}):
                 data = changed(draft, {index: other}).bytes()
                 yield program, f"number {index} as {other}", data, None if low <= other <= high else must(3, place)
+        for line in draft.lines:
+            for fault in (0, 241):
+                both = changed(draft, {line + 4: fault, line + 5: fault}).bytes()
+                yield program, f"both times at number {line + 4} as {fault}", both, must(3, draft.place(line + 4))
     yield from closure_sweep()
 
 

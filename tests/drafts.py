@@ -92,14 +92,15 @@ class Draft:
         self.put(network.headway, (1, 30))
         self.put(len(network.lines), MANY)
         entries = []
-        for number, (first, second, kind, least, capacity) in sorted(network.lines.items()):
+        for number, (first, second, kind, passenger, freight, capacity) in sorted(network.lines.items()):
             index = self.put(number, LINE)
             self.lines.append(index)
             entries.append([index])
             self.put(first, STATION)
             self.put(second, STATION)
             self.put(kind, (1, 3))
-            self.put(least, RUN)
+            self.put(passenger, RUN)
+            self.put(freight, RUN)
             self.put(capacity, (1, 9))
         self.groups.append(entries)
         self.put(len(network.closures), MANY)
@@ -158,10 +159,10 @@ class Network:
     def __init__(self, stations, headway, lines, closures=()):
         self.stations = stations  # number: (area, tracks)
         self.headway = headway
-        self.lines = lines  # number: (first, second, kind, least, capacity)
+        self.lines = lines  # number: (first, second, kind, passenger, freight, capacity)
         self.closures = closures  # (line, start, end), in the order of the file
         self.ways = []  # (line, from, to)
-        for line, (first, second, kind, _, _) in sorted(lines.items()):
+        for line, (first, second, kind, *_) in sorted(lines.items()):
             if kind in (1, 3):
                 self.ways.append((line, first, second))
             if kind in (2, 3):
@@ -188,7 +189,9 @@ def make_network(r, stations=None, areas=None, lines=None, tracks=None):
         # First a path through the stations, so that journeys are long; then any two.
         first, second = path[rank:rank + 2] if rank + 1 < count and r.random() < 0.9 else r.sample(numbers, 2)
         least = r.choice([r.randint(1, 6), r.randint(5, 15), r.randint(1, 240) if r.random() < 0.2 else 10])
-        joined[line] = (first, second, r.choice([1, 2, 3, 3, 3]), least, r.choice([1, 1, 1, 2, 2, 3, 9]))
+        # Freight is slower, quicker or the same.
+        freight = r.choice([least, min(240, least + r.randint(1, 6)), max(1, least - r.randint(1, 6))])
+        joined[line] = (first, second, r.choice([1, 2, 3, 3, 3]), least, freight, r.choice([1, 1, 1, 2, 2, 3, 9]))
     return Network(facts, r.choice([1, 2, 3, 3, 5, 10, 30]), joined)
 
 
@@ -224,7 +227,12 @@ def window(r, first, behind):
     return r.choice(windows + [(0, length)] * 3 if behind > LAST_MINUTE + 1 else windows)
 
 
+def lines_at(numbers):
+    """Where the lines' count stands among the numbers of a file; none where they end before that can be told."""
+    return 2 + 3 * numbers[0] if numbers else None
+
+
 def closures_at(numbers):
-    """Where the closures' count stands among the numbers of a file; none where they end before that can be told."""
-    lines = 2 + 3 * numbers[0] if numbers else 0
-    return lines + 1 + 6 * numbers[lines] if lines < len(numbers) and numbers else None
+    """The same of the closures' count."""
+    lines = lines_at(numbers)
+    return lines + 1 + 7 * numbers[lines] if lines is not None and lines < len(numbers) else None

@@ -4,6 +4,8 @@
 Usage: tests/mutants.py [WORD ...]    only the mistakes whose name has one of the words
 
 The copy is built in a temporary folder. A mistake is found if compare.py reports a difference to the second implementation.
+No program turns an old network file: of a mistake there (TURNED) the library's comparison has to report a difference,
+for which target/staticlib/libstrakewhip.a has to be built.
 """
 
 import os
@@ -13,7 +15,9 @@ import sys
 import tempfile
 
 HERE = os.path.dirname(os.path.abspath(__file__))
-REFERENCE = os.path.join(HERE, "..", "reference")
+TOP = os.path.join(HERE, "..")
+REFERENCE = os.path.join(TOP, "reference")
+ARCHIVES = os.path.abspath(os.path.join(TOP, "target", "staticlib"))
 
 # Name, file, what stands there, what stands there instead.
 MUTANTS = [
@@ -206,6 +210,30 @@ MUTANTS = [
     ("dependency exchanged", "findings.rs", "departer.departure.time - arriver.arrival.time", "arriver.departure.time - departer.arrival.time"),
     ("rank from 0", "findings.rs", "before as u32 + 1", "before as u32"),
     ("rule 5 equal", "findings.rs", "link.run < network", "link.run <= network"),
+    ("freight from 5001", "network.rs", "train.0 >= 5000", "train.0 > 5000"),
+    ("freight from 4999", "network.rs", "train.0 >= 5000", "train.0 >= 4999"),
+    ("freight below 5000", "network.rs", "train.0 >= 5000", "train.0 < 5000"),
+    ("passenger time for all", "network.rs", "train.0 >= 5000", "train.0 >= 10_000"),
+    ("freight time for all", "network.rs", "train.0 >= 5000", "train.0 >= 1"),
+    ("the lesser time for freight", "network.rs", "            self.freight_least\n",
+     "            self.freight_least.min(self.passenger_least)\n"),
+    ("the greater time for freight", "network.rs", "            self.freight_least\n",
+     "            self.freight_least.max(self.passenger_least)\n"),
+    ("the lesser time for passengers", "network.rs", "            self.passenger_least\n",
+     "            self.passenger_least.min(self.freight_least)\n"),
+    ("freight before passenger in the file", "network.rs", "direction, passenger_least, freight_least, capacity };",
+     "direction, passenger_least: freight_least, freight_least: passenger_least, capacity };"),
+    ("one time a line", "network.rs", "read_form(reader, Form::Newest)", "read_form(reader, Form::OneTime)"),
+    ("passenger time 241", "network.rs", "passenger_least = Minute::from(reader.within(1..=240)?",
+     "passenger_least = Minute::from(reader.within(1..=241)?"),
+    ("passenger time 0", "network.rs", "passenger_least = Minute::from(reader.within(1..=240)?",
+     "passenger_least = Minute::from(reader.within(0..=240)?"),
+    ("freight time 241", "network.rs", "Newest => Minute::from(reader.within(1..=240)?",
+     "Newest => Minute::from(reader.within(1..=241)?"),
+    ("freight time 0", "network.rs", "Newest => Minute::from(reader.within(1..=240)?",
+     "Newest => Minute::from(reader.within(0..=240)?"),
+    ("freight never quicker", "network.rs", "Newest => Minute::from(reader.within(1..=240)?",
+     "Newest => Minute::from(reader.within(passenger_least as u32..=240)?"),
     ("rule 6 equal departure", "findings.rs", "u.departure.time < t.departure.time", "u.departure.time <= t.departure.time"),
     ("rule 6 equal end", "findings.rs", "u.departure.time + u_link.run > t.departure.time", "u.departure.time + u_link.run >= t.departure.time"),
     ("rule 6 above capacity", "findings.rs", "ahead.len() >= network", "ahead.len() > network"),
@@ -238,7 +266,7 @@ MUTANTS = [
     ("rule 11 arrival pending", "findings.rs", "visit.departure.pending() && network.closed",
      "visit.arrival.pending() && network.closed"),
     ("rule 11 least run", "findings.rs", "network.closed(link.line, visit.departure.time, visit.departure.time + link.run)",
-     "network.closed(link.line, visit.departure.time, visit.departure.time + network.lines[&link.line].least_run)"),
+     "network.closed(link.line, visit.departure.time, visit.departure.time + network.lines[&link.line].passenger_least)"),
     ("rule 11 past the last minute", "findings.rs",
      "visit.departure.pending() && network.closed(link.line, visit.departure.time, visit.departure.time + link.run)",
      "visit.departure.pending() && [0, 2880].iter().any(|day| "
@@ -276,7 +304,52 @@ MUTANTS = [
     ("REORDERED relations elsewhere", "machine.rs", "(relations.contains(relation), THERE),",
      "(network.stations.keys().any(|s| timetable.relations_at(*s).contains(relation)), THERE),"),
     ("REORDERED answers by rank", "programs.rs", "answer.removed.into()]", "i64::from(answer.removed) + i64::from(before == 2)]"),
+    # Wrong only in turning an old network file.
+    ("TURNED without closures", "network.rs",
+     "numbers.push(self.closures.len() as u32);\n        for closure in &self.closures {",
+     "numbers.push(0);\n        for closure in self.closures.iter().take(0) {"),
+    ("TURNED without ends", "network.rs", "closure.start as u32, closure.end as u32]", "closure.start as u32]"),
+    ("TURNED with a freight time of its own", "network.rs", "Form::OneTime => passenger_least,", "Form::OneTime => 1,"),
+    ("TURNED with slower freight", "network.rs", "Form::OneTime => passenger_least,",
+     "Form::OneTime => (passenger_least + 1).min(240),"),
+    ("TURNED into one time", "network.rs", "[facts.passenger_least as u32, facts.freight_least as u32, facts.capacity as u32]",
+     "[facts.passenger_least as u32, facts.capacity as u32]"),
+    ("TURNED from two times", "network.rs", "Form::OneTime => passenger_least,",
+     "Form::OneTime => Minute::from(reader.within(1..=240)?.value),"),
+    ("TURNED from a file without closures", "network.rs", "let closure_count = reader.within(0..=32)?.value;",
+     "let closure_count = if form == Form::OneTime && reader.end().is_ok() { 0 } else { reader.within(0..=32)?.value };"),
+    ("TURNED without a test of the whole", "network.rs", "Ok(read(file, form)?.write())",
+     "Ok(NetworkPart::read_form(&mut Reader::new(file), form)?.network.write())"),
+    ("TURNED refused in the new file", "network.rs", "Ok(read(file, form)?.write())",
+     "Ok(read(file, form).map_err(|old| FileRefusal { place: old.place + 1, ..old })?.write())"),
 ]
+
+
+def by_programs(name, folder, built):
+    """The first difference that compare.py reports of the programs with the mistake, or none."""
+    programs = {program: os.path.join(built, "debug", program) for program in ("shift", "inspect")}
+    command = [sys.executable, os.path.join(HERE, "compare.py"), "--stop", "--shift", programs["shift"],
+               "--inspect", programs["inspect"]]
+    if name.startswith("REORDERED"):
+        command += ["--reference-shift", programs["shift"], "--reference-inspect", programs["inspect"], "--files", "0"]
+    run = subprocess.run(command, stdout=subprocess.PIPE, stderr=subprocess.STDOUT, text=True,
+                         env={**os.environ, "TMPDIR": folder})
+    return run.stdout.split("\n")[1].strip() if run.returncode == 1 and "DIFFERENCE" in run.stdout else None
+
+
+def by_library(folder, built):
+    """The first difference that tests/library reports, built in the folder beside the copy with the mistake, or none."""
+    if not os.path.exists(os.path.join(ARCHIVES, "libstrakewhip.a")):
+        print("target/staticlib/libstrakewhip.a is not built")
+        return None
+    for part in (("tests", "library"), ("bindings", "rust")):
+        shutil.copytree(os.path.join(TOP, *part), os.path.join(folder, *part), ignore=shutil.ignore_patterns("target"),
+                        dirs_exist_ok=True)
+    command = ["cargo", "run", "--quiet", "--offline", "--target-dir", built, "--", "10"]
+    run = subprocess.run(command, cwd=os.path.join(folder, "tests", "library"), stdout=subprocess.PIPE,
+                         stderr=subprocess.STDOUT, text=True, env={**os.environ, "STRAKEWHIP_LIB": ARCHIVES})
+    told = [line for line in run.stdout.split("\n") if line.startswith("library: turn differs")]
+    return told[0] if run.returncode == 1 and told else None
 
 
 def main():
@@ -308,17 +381,9 @@ def main():
                 print(f"{name}: does not build\n{build.stdout}")
                 missed.append(name)
                 continue
-            programs = {program: os.path.join(built, "debug", program) for program in ("shift", "inspect")}
-            command = [sys.executable, os.path.join(HERE, "compare.py"), "--stop", "--shift", programs["shift"],
-                       "--inspect", programs["inspect"]]
-            if name.startswith("REORDERED"):
-                command += ["--reference-shift", programs["shift"], "--reference-inspect", programs["inspect"], "--files", "0"]
-            run = subprocess.run(command, stdout=subprocess.PIPE, stderr=subprocess.STDOUT, text=True,
-                                 env={**os.environ, "TMPDIR": folder})
-            found = run.returncode == 1 and "DIFFERENCE" in run.stdout
-            first = run.stdout.split("\n")[1].strip() if found else "NOT FOUND"
-            print(f"{name}: {first}", flush=True)
-            if not found:
+            first = by_library(folder, built) if name.startswith("TURNED") else by_programs(name, folder, built)
+            print(f"{name}: {first or 'NOT FOUND'}", flush=True)
+            if not first:
                 missed.append(name)
     print(f"{len(chosen)} mistakes, {len(missed)} not found" + "".join(f"\n  {name}" for name in missed))
     return 1 if missed else 0

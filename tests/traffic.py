@@ -49,7 +49,9 @@ class Picture:
         return clamp(arrival + self.r.choice([0, 0, 1, 2, 2, 4, 10, -1 if self.r.random() < 0.3 else 1]), TIME)
 
     def run(self, line):
-        return clamp(self.network.lines[line][3] + self.r.choice([0, 0, 0, 1, 2, 5, -1]), RUN)
+        """A running time about one of the line's two least ones, whatever the train."""
+        least = self.r.choice(self.network.lines[line][3:5])
+        return clamp(least + self.r.choice([0, 0, 0, 1, 2, 5, -1]), RUN)
 
     def relation(self, station):
         r = self.r
@@ -298,7 +300,9 @@ class Picture:
 def make_trains(r, count):
     pool = set()
     while len(pool) < count:
-        pool.add(r.choice([r.randint(1, 9), r.randint(1, 60), r.randint(1, 9999), 127, 128, 9999]))
+        # Freight begins at 5000.
+        few, more, border, any_train = (r.randint(*bounds) for bounds in ((1, 9), (1, 60), (4995, 5004), TRAIN))
+        pool.add(r.choice([few, more, border, any_train, 127, 128, 9999]))
     return sorted(pool)
 
 
@@ -364,7 +368,7 @@ def journey_of_all(r):
     """A train through all 16 stations that is then deleted: 16 visits removed."""
     network = make_network(r, stations=16, lines=0)
     path = r.sample(list(network.stations), 16)
-    lines = {rank: (path[rank - 1], path[rank], 3, 5, 1) for rank in range(1, 16)}
+    lines = {rank: (path[rank - 1], path[rank], 3, 5, 6, 1) for rank in range(1, 16)}
     network = Network(network.stations, network.headway, lines)
     train = r.randint(1, 9999)
     edits = [(1, path[0], train, 1, 0, 1)]
@@ -381,7 +385,7 @@ def full_station(r):
     tracks = r.randint(1, 7)
     network = Network(
         {station: (r.randint(1, 6), tracks) for station in sorted(stations)}, 3,
-        {1: (full, near, 3, 5, 1), 2: (near, third, 3, 5, 1)})
+        {1: (full, near, 3, 5, 6, 1), 2: (near, third, 3, 5, 6, 1)})
     trains = make_trains(r, 32)
     r.shuffle(trains)
     inside, outside = trains[:24], trains[24:]

@@ -33,11 +33,25 @@ class Station(NamedTuple):
 
 
 class Line(NamedTuple):
+    """With the least running times of passenger and of freight trains."""
     first: int
     second: int
     kind: int
-    least: int
+    passenger: int
+    freight: int
     capacity: int
+
+    @property
+    def least(self):
+        """The least running time of any train."""
+        return min(self.passenger, self.freight)
+
+    def least_of(self, train):
+        return self.freight if sort(train) == "freight" else self.passenger
+
+
+def sort(train):
+    return "freight" if train >= 5000 else "passenger"
 
 
 class Closure(NamedTuple):
@@ -159,7 +173,7 @@ def read_rows(numbers, kind, fields):
 def read_day(numbers):
     """The network and the timetable of a file that `inspect` did not refuse."""
     numbers = iter(numbers)
-    stations, headway, lines = read_rows(numbers, Station, 2), take(numbers), read_rows(numbers, Line, 5)
+    stations, headway, lines = read_rows(numbers, Station, 2), take(numbers), read_rows(numbers, Line, 6)
     closures = [Closure(*row(numbers, 3)) for _ in range(take(numbers))]
     visits = dict(read_visit(numbers) for _ in range(take(numbers)))
     relations = {}
@@ -373,7 +387,8 @@ def rule_4(relation):
 
 def rule_5(day, _station, train, visit, _other):
     line = visit.after.line
-    return f"train {train} runs {visit.run} min on line {line}, below the line's least of {day.lines[line].least} min"
+    least = f"{day.lines[line].least_of(train)} min for {sort(train)} trains"
+    return f"train {train} runs {visit.run} min on line {line}, below the line's least of {least}"
 
 
 def rule_6(day, _station, train, visit, _other):
@@ -438,13 +453,14 @@ def run_words(day, run):
     line = day.lines[visit.after.line]
     far = f"arrives {moment_words(run.arrival)}" if run.answered else "no visit there answers the link"
     return (f"Train {run.train} from station {run.start} to {run.end} by line {visit.after.line}: departs "
-            f"{moment_words(run.departure)}, {far}; running time {visit.run} min, least {line.least} min")
+            f"{moment_words(run.departure)}, {far}; running time {visit.run} min, least {line.least_of(run.train)} min")
 
 
 def line_words(number, line):
     start, end = (line.second, line.first) if line.kind == 2 else (line.first, line.second)
     way = f"{start} to {end}{', either way' if line.kind == 3 else ''}"
-    return f"Line {number}, station {way}: least running time {line.least} min, capacity {line.capacity}"
+    least = f"least running time of passenger trains {line.passenger} min, of freight trains {line.freight} min"
+    return f"Line {number}, station {way}: {least}, capacity {line.capacity}"
 
 
 def closure_words(day, closure):

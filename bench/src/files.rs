@@ -112,7 +112,7 @@ impl Size {
         }
         numbers.extend([3, n]);
         for l in 1..=n {
-            numbers.extend([l, l, l % n + 1, 3, 5, 9]);
+            numbers.extend([l, l, l % n + 1, 3, 5, 5, 9]);
         }
         numbers.push(0);
         numbers
@@ -154,7 +154,7 @@ impl Size {
     pub fn railway(&self) -> Railway {
         let (network, edits) = if self.trains == 0 {
             (
-                bytes(&[2, 1, 1, 2, 2, 2, 1, 3, 1, 1, 1, 2, 3, 10, 1, 0]),
+                bytes(&[2, 1, 1, 2, 2, 2, 1, 3, 1, 1, 1, 2, 3, 10, 10, 1, 0]),
                 bytes(&[4, 1, 1, 7, 1, 100, 102, 3, 2, 7, 1, 115, 115, 1, 1, 12, 1, 1, 7, 1, 100, 102, 9, 1, 1, 5, 2, 7, 9]),
             )
         } else {

@@ -3,7 +3,7 @@
 import strakewhip as library
 
 # Station 1 in area 1 and station 2 in area 2, and one line between them that is never closed.
-NETWORK = bytes([2, 1, 1, 2, 2, 2, 1, 3, 1, 1, 1, 2, 3, 10, 1, 0])
+NETWORK = bytes([2, 1, 1, 2, 2, 2, 1, 3, 1, 1, 1, 2, 3, 10, 10, 1, 0])
 
 
 def edited(who, edit, division):

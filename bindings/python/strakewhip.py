@@ -2,11 +2,12 @@
 
 include/strakewhip.h has them in C.
 
-A network, an edit, a list of edits and a timetable are the bytes of their files; a network's ends with the count of its
-closures and the closures. A sheet is a bytearray of SHEET bytes, a division one of DIVISION bytes, six sheets by area;
-all zeros are an empty one. A refusal raises Refused, and leaves every lent buffer as it was; each function names its
-refusals in the order in which they are tested. "The network" among them stands for 1, 2 or 3, then 14, then 4 of the
-network's file, with its place.
+A network, an edit, a list of edits and a timetable are the bytes of their files. In a network's, each line has two
+least running times, that of passenger trains and then that of freight trains, numbered 5000 and up; it ends with the
+count of its closures and the closures. A sheet is a bytearray of SHEET bytes, a division one of DIVISION bytes, six
+sheets by area; all zeros are an empty one. A refusal raises Refused, and leaves every lent buffer as it was; each
+function names its refusals in the order in which they are tested. "The network" among them stands for 1, 2 or 3, then
+14, then 4 of the network's file, with its place.
 
 The shared object is that of STRAKEWHIP_SO, or else where tools/library.sh puts it.
 """
@@ -16,11 +17,14 @@ import os
 
 SHEET = 8192
 DIVISION = 6 * SHEET
-# Room for any list of findings, any projection, any answers of a list, any timetable's file.
+# Room for any list of findings, any projection, any answers of a list, any timetable's file, any network's file.
 MOST_FINDINGS = 369024
 MOST_ROWS = 64
 MOST_ANSWERS = 2000
 MOST_TIMETABLE = 7395
+MOST_NETWORK = 500
+# The earlier form of a network's file: one least running time a line, and closures (document 02, W1).
+ONE_TIME = 1
 
 REFUSALS = {
     1: "the file ends early or goes on",
@@ -68,6 +72,7 @@ _COUNTS = (ctypes.POINTER(_U32 * 4),)
 # Each call with its parameters, in the order of the header.
 CALLS = {
     "strakewhip_network": _IN,
+    "strakewhip_turn": (_U8,) + _IN + _IN,
     "strakewhip_names": _IN + _IN,
     "strakewhip_edit": _IN + _IN + _IN,
     "strakewhip_edit_sheet": _IN + _IN + _IN,
@@ -121,6 +126,12 @@ def _call(name, *arguments):
 def network(network):
     """How many bytes a network's file has. Refuses: the network."""
     return _call("strakewhip_network", *_lent(network)).length
+
+
+def turn(form, file):
+    """A network's file of an earlier form in the newest. Refuses: 3 of the form; the network, in the old file."""
+    out = bytearray(MOST_NETWORK)
+    return bytes(out[:_call("strakewhip_turn", form, *_lent(file), *_own(out)).length])
 
 
 def names(network, edit):

@@ -79,7 +79,7 @@ fn located(network: &Network, timetable: &Timetable) -> Vec<Located> {
         for (t, visit) in &visits {
             if let Some(link) = visit.out_link {
                 let far = Some(link.next);
-                if rule_5(network, link) {
+                if rule_5(network, *t, link) {
                     found(5, t.0, 0, None);
                 }
                 let others: Vec<Visit> = visits.iter().filter(|(u, _)| u != t).map(|(_, other)| *other).collect();
@@ -175,9 +175,9 @@ fn each_two(visits: &[Visit], holds: impl Fn(&Visit, &Visit) -> bool) -> bool {
     (0..visits.len()).all(|i| (i + 1..visits.len()).all(|j| holds(&visits[i], &visits[j])))
 }
 
-/// "Run below the line's least."
-fn rule_5(network: &Network, link: OutLink) -> bool {
-    link.run < network.lines[&link.line].least_run
+/// "Run below the line's least."; W3: "The least time is then that of a line and a train, and rule 5 follows it."
+fn rule_5(network: &Network, t: Train, link: OutLink) -> bool {
+    link.run < network.lines[&link.line].least_run(t)
 }
 
 /// "t's departure is pending; trains u have out-links on its line, an earlier departure and departure + run later than t's

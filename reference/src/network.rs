@@ -1,7 +1,7 @@
 //! The network and its part of a file.
 
-use crate::number::{FileRefusal, Reader, Rising, ENDS, WINDOW};
-use crate::railway::{Area, Line, Minute, Station, Track, LAST_MINUTE};
+use crate::number::{self, FileRefusal, Reader, Rising, ENDS, WINDOW};
+use crate::railway::{Area, Line, Minute, Station, Track, Train, LAST_MINUTE};
 use std::collections::BTreeMap;
 
 #[derive(Clone, Copy, Debug, PartialEq, Eq)]
@@ -23,8 +23,27 @@ pub struct LineFacts {
     pub first: Station,
     pub second: Station,
     pub direction: Direction,
-    pub least_run: Minute,
+    pub passenger_least: Minute,
+    pub freight_least: Minute,
     pub capacity: usize,
+}
+
+impl LineFacts {
+    /// W3: "Trains numbered 5000 and up are freight"; "The least time is then that of a line and a train".
+    pub fn least_run(&self, train: Train) -> Minute {
+        if train.0 >= 5000 {
+            self.freight_least
+        } else {
+            self.passenger_least
+        }
+    }
+}
+
+/// The forms of a network file: W1's, with one least running time a line, and the newest.
+#[derive(Clone, Copy, Debug, PartialEq, Eq)]
+pub enum Form {
+    OneTime,
+    Newest,
 }
 
 /// W1: "Engineers close a line for a window of minutes, from a first minute up to but not including an end."
@@ -71,6 +90,31 @@ impl Network {
         joins && self.lists(from) && self.lists(to)
     }
 
+    /// The file of the newest form.
+    pub fn write(&self) -> Vec<u8> {
+        let mut numbers = vec![self.stations.len() as u32];
+        for (station, facts) in &self.stations {
+            numbers.extend([station.0, facts.area.0, facts.tracks]);
+        }
+        numbers.extend([self.headway as u32, self.lines.len() as u32]);
+        for (line, facts) in &self.lines {
+            let kind = match facts.direction {
+                Direction::FirstToSecond => 1,
+                Direction::SecondToFirst => 2,
+                Direction::EitherWay => 3,
+            };
+            numbers.extend([line.0, facts.first.0, facts.second.0, kind]);
+            numbers.extend([facts.passenger_least as u32, facts.freight_least as u32, facts.capacity as u32]);
+        }
+        numbers.push(self.closures.len() as u32);
+        for closure in &self.closures {
+            numbers.extend([closure.line.0, closure.start as u32, closure.end as u32]);
+        }
+        let mut file = Vec::new();
+        numbers.into_iter().for_each(|number| number::write(number, &mut file));
+        file
+    }
+
     /// Whether the minutes from one up to but not including another share one with a closure of a line.
     pub fn closed(&self, line: Line, from: Minute, until: Minute) -> bool {
         self.closures.iter().any(|closure| closure.line == line && from < closure.end && closure.start < until)
@@ -91,6 +135,12 @@ impl NetworkPart {
     /// W1: "Up to 32 closures, with their count before them, stand in each file right after its network, rising by line
     /// and start; starts are 0..2879, ends 1..2880."
     pub fn read(reader: &mut Reader) -> Result<NetworkPart, FileRefusal> {
+        NetworkPart::read_form(reader, Form::Newest)
+    }
+
+    /// W3: "Each line gets two, passenger first, in the network file in place of the one."; an old file, "giving both
+    /// times the old number".
+    fn read_form(reader: &mut Reader, form: Form) -> Result<NetworkPart, FileRefusal> {
         let mut stations = BTreeMap::new();
         let station_count = reader.within(1..=16)?.value;
         let mut rising = Rising::default();
@@ -116,9 +166,14 @@ impl NetworkPart {
                 2 => Direction::SecondToFirst,
                 _ => Direction::EitherWay,
             };
-            let least_run = Minute::from(reader.within(1..=240)?.value);
+            let passenger_least = Minute::from(reader.within(1..=240)?.value);
+            let freight_least = match form {
+                Form::OneTime => passenger_least,
+                Form::Newest => Minute::from(reader.within(1..=240)?.value),
+            };
             let capacity = reader.within(1..=9)?.value as usize;
-            lines.insert(Line(number.value), LineFacts { first, second, direction, least_run, capacity });
+            let facts = LineFacts { first, second, direction, passenger_least, freight_least, capacity };
+            lines.insert(Line(number.value), facts);
             line_places.push((Line(number.value), number.place));
         }
         let mut closures = Vec::new();
@@ -173,4 +228,18 @@ impl NetworkPart {
             None => Ok(()),
         }
     }
+}
+
+/// A whole network file of a form.
+pub fn read(file: &[u8], form: Form) -> Result<Network, FileRefusal> {
+    let mut reader = Reader::new(file);
+    let part = NetworkPart::read_form(&mut reader, form)?;
+    reader.end()?;
+    part.test_whole()?;
+    Ok(part.network)
+}
+
+/// W3: "An old network file, its closures kept, is turned into a new one".
+pub fn turn(file: &[u8], form: Form) -> Result<Vec<u8>, FileRefusal> {
+    Ok(read(file, form)?.write())
 }

@@ -132,7 +132,7 @@ fn ends_not_after_their_starts() {
     assert_eq!(shift(&file(&join(&[&empty, &[0, 0]]))), format!("R 1 {}\n", COUNT + 5));
     assert_eq!(inspect(&file(&join(&[&empty, &[0, 97]]))), format!("R 3 {}\n", COUNT + 5));
     // Before 4 of a line, which stands before it, and before 4 of a closure.
-    refused(&join(&[LOOSE, &[1, 1, 5, 5]]), 14, 13);
+    refused(&join(&[LOOSE, &[1, 1, 5, 5]]), 14, LOOSE.len() + 1);
     refused(&closed(&[[1, 0, 1], [2, 5, 6], [2, 6, 6]]), 14, COUNT + 7);
 }
 

@@ -8,6 +8,8 @@ use reference::programs::{inspect, shift};
 
 /// No closures.
 const NONE: &[u32] = &[0];
+/// The byte behind `NETWORK` and `NONE`.
+const BEHIND: usize = NETWORK.len() + 1;
 
 fn edited(edits: &[&[u32]]) -> String {
     shift(&file(&join(&[NETWORK, NONE, &[edits.len() as u32], &edits.concat()])))
@@ -22,11 +24,15 @@ fn findings(output: &str) -> Vec<&str> {
     lines(output, "F")
 }
 
+fn refusal(number: u32, place: usize) -> String {
+    format!("R {number} {place}\n")
+}
+
 #[test]
 fn listing() {
     let numbers = [
-        2, 1, 1, 2, 2, 2, 1, 3, 1, 1, 1, 2, 3, 10, 1, 0, 4, 1, 1, 7, 1, 100, 102, 3, 2, 7, 1, 115, 115, 1, 1, 12, 1, 1, 7, 1,
-        100, 102, 9, 1, 1, 5, 2, 7, 9,
+        2, 1, 1, 2, 2, 2, 1, 3, 1, 1, 1, 2, 3, 10, 10, 1, 0, 4, 1, 1, 7, 1, 100, 102, 3, 2, 7, 1, 115, 115, 1, 1, 12, 1, 1, 7,
+        1, 100, 102, 9, 1, 1, 5, 2, 7, 9,
     ];
     let printed = "E 1 0 0\nE 2 0 0\nE 3 8 0\nE 4 0 0\nF 1 4 1 0\nF 1 9 7 0\nT 2 1 2\nA 3 1 2 0\n";
     assert_eq!(shift(&file(&numbers)), printed);
@@ -168,13 +174,13 @@ fn file_refusals() {
     let good = join(&[NETWORK, NONE, &[0]]);
     assert_eq!(shift(&file(&good)), "T 0 0 0\nA 0 0 0 0\n");
     assert_eq!(shift(&[]), "R 1 0\n");
-    assert_eq!(shift(&file(NETWORK)), "R 1 15\n");
-    assert_eq!(shift(&file(&join(&[NETWORK, NONE]))), "R 1 16\n");
-    assert_eq!(shift(&file(&join(&[&good, &[0]]))), "R 1 17\n");
-    assert_eq!(shift(&file(&join(&[NETWORK, NONE, &[1001]]))), "R 3 16\n");
+    assert_eq!(shift(&file(NETWORK)), refusal(1, NETWORK.len()));
+    assert_eq!(shift(&file(&join(&[NETWORK, NONE]))), refusal(1, BEHIND));
+    assert_eq!(shift(&file(&join(&[&good, &[0]]))), refusal(1, BEHIND + 1));
+    assert_eq!(shift(&file(&join(&[NETWORK, NONE, &[1001]]))), refusal(3, BEHIND));
     // A line with equal ends is 4 at the line's first byte, but only without an earlier kind of fault.
     assert_eq!(shift(&file(&join(&[LOOSE, NONE, &[0]]))), "R 4 6\n");
-    assert_eq!(shift(&file(LOOSE)), "R 1 12\n");
+    assert_eq!(shift(&file(LOOSE)), refusal(1, LOOSE.len()));
     // Stations out of order, and equal ones.
     assert_eq!(shift(&file(&[2, 3, 1, 1, 2, 1, 1])), "R 3 4\n");
     assert_eq!(shift(&file(&[2, 3, 1, 1, 3, 1, 1])), "R 3 4\n");
@@ -188,17 +194,17 @@ fn timetable_refusals() {
     let empty = timetable(&[], &[]);
     assert_eq!(empty, "T 0 0 0\nW 1\n");
     let visit = |station, train, track| [station, train, track, 100, 0, 102, 0, 0, 0];
-    assert_eq!(timetable(&[&visit(1, 7, 1), &visit(1, 7, 1)], &[]), "R 3 27\n");
-    assert_eq!(timetable(&[&visit(2, 7, 1), &visit(1, 8, 1)], &[]), "R 3 26\n");
-    assert_eq!(timetable(&[&visit(3, 7, 1)], &[]), "R 7 17\n");
-    assert_eq!(timetable(&[&visit(1, 7, 1), &visit(2, 7, 3)], &[]), "R 7 26\n");
-    assert_eq!(timetable(&[], &[&[1, 1, 5, 2, 8, 8]]), "R 3 23\n");
+    assert_eq!(timetable(&[&visit(1, 7, 1), &visit(1, 7, 1)], &[]), refusal(3, BEHIND + 11));
+    assert_eq!(timetable(&[&visit(2, 7, 1), &visit(1, 8, 1)], &[]), refusal(3, BEHIND + 10));
+    assert_eq!(timetable(&[&visit(3, 7, 1)], &[]), refusal(7, BEHIND + 1));
+    assert_eq!(timetable(&[&visit(1, 7, 1), &visit(2, 7, 3)], &[]), refusal(7, BEHIND + 10));
+    assert_eq!(timetable(&[], &[&[1, 1, 5, 2, 8, 8]]), refusal(3, BEHIND + 7));
     assert_eq!(timetable(&[], &[&[1, 3, 5, 2, 8, 8]]), "F 1 4 1 0\nD 1 1 4 1 0\nT 0 1 1\nW 1\n");
-    assert_eq!(timetable(&[], &[&[1, 3, 5, 3, 8, 8, 8]]), "R 3 21\n");
-    assert_eq!(timetable(&[], &[&[3, 3, 5, 2, 8, 8]]), "R 7 18\n");
+    assert_eq!(timetable(&[], &[&[1, 3, 5, 3, 8, 8, 8]]), refusal(3, BEHIND + 5));
+    assert_eq!(timetable(&[], &[&[3, 3, 5, 2, 8, 8]]), refusal(7, BEHIND + 2));
     // An equal relation: its last train. A falling one: the first number that falls.
-    assert_eq!(timetable(&[], &[&[1, 1, 5, 2, 7, 8], &[1, 1, 5, 2, 7, 8]]), "R 3 29\n");
-    assert_eq!(timetable(&[], &[&[1, 1, 5, 3, 7, 8, 9], &[1, 1, 5, 2, 7, 8]]), "R 3 28\n");
+    assert_eq!(timetable(&[], &[&[1, 1, 5, 2, 7, 8], &[1, 1, 5, 2, 7, 8]]), refusal(3, BEHIND + 13));
+    assert_eq!(timetable(&[], &[&[1, 1, 5, 3, 7, 8, 9], &[1, 1, 5, 2, 7, 8]]), refusal(3, BEHIND + 12));
 }
 
 #[test]

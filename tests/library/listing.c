@@ -2,7 +2,7 @@
 #include "strakewhip.h"
 #include <stdio.h>
 
-static const uint8_t network[] = {2, 1, 1, 2, 2, 2, 1, 3, 1, 1, 1, 2, 3, 10, 1, 0};
+static const uint8_t network[] = {2, 1, 1, 2, 2, 2, 1, 3, 1, 1, 1, 2, 3, 10, 10, 1, 0};
 static const uint8_t edits[] = {4, 1, 1, 7, 1,   100, 102, 3, 2, 7, 1, 115, 115, 1, 1,
                                 12, 1, 1, 7, 1, 100, 102, 9, 1, 1, 5, 2,   7,   9};
 static const size_t starts[] = {1, 7, 16, 22, 29};

@@ -6,7 +6,7 @@ import sys
 sys.path.insert(0, os.path.join(os.path.dirname(os.path.abspath(__file__)), "..", "..", "bindings", "python"))
 import strakewhip as library
 
-NETWORK = bytes([2, 1, 1, 2, 2, 2, 1, 3, 1, 1, 1, 2, 3, 10, 1, 0])
+NETWORK = bytes([2, 1, 1, 2, 2, 2, 1, 3, 1, 1, 1, 2, 3, 10, 10, 1, 0])
 EDITS = [bytes([1, 1, 7, 1, 100, 102]), bytes([1, 2, 9, 1, 110, 111]), bytes([3, 2, 7, 1, 115, 115, 1, 1, 12]),
          bytes([9, 1, 1, 5, 2, 7, 9]), bytes([11, 9])]
 
@@ -55,11 +55,24 @@ def main():
     assert (1, 11, 7, 1) in library.area_findings(closed[1], one, 1)
     assert (1, 11, 7, 1) not in library.pair_findings(closed[1], one, other, 1, 2)
 
+    # Train 7 runs 12 minutes: freight's least of 13 does not find it, the passengers' does.
+    freight, passenger = (NETWORK[:13] + bytes(times) + NETWORK[15:] for times in ((10, 13), (13, 10)))
+    assert library.findings(freight, sheet) == library.findings(NETWORK, sheet)
+    assert sorted(library.findings(NETWORK, sheet) + [(1, 5, 7, 0)]) == library.findings(passenger, sheet)
+    # A file of the earlier form, its closures kept.
+    old = NETWORK[:13] + NETWORK[14:]
+    assert library.turn(library.ONE_TIME, old) == NETWORK
+    assert library.turn(library.ONE_TIME, old[:-1] + bytes([1, 1, 90, 103])) == closed[1]
+
     refused(2, 1, 0, library.network, bytes([128, 0]))
-    refused(14, 1, 16, library.network, NETWORK[:-1] + bytes([2, 1, 90, 90, 2, 0, 1]))
-    refused(4, 1, 19, library.findings, NETWORK[:-1] + bytes([2, 1, 90, 91, 2, 0, 1]), sheet)
-    refused(1, 1, 16, library.edit, NETWORK[:-1] + bytes([1]), EDITS[0], division)
-    refused(3, 1, 20, library.network, NETWORK[:-1] + bytes([2, 1, 90, 91, 1, 90, 92]))
+    refused(14, 1, 17, library.network, NETWORK[:-1] + bytes([2, 1, 90, 90, 2, 0, 1]))
+    refused(4, 1, 20, library.findings, NETWORK[:-1] + bytes([2, 1, 90, 91, 2, 0, 1]), sheet)
+    refused(1, 1, 17, library.edit, NETWORK[:-1] + bytes([1]), EDITS[0], division)
+    refused(3, 1, 21, library.network, NETWORK[:-1] + bytes([2, 1, 90, 91, 1, 90, 92]))
+    refused(3, 0, 0, library.turn, 2, old)
+    refused(1, 1, 15, library.turn, library.ONE_TIME, old[:-1])
+    refused(14, 1, 16, library.turn, library.ONE_TIME, old[:-1] + bytes([1, 1, 90, 90]))
+    refused(3, 1, 15, library.network, old)
     refused(3, 2, 0, library.names, NETWORK, bytes([12]))
     refused(1, 2, 0, library.edit, NETWORK, b"", division)
     refused(5, 0, 0, library.edit, NETWORK, EDITS[0], bytearray())

@@ -3,7 +3,7 @@
 use strakewhip::{Error, Refusal, DIVISION, MOST_FINDINGS, MOST_ROWS, SHEET};
 
 /// Station 1 in area 1 and station 2 in area 2, and one line between them that is never closed.
-const NETWORK: [u8; 16] = [2, 1, 1, 2, 2, 2, 1, 3, 1, 1, 1, 2, 3, 10, 1, 0];
+const NETWORK: [u8; 17] = [2, 1, 1, 2, 2, 2, 1, 3, 1, 1, 1, 2, 3, 10, 10, 1, 0];
 
 fn main() -> Result<(), Error> {
     let mut division = vec![0; DIVISION];

@@ -1,10 +1,11 @@
 //! The calls of documents 01 and 02 as safe functions over slices; include/strakewhip.h has the same in C.
 //!
-//! A network, an edit, a list of edits and a timetable are the bytes of their files; a network's ends with the count of
-//! its closures and the closures. A sheet is [`SHEET`] bytes, a division [`DIVISION`], six sheets by area; all zeros
-//! are an empty one. Every function answers on every input. A refusal is an [`Error`], and leaves every lent element as
-//! it was; each function names its refusals in the order in which they are tested. "The network" among them stands for
-//! 1, 2 or 3, then 14, then 4 of the network's file, with its place.
+//! A network, an edit, a list of edits and a timetable are the bytes of their files. In a network's, each line has two
+//! least running times, that of passenger trains and then that of freight trains, numbered 5000 and up; it ends with
+//! the count of its closures and the closures. A sheet is [`SHEET`] bytes, a division [`DIVISION`], six sheets by area;
+//! all zeros are an empty one. Every function answers on every input. A refusal is an [`Error`], and leaves every lent
+//! element as it was; each function names its refusals in the order in which they are tested. "The network" among them
+//! stands for 1, 2 or 3, then 14, then 4 of the network's file, with its place.
 
 pub mod raw;
 mod refusal;
@@ -25,6 +26,28 @@ pub const MOST_ROWS: usize = 64;
 pub const MOST_ANSWERS: usize = 2000;
 /// Room for any timetable's file.
 pub const MOST_TIMETABLE: usize = 7395;
+/// Room for any network's file.
+pub const MOST_NETWORK: usize = 500;
+
+/// The earlier forms of a network's file, by their numbers.
+#[derive(Clone, Copy, Debug, PartialEq, Eq, Hash)]
+#[repr(u8)]
+pub enum Form {
+    /// 1: one least running time a line, and closures (document 02, W1).
+    OneTime = 1,
+}
+
+impl Form {
+    /// The number by which the library knows it.
+    pub fn number(self) -> u8 {
+        self as u8
+    }
+
+    /// The form of a number, if there is one.
+    pub fn from_number(number: u8) -> Option<Form> {
+        [Form::OneTime].into_iter().find(|form| form.number() == number)
+    }
+}
 
 /// The areas that an edit names.
 #[derive(Clone, Copy, Debug, PartialEq, Eq, Hash)]
@@ -61,6 +84,13 @@ fn told(reply: Reply) -> Result<Reply, Error> {
 /// Reads a network's file, and answers how many bytes it has. Refuses: the network.
 pub fn network(network: &[u8]) -> Result<usize, Error> {
     let reply = unsafe { raw::strakewhip_network(network.as_ptr(), network.len()) };
+    told(reply).map(|reply| reply.length)
+}
+
+/// Turns a network's file of an earlier form into the newest, its closures kept; a line's one least running time
+/// becomes both. Answers how many bytes the new file has. Refuses: the network, in the old file; 13.
+pub fn turn(form: Form, file: &[u8], out: &mut [u8]) -> Result<usize, Error> {
+    let reply = unsafe { raw::strakewhip_turn(form.number(), file.as_ptr(), file.len(), out.as_mut_ptr(), out.len()) };
     told(reply).map(|reply| reply.length)
 }
 

@@ -13,6 +13,7 @@ pub struct Reply {
 
 extern "C" {
     pub fn strakewhip_network(network: *const u8, network_length: usize) -> Reply;
+    pub fn strakewhip_turn(form: u8, file: *const u8, file_length: usize, out: *mut u8, out_length: usize) -> Reply;
     pub fn strakewhip_names(network: *const u8, network_length: usize, edit: *const u8, edit_length: usize) -> Reply;
     pub fn strakewhip_edit(
         network: *const u8,

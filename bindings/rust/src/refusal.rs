@@ -90,6 +90,7 @@ impl fmt::Display for Refusal {
 /// Which of the lent files is refused.
 #[derive(Clone, Copy, Debug, PartialEq, Eq, Hash)]
 pub enum File {
+    /// The network, of the newest form or the one that is turned.
     Network,
     /// The edit, the edits or the timetable.
     Other,

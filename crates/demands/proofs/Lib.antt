@@ -9,3 +9,4 @@ pub mod HistoriesHold
 pub mod HistoryCases
 pub mod Balances
 pub mod FilesHold
+pub mod TurningHolds

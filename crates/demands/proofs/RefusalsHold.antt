@@ -19,8 +19,9 @@ use Rattle.timetable.specs.Formats as formats
 use Rattle.timetable.specs.Formats.{Outcome, accepted, refused, Placed, bytes-of}
 use Rattle.timetable.specs.InspectFile.{Inspection}
 use Rattle.timetable.specs.Machine.{Timetable, meaning}
-use Rattle.timetable.specs.NetworkFile.{network-numbers}
+use Rattle.timetable.specs.NetworkFile.{network-numbers, read-network-as}
 use Rattle.timetable.specs.Outputs.{output, output-after}
+use Rattle.timetable.specs.Turning.{turned, turned-reply, turned-after, turn-reply, turn-after}
 use Rattle.timetable.proofs.RefusalLaws.{call-passed}
 use Rattle.actions.specs.Early.{early-refusal}
 use Rattle.actions.specs.between.Shapes.{shape-of}
@@ -133,6 +134,12 @@ unfolding inspect-read formats.number formats.place-of formats.value-or inspect-
 inspect-refused (accepted x next) sheet z = absurd (z refl)
 inspect-refused (refused k p) sheet z = refl
 
+-- an old network file: refused, or turned into too short a buffer
+turned-refused : (o : Outcome Network) (buffer : List ℕ) → ¬ (turned-reply o buffer .number ≡ 0) → turned-after o buffer ≡ buffer
+unfolding turned-reply turned-after
+turned-refused (accepted n next) buffer z = output-refused 0 (turned n) buffer z
+turned-refused (refused k p) buffer z = refl
+
 -- a list of edits: refused by its file, or too little room for its answers
 list-refused : (n : Network) (division out : List ℕ) (o : Outcome (Placed (List Edit))) → ¬ (told-run n division out o .number ≡ 0)
     → (division-left n division out o ≡ division) × (answers-left n division out o ≡ out)
@@ -150,7 +157,7 @@ edits-refused n file division out z = by-value (eqb (length division) 49152)
     (λ b. rw b (refl, refl))
 
 pub refusals-leave-all : RefusalsLeaveAll
-unfolding with-number project-answer project-after raise inspect-answer inspect-after input-answer input-after after-divide after-merge read-answer read-after write-timetable timetable-written write-network network-written write-edit edit-written write-edits edits-written
+unfolding with-number turn-reply turn-after project-answer project-after raise inspect-answer inspect-after input-answer input-after after-divide after-merge read-answer read-after write-timetable timetable-written write-network network-written write-edit edit-written write-edits edits-written
 refusals-leave-all = record {
   edit-sheet = sheet-refused;
   edit-division = division-refused;
@@ -164,6 +171,7 @@ refusals-leave-all = record {
   inspect-reading = λ file sheet. inspect-refused (inspect-outcome file sheet) sheet;
   timetable-writing = λ n sheet buffer. output-refused (whole-refusal n sheet) (timetable-bytes n sheet) buffer;
   network-writing = λ n buffer. output-refused (network-refusal n) (bytes-of (network-numbers n)) buffer;
+  network-turning = λ form file buffer. turned-refused (read-network-as form file) buffer;
   edit-writing = λ e buffer. output-refused (edit-refusal e) (bytes-of (edit-numbers e)) buffer;
   edits-writing = λ file buffer. output-refused (formats.number (read-edits file)) (edits-bytes file) buffer;
   number-writing = λ k buffer h. rw (lt-leb (width k) (length buffer) h);

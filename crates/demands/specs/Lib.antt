@@ -8,3 +8,4 @@ pub mod Locality
 pub mod Histories
 pub mod Balance
 pub mod Files
+pub mod Turning

@@ -14,7 +14,9 @@ use Rattle.base.specs.Runs.{answers}
 use Rattle.numbers.specs.Numbers.{width, with-number}
 use Rattle.timetable.specs.Count.{raise-refusal, raise}
 use Rattle.timetable.specs.Formats as formats
+use Rattle.timetable.specs.declared.NetworkForm.{NetworkForm}
 use Rattle.timetable.specs.Outputs.{output, output-after}
+use Rattle.timetable.specs.Turning.{turn-reply, turn-after}
 use Rattle.listings.specs.Shift.{refusal-text, shift-text}
 use Rattle.text.specs.RefusalLine.{line-refusal}
 use Rattle.inspect_lines.specs.Parts.{input-answer, input-after, part-refusal, part-text}
@@ -61,6 +63,7 @@ pub record RefusalsLeaveAll : Type 0 where
   pub inspect-reading : (file sheet : List ℕ) → ¬ (inspect-answer file sheet .refusal ≡ 0) → inspect-after file sheet ≡ sheet
   pub timetable-writing : (n : Network) (sheet buffer : List ℕ) → ¬ (write-timetable n sheet buffer .number ≡ 0) → timetable-written n sheet buffer ≡ buffer
   pub network-writing : (n : Network) (buffer : List ℕ) → ¬ (write-network n buffer .number ≡ 0) → network-written n buffer ≡ buffer
+  pub network-turning : (form : NetworkForm) (file buffer : List ℕ) → ¬ (turn-reply form file buffer .number ≡ 0) → turn-after form file buffer ≡ buffer
   pub edit-writing : (e : Edit) (buffer : List ℕ) → ¬ (write-edit e buffer .number ≡ 0) → edit-written e buffer ≡ buffer
   pub edits-writing : (file buffer : List ℕ) → ¬ (write-edits file buffer .number ≡ 0) → edits-written file buffer ≡ buffer
   -- a number, which answers how many bytes it takes

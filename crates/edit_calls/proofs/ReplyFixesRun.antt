@@ -8,7 +8,8 @@ use native.Mathlib.Omega.{arith}
 use Rattle.timetable.specs.Outputs.{Reply, written, needed}
 use Rattle.timetable.proofs.ReplyLaws.{clash, same-size}
 use Rattle.edit_calls.specs.Types.{Run}
-use Rattle.edit_calls.specs.Lists.{refused-at, reply}
+use Rattle.timetable.specs.Outputs.{refused-at}
+use Rattle.edit_calls.specs.Lists.{reply}
 
 pub answered-alone : (r : Run) (k : ℕ) → reply r ≡ written k → r ≡ Run.Answered k
 unfolding reply

@@ -5,7 +5,6 @@ use Prim.Native.Nat.{ℕ}
 use mathlib.Core.Path.{_≡_}
 use mathlib.Core.Bool.{Bool, true, _&&_}
 use mathlib.Core.List.{List, [], _∷_, flatMap}
-use mathlib.Core.Option.{none, some}
 use lib.Dec.{leb, eqb}
 use lib.ListN.{length}
 use Rattle.base.specs.Choice.{if_then_else_}
@@ -13,7 +12,7 @@ use Rattle.base.specs.Runs.{run, answers}
 use Rattle.network.specs.Networks.{network-refusal}
 use Rattle.timetable.specs.Formats.{Outcome, accepted, refused, Placed}
 use Rattle.timetable.specs.EditsFile.{read-edits}
-use Rattle.timetable.specs.Outputs.{Reply, written, needed, output, output-after, put}
+use Rattle.timetable.specs.Outputs.{Reply, written, refused-at, needed, output, output-after, put}
 use Rattle.sheet.specs.between.Passes.{division-passes}
 use Rattle.machine.specs.Calls.{division-answer, division-after}
 use Rattle.edit_calls.specs.Types.{Edit, Network, Answer, Run}
@@ -45,10 +44,6 @@ EditsKnown n e tested division a left =
 -- a list of edits run on a division, with room for the answers
 abbrev pub Runs : Network → List Edit → List ℕ → List ℕ → List ℕ → List ℕ → Type 0
 Runs n es division out left written = (left ≡ division-of n es division) × (written ≡ put 0 (answers-of n es division) out)
-
--- refused with a number and its place
-abbrev pub refused-at : ℕ → ℕ → Reply
-refused-at k p = record { number = k; place = some p; size = none }
 
 -- "When an answer is an enum, a definition gives this paper's number and values for each case of that enum."
 unfoldable pub reply : Run → Reply

@@ -281,7 +281,7 @@ module _ (n : Network) (scope : Scope) (m : Timetable) (here : Table) (s : Stati
       next own-two 2 breaks-2 (λ t us. refl)
       next own-two 3 (breaks-3 (n .headway)) (λ t us. refl)
       next shown-unmet taken here s 1 (here .relations)
-      next own-one 5 (λ t. breaks-5 n (t .visit)) unused (λ t us. refl)
+      next own-one 5 (λ t. breaks-5 n (t .train) (t .visit)) unused (λ t us. refl)
       next own-one 6 (breaks-6 n (here .visits)) unused (λ t us. refl)
       next far-out 7 (λ there t o. not (out-answered s (t .train) o there)) (λ t us. refl)
       next far-in 8 (λ there t i. not (in-answered s (t .train) i there)) (λ t us. refl)

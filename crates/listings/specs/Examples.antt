@@ -24,7 +24,7 @@ use Rattle.listings.specs.Inspect.{inspect-text}
 -- with W1's 0 before its edits
 pub input : List ℕ
 input =
-    2 ∷ 1 ∷ 1 ∷ 2 ∷ 2 ∷ 2 ∷ 1 ∷ 3 ∷ 1 ∷ 1 ∷ 1 ∷ 2 ∷ 3 ∷ 10 ∷ 1 ∷ 0
+    2 ∷ 1 ∷ 1 ∷ 2 ∷ 2 ∷ 2 ∷ 1 ∷ 3 ∷ 1 ∷ 1 ∷ 1 ∷ 2 ∷ 3 ∷ 10 ∷ 10 ∷ 1 ∷ 0
     ∷ 4 ∷ 1 ∷ 1 ∷ 7 ∷ 1 ∷ 100 ∷ 102 ∷ 3 ∷ 2 ∷ 7 ∷ 1 ∷ 115 ∷ 115 ∷ 1 ∷ 1 ∷ 12
     ∷ 1 ∷ 1 ∷ 7 ∷ 1 ∷ 100 ∷ 102 ∷ 9 ∷ 1 ∷ 1 ∷ 5 ∷ 2 ∷ 7 ∷ 9 ∷ []
 
@@ -51,7 +51,7 @@ rows =
     (input, lines)
     -- an empty file: R 1 0
     ∷ ([], 82 ∷ 32 ∷ 49 ∷ 32 ∷ 48 ∷ 10 ∷ [])
-    -- a byte too many: R 1 45
+    -- a byte too many: R 1 46
     ∷ (input ++ (0 ∷ []), line 82 (1 ∷ length input ∷ []))
     -- a line that ends where it starts, before any edit: R 4 9
     ∷ (bytes-of (loop-numbers ++ (0 ∷ [])), line 82 (4 ∷ first-line ∷ []))

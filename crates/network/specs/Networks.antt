@@ -1,5 +1,5 @@
 -- Networks: which are good, and what a network knows. Document 01, "The railway and its numbers", "Sheets and
--- division", "Who brings on which number"; document 02, W1. Assumes nothing.
+-- division", "Who brings on which number"; document 02, W1 and W3. Assumes nothing.
 use Prim.Native.Nat.{ℕ, _+_, _*_}
 use mathlib.Core.Bool.{Bool, true, not, _&&_, _||_}
 use mathlib.Core.List.{List, map}
@@ -8,15 +8,15 @@ use lib.Dec.{ltb, leb, eqb}
 use lib.ListN.{take}
 use Rattle.base.specs.Choice.{_if_else_}
 use Rattle.base.specs.Lists.{any, every, first, is, within, rising}
-use Rattle.network.specs.Types.{Station, Track, Line, StationRow, LineRow, Closure, Network, StationFound, LineFound, AreaFound}
-use Rattle.railway.specs.Ranges.{station-ok, area-ok, line-ok, minute-ok, window-end-ok, run-ok, same-station, same-line}
+use Rattle.network.specs.Types.{Station, Train, Track, Line, StationRow, LineRow, Closure, Network, StationFound, LineFound, AreaFound}
+use Rattle.railway.specs.Ranges.{station-ok, area-ok, line-ok, minute-ok, window-end-ok, run-ok, is-freight, same-station, same-line}
 
 -- a row that is not used
 abbrev pub blank-station : StationRow
 blank-station = record { station = record { 0 = 0 }; area = record { 0 = 0 }; tracks = 0 }
 
 abbrev pub blank-line : LineRow
-blank-line = record { line = record { 0 = 0 }; first = record { 0 = 0 }; second = record { 0 = 0 }; kind = 0; least = 0; capacity = 0 }
+blank-line = record { line = record { 0 = 0 }; first = record { 0 = 0 }; second = record { 0 = 0 }; kind = 0; passenger = 0; freight = 0; capacity = 0 }
 
 abbrev pub blank-closure : Closure
 blank-closure = record { line = record { 0 = 0 }; start = record { 0 = 0 }; end = record { 0 = 0 } }
@@ -40,11 +40,12 @@ stations-of n = map (λ r. r .station) (station-rows n)
 unfoldable pub station-row-ok : StationRow → Bool
 station-row-ok r = station-ok (r .station) && (area-ok (r .area) && within 1 8 (r .tracks))
 
--- "(number, first station, second station, kind, least running time, capacity 1..9)"
+-- "(number, first station, second station, kind, least running time, capacity 1..9)"; W3: "Each line gets two,
+-- passenger first, .. in place of the one."
 unfoldable pub line-row-ok : LineRow → Bool
 line-row-ok r =
     (line-ok (r .line) && (station-ok (r .first) && station-ok (r .second)))
-    && (within 1 3 (r .kind) && (run-ok (r .least) && within 1 9 (r .capacity)))
+    && (within 1 3 (r .kind) && ((run-ok (r .passenger) && run-ok (r .freight)) && within 1 9 (r .capacity)))
 
 -- "starts are 0..2879, ends 1..2880"
 unfoldable pub closure-ok : Closure → Bool
@@ -111,6 +112,14 @@ way-open kind other a from b to = not (eqb kind other) && (same-station a from &
 unfoldable pub row-runs : LineRow → Station → Station → Bool
 row-runs r from to = way-open (r .kind) 2 (r .first) from (r .second) to || way-open (r .kind) 1 (r .second) from (r .first) to
 
+-- W3: "The least time is then that of a line and a train"
+unfoldable pub least-time : LineRow → Train → ℕ
+least-time r t = r .freight if is-freight t else r .passenger
+
+-- "giving both times the old number"
+unfoldable pub same-times : LineRow → Bool
+same-times r = eqb (r .passenger) (r .freight)
+
 -- the line is listed and runs from the one station to the other
 unfoldable pub runs : Network → Line → Station → Station → Bool
 runs n l from to = is (λ r. row-runs r from to) (line-row n l)
@@ -161,5 +170,5 @@ area-found (some r) = AreaFound.Is (r .area)
 unfoldable pub opened : Unit {0}
 unfolding station-rows line-rows closure-rows stations-of station-row-ok line-row-ok closure-ok closure-number stations-rise lines-rise closures-rise
     stations-in-range lines-in-range closures-in-range network-in-range
-    listed station-row line-row area-of track-known way-open row-runs runs ends-listed lines-joined ends-after closures-end line-listed closures-listed network-refusal
+    listed station-row line-row area-of track-known way-open row-runs least-time same-times runs ends-listed lines-joined ends-after closures-end line-listed closures-listed network-refusal
 opened = tt

@@ -1,5 +1,6 @@
 -- The types of the crates below and of this crate, under one module for this crate's own files.
 pub use Rattle.railway.specs.declared.sorts.Station.{Station}
+pub use Rattle.railway.specs.declared.sorts.Train.{Train}
 pub use Rattle.railway.specs.declared.sorts.Track.{Track}
 pub use Rattle.railway.specs.declared.sorts.Line.{Line}
 pub use Rattle.railway.specs.declared.sorts.Area.{Area}

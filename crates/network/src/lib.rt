@@ -2,7 +2,7 @@
 ghost use mathlib.Core.Path.{_≡_};
 ghost use mathlib.Core.Bool.{true, _&&_};
 ghost use Prim.Native.Nat.{min};
-ghost use Rattle.network.specs.Networks.{station-row-ok, line-row-ok, way-open, row-runs, station-found, line-found, area-found, station-row, line-row};
+ghost use Rattle.network.specs.Networks.{station-row-ok, line-row-ok, way-open, row-runs, least-time, station-found, line-found, area-found, station-row, line-row};
 ghost use Rattle.network.specs.Networks.{listed, area-of, track-known, runs, stations-rise, lines-rise, lines-in-range, network-in-range, ends-listed, lines-joined, network-refusal};
 ghost use Rattle.network.specs.Networks.{closure-ok, closure-number, closures-rise, closures-in-range, ends-after, closures-end, line-listed, closures-listed};
 use railway::minute::Minute;
@@ -11,6 +11,7 @@ use railway::sorts::Area;
 use railway::sorts::Line;
 use railway::sorts::Station;
 use railway::sorts::Track;
+use railway::sorts::Train;
 use railway::visit::run_valid;
 
 // "(number, area, count of tracks 1..8)"
@@ -20,13 +21,15 @@ pub struct StationRow {
     pub tracks: u8,
 }
 
-// "(number, first station, second station, kind, least running time, capacity 1..9)"
+// "(number, first station, second station, kind, least running time, capacity 1..9)"; W3: "Each line gets two, passenger
+// first"
 pub struct LineRow {
     pub line: Line,
     pub first: Station,
     pub second: Station,
     pub kind: u8,
-    pub least: u8,
+    pub passenger: u8,
+    pub freight: u8,
     pub capacity: u8,
 }
 
@@ -95,7 +98,8 @@ impl LineRow {
         let number = both(self.line.valid(), ends);
         let kind = base::is_within(1, 3, self.kind as u16);
         let capacity = base::is_within(1, 9, self.capacity as u16);
-        let measures = both(kind, both(run_valid(self.least), capacity));
+        let least = both(run_valid(self.passenger), run_valid(self.freight));
+        let measures = both(kind, both(least, capacity));
         both(number, measures)
     }
 
@@ -107,6 +111,16 @@ impl LineRow {
             return true;
         }
         runs_on(self.kind, 1, self.second, from, self.first, to)
+    }
+
+    // "The least time is then that of a line and a train"
+    pub fn least_time(self, train: Train) -> u8
+        ensures { λ r. ⌜ r ≡ least-time self train ⌝ }
+    {
+        if train.is_freight() {
+            return self.freight;
+        }
+        self.passenger
     }
 }
 

@@ -20,15 +20,18 @@ use Rattle.network.specs.declared.Closure.{Closure}
 use Rattle.network.specs.declared.Network.{Network}
 use Rattle.network.specs.Networks.{blank-station, blank-line, blank-closure, station-rows, line-rows, stations-of, listed, ends-after, ends-listed, line-row, line-listed}
 use Rattle.timetable.specs.declared.Fault.{Fault}
+use Rattle.timetable.specs.declared.NetworkForm.{NetworkForm}
 use Rattle.timetable.specs.Formats.{Format, done, Outcome, accepted, refused, _and-then_, read, Range, row, Placed}
-use Rattle.timetable.specs.NetworkFile.{station-of, station-entry, station-floor, line-of, line-entry, line-floor}
+use Rattle.timetable.specs.NetworkFile.{station-of, station-entry, station-floor, line-ranges, freight-at, line-of, line-entry, line-floor}
 use Rattle.timetable.specs.NetworkFile.{closure-entry, closure-floor, Listed, stations-format, lines-format, closures-format, closures-part, network-with, rows-listed, network-of, unended, unjoined, unlisted, fault-of, or-fault, network-fault}
 use Rattle.network_files.specs.declared.draft.StationsRead.{StationsRead}
 use Rattle.network_files.specs.declared.draft.LinesRead.{LinesRead}
 use Rattle.network_files.specs.declared.closures.ClosuresRead.{ClosuresRead}
 use Rattle.network_files.specs.declared.draft.Draft.{Draft}
 use Rattle.fields.specs.declared.field.RowRead.{RowRead}
-use Rattle.fields.specs.between.Answers.{padded, row-read}
+use Rattle.fields.specs.declared.field.Span.{Span}
+use Rattle.fields.specs.declared.field.Spans.{Spans}
+use Rattle.fields.specs.between.Answers.{ranges-of, padded, row-read}
 use Rattle.network_files.specs.between.Rows.{above, as-bytes}
 use Rattle.network_files.specs.between.Faults.{fault-next}
 use Rattle.network_files.specs.Answers.{stations-read, lines-read, closures-read, before-lines, before-closures, lines-fault, draft-read}
@@ -37,11 +40,11 @@ use Rattle.fields.proofs.EntryLaws.{row-above, padded-at, row-took, row-refusal
 -- rows of any ranges
 
 -- the first number may be 1, so that a row before it decides; and each number fits a byte
-abbrev from-one : List Range → Bool
+abbrev pub from-one : List Range → Bool
 from-one [] = true
 from-one (r ∷ rs) = leb (r .lo) 1
 
-abbrev of-bytes : List Range → Bool
+abbrev pub of-bytes : List Range → Bool
 of-bytes rs = every (λ (r : Range). ltb (r .hi) 256) rs
 
 above-row : (rs : List Range) (b : ℕ) → T (from-one rs) → row rs (b ∷ []) ≡ row (above b rs) []
@@ -106,9 +109,39 @@ pub station-padded : (ns : List ℕ) → station-of (padded 12 0 ns) ≡ station
 unfolding station-of
 station-padded ns = simp (padded-at 12 ns)
 
-pub line-padded : (ns : List ℕ) → line-of (padded 12 0 ns) ≡ line-of ns
+pub line-padded : (form : NetworkForm) (ns : List ℕ) → line-of form (padded 12 0 ns) ≡ line-of form ns
 unfolding line-of
-line-padded ns = simp (padded-at 12 ns)
+line-padded form ns = simp (padded-at 12 ns)
+
+-- the ranges of a line in every form
+pub line-low : (form : NetworkForm) → T (from-one (line-ranges form))
+unfolding line-ranges
+line-low NetworkForm.OneTime = tt
+line-low NetworkForm.TwoTimes = tt
+
+pub line-small : (form : NetworkForm) → T (of-bytes (line-ranges form))
+unfolding line-ranges every
+line-small NetworkForm.OneTime = tt
+line-small NetworkForm.TwoTimes = tt
+
+-- where a line's time of freight stands
+pub freight-low : (form : NetworkForm) → freight-at form ≤ 5
+freight-low NetworkForm.OneTime = omega arith
+freight-low NetworkForm.TwoTimes = omega arith
+
+-- the ranges of a line: the capacity stands behind the time of freight
+abbrev spans-before : ℕ → List Span
+spans-before b =
+    record { lo = b + 1; hi = 32 } ∷ record { lo = 1; hi = 16 } ∷ record { lo = 1; hi = 16 } ∷ record { lo = 1; hi = 3 }
+    ∷ record { lo = 1; hi = 240 } ∷ record { lo = 1; hi = 240 } ∷ record { lo = 0; hi = 0 } ∷ record { lo = 0; hi = 0 } ∷ []
+
+abbrev spans-with : ℕ → ℕ → Spans
+spans-with b at = record { count = at + 2; spans = set (spans-before b) (at + 1) (record { lo = 1; hi = 9 }) }
+
+pub line-spanned : (form : NetworkForm) (b at : ℕ) → at ≡ freight-at form → ranges-of (spans-with b at) ≡ above b (line-ranges form)
+unfolding ranges-of above line-ranges
+line-spanned NetworkForm.OneTime b at e = rw e
+line-spanned NetworkForm.TwoTimes b at e = rw e
 
 -- the first fault, one entry more
 module _ {A : Type 0} (k : ℕ) (some-number : ¬ (k ≡ 0)) (ok : A → Bool) where
@@ -170,9 +203,9 @@ module _ (n : Network) (o : Outcome (List (Placed LineRow))) (r : LinesRead) (e 
       go (accepted ns next) q = absurd (false≢true (sym t ∙ ap (λ (x : LinesRead). x .accepted) q))
       go (refused k p) q = rw q
 
-pub lines-many : (file : List ℕ) (at m : ℕ) (ls : List (Placed LineRow)) (next : ℕ) → read (lines-format m) file at ≡ accepted ls next → length ls ≡ m
+pub lines-many : (form : NetworkForm) (file : List ℕ) (at m : ℕ) (ls : List (Placed LineRow)) (next : ℕ) → read (lines-format form m) file at ≡ accepted ls next → length ls ≡ m
 unfolding lines-format
-lines-many file at m ls next o = entries-many line-entry line-floor m (0 ∷ []) file at ls next o
+lines-many form file at m ls next o = entries-many (line-entry form) line-floor m (0 ∷ []) file at ls next o
 
 module _ (n : Network) (o : Outcome (List (Placed Closure))) (r : ClosuresRead) (e : r ≡ closures-read n o) where
   pub closures-value : r .accepted ≡ true
@@ -201,12 +234,12 @@ unfolding closures-format
 closures-many file at m cs next o = entries-many closure-entry closure-floor m (0 ∷ 0 ∷ []) file at cs next o
 
 -- what lines that were read behind the stations say
-pub lines-known : (ss : List StationRow) (h m : ℕ) (known : Network) (r : LinesRead) (file : List ℕ) (at : ℕ) → known ≡ before-lines ss h
-    → r ≡ lines-read known (read (lines-format m) file at) → r .accepted ≡ true
-    → (ls : List (Placed LineRow)) × (read (lines-format m) file at ≡ accepted ls (r .place)) × (r .rows ≡ padded 32 blank-line (map (λ l. l .entry) ls))
+pub lines-known : (form : NetworkForm) (ss : List StationRow) (h m : ℕ) (known : Network) (r : LinesRead) (file : List ℕ) (at : ℕ) → known ≡ before-lines ss h
+    → r ≡ lines-read known (read (lines-format form m) file at) → r .accepted ≡ true
+    → (ls : List (Placed LineRow)) × (read (lines-format form m) file at ≡ accepted ls (r .place)) × (r .rows ≡ padded 32 blank-line (map (λ l. l .entry) ls))
     × (r .fault ≡ fault-of 4 (first (λ l. not (ends-listed (before-lines ss h) (l .entry))) ls))
-lines-known ss h m known r file at e q t =
-    lines-value (before-lines ss h) (read (lines-format m) file at) r (q ∙ ap (λ (n : Network). lines-read n (read (lines-format m) file at)) e) t
+lines-known form ss h m known r file at e q t =
+    lines-value (before-lines ss h) (read (lines-format form m) file at) r (q ∙ ap (λ (n : Network). lines-read n (read (lines-format form m) file at)) e) t
 
 -- what is listed up to the closures
 abbrev pub listed-with : List StationRow → ℕ → List (Placed LineRow) → List (Placed Closure) → Listed

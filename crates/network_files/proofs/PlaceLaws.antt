@@ -18,7 +18,7 @@ use Rattle.network.specs.Networks.{ends-after, ends-listed, line-listed}
 use Rattle.timetable.specs.Formats.{Format, done, field, here, Outcome, accepted, refused, _and-then_, placed-field, field-at, behind, read, ended, entries, Placed, placed}
 use Rattle.timetable.specs.declared.Fault.{Fault}
 use Rattle.timetable.specs.NetworkFile.{line-fields, line-entry, line-floor, closure-fields, closure-entry, closure-floor, Listed, stations-format, lines-format, closures-format, closures-part, closure-count-part, lines-part}
-use Rattle.timetable.specs.NetworkFile.{count-part, headway-part, stations-part, network-format, network-of, unended, unjoined, unlisted, fault-of, or-fault, network-fault, unless-fault}
+use Rattle.timetable.specs.NetworkFile.{count-part, headway-part, stations-part, newest, network-format-as, network-format, network-of, unended, unjoined, unlisted, fault-of, or-fault, network-fault, unless-fault}
 use Rattle.timetable.proofs.OutcomeLaws.{behind-taken}
 use Rattle.fields.proofs.EntryLaws.{then-taken, placed-read}
 
@@ -134,23 +134,23 @@ first-passes f g (y ∷ ys) x t e = go (f y) e (first-passes f g ys x (every-tai
 
 -- the lines and the closures of a network
 entries-placed : (file : List ℕ) (x : Listed) (next : ℕ) → read network-format file 0 ≡ accepted x next → Placed-within (length file) (x .lines) × Placed-within (length file) (x .closures)
-unfolding read network-format stations-part headway-part count-part lines-part closure-count-part closures-part lines-format line-entry closures-format closure-entry
+unfolding read network-format network-format-as stations-part headway-part count-part lines-part closure-count-part closures-part lines-format line-entry closures-format closure-entry
 entries-placed file x next e =
-    let (k, p₁, u₁, v₁) = behind-taken (field-at 1 16 file 0) (λ k p. read (stations-part k) file p) x next e in
-    let (ss, p₂, u₂, v₂) = then-taken (stations-format k) (λ ss. headway-part ss) file p₁ x next v₁ in
-    let (h, p₃, u₃, v₃) = behind-taken (field-at 1 30 file p₂) (λ h p. read (count-part ss h) file p) x next v₂ in
-    let (m, p₄, u₄, v₄) = behind-taken (field-at 0 32 file p₃) (λ m p. read (lines-part ss h m) file p) x next v₃ in
-    let (ls, p₅, u₅, v₅) = then-taken (lines-format m) (λ ls. closure-count-part ss h ls) file p₄ x next v₄ in
+    let (k, p₁, u₁, v₁) = behind-taken (field-at 1 16 file 0) (λ k p. read (stations-part newest k) file p) x next e in
+    let (ss, p₂, u₂, v₂) = then-taken (stations-format k) (λ ss. headway-part newest ss) file p₁ x next v₁ in
+    let (h, p₃, u₃, v₃) = behind-taken (field-at 1 30 file p₂) (λ h p. read (count-part newest ss h) file p) x next v₂ in
+    let (m, p₄, u₄, v₄) = behind-taken (field-at 0 32 file p₃) (λ m p. read (lines-part newest ss h m) file p) x next v₃ in
+    let (ls, p₅, u₅, v₅) = then-taken (lines-format newest m) (λ ls. closure-count-part ss h ls) file p₄ x next v₄ in
     let (i, p₆, u₆, v₆) = behind-taken (field-at 0 32 file p₅) (λ i p. read (closures-part ss h ls i) file p) x next v₅ in
     let (cs, p₇, u₇, v₇) = then-taken (closures-format i) (λ cs. done (record { stations = ss; headway = h; lines = ls; closures = cs })) file p₆ x next v₆ in
     let l₁ = number-within 1 16 file 0 (omega arith) k p₁ u₁ in
     let l₂ = next-within (stations-format k) file p₁ l₁ ss p₂ u₂ in
     let l₃ = number-within 1 30 file p₂ l₂ h p₃ u₃ in
     let l₄ = number-within 0 32 file p₃ l₃ m p₄ u₄ in
-    let l₅ = next-within (lines-format m) file p₄ l₄ ls p₅ u₅ in
+    let l₅ = next-within (lines-format newest m) file p₄ l₄ ls p₅ u₅ in
     let l₆ = number-within 0 32 file p₅ l₅ i p₆ u₆ in
     let z : record { stations = ss; headway = h; lines = ls; closures = cs } ≡ x = taken-same _ x p₇ next v₇ in (
-      rw (← z) (entries-within line-fields line-floor file m (0 ∷ []) p₄ l₄ ls p₅ u₅),
+      rw (← z) (entries-within (line-fields newest) line-floor file m (0 ∷ []) p₄ l₄ ls p₅ u₅),
       rw (← z) (entries-within closure-fields closure-floor file i (0 ∷ 0 ∷ []) p₆ l₆ cs p₇ u₇),
     )
 

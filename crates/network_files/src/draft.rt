@@ -6,16 +6,18 @@ ghost use Prim.Native.Nat.{ℕ, _≤_};
 ghost use lib.ListN.{length};
 ghost use Rattle.network.specs.Networks.{blank-station, blank-line, blank-closure, ends-listed};
 ghost use Rattle.timetable.specs.Formats.{refused, read, Placed};
-ghost use Rattle.timetable.specs.NetworkFile.{station-ranges, station-of, station-entry, stations-format, line-ranges, line-of, line-fields, lines-format};
-ghost use Rattle.timetable.specs.NetworkFile.{Listed, closures-part, closure-count-part, lines-part, count-part, headway-part, stations-part, network-format, blank-network, network-of};
+ghost use Rattle.timetable.specs.Formats as formats;
+ghost use Rattle.timetable.specs.NetworkFile.{station-ranges, station-of, station-entry, stations-format, freight-at, line-ranges, line-of, line-fields, lines-format};
+ghost use Rattle.timetable.specs.NetworkFile.{Listed, closures-part, closure-count-part, lines-part, count-part, headway-part, stations-part, network-format-as, network-format, blank-network, network-of};
 ghost use Rattle.network.specs.declared.StationRow.{StationRow};
 ghost use Rattle.network.specs.declared.LineRow.{LineRow};
-ghost use Rattle.fields.specs.between.Answers.{padded, ranges-of};
+ghost use Rattle.fields.specs.between.Answers.{padded, ranges-of, row-read};
 ghost use Rattle.network_files.specs.between.Rows.{above, as-bytes};
 ghost use Rattle.network_files.specs.Answers.{station-outcome, stations-read, line-outcome, lines-read, before-lines, before-closures, lines-fault, draft-read};
 use crate::closures;
 use crate::faults;
 use fields::field::FieldRead;
+use fields::field::RowRead;
 use fields::field::Span;
 use fields::field::Spans;
 use fields::field::field;
@@ -29,6 +31,7 @@ use railway::sorts::Area;
 use railway::sorts::Line;
 use railway::sorts::Station;
 use timetable::Fault;
+use timetable::NetworkForm;
 
 pub enum StationRead {
     Row(StationRow, usize),
@@ -84,7 +87,8 @@ pub fn empty_line() -> LineRow
         first: Station(0),
         second: Station(0),
         kind: 0,
-        least: 0,
+        passenger: 0,
+        freight: 0,
         capacity: 0,
     }
 }
@@ -198,22 +202,36 @@ fn stations(file: &[u8], at: usize, count: u8) -> StationsRead
     }
 }
 
-fn line_from(v: [u8; 12]) -> LineRow
-    ensures { λ r. ⌜ r ≡ line-of v ⌝ }
+// Which of the numbers is the time of freight, the capacity behind it: "giving both times the old number".
+fn freight_at(form: NetworkForm) -> usize
+    ensures { λ r. ⌜ r ≡ freight-at form ⌝ }
 {
+    match form {
+        NetworkForm::OneTime => 4,
+        NetworkForm::TwoTimes => 5,
+    }
+}
+
+fn line_from(form: NetworkForm, v: [u8; 12]) -> LineRow
+    ensures { λ r. ⌜ r ≡ line-of form v ⌝ }
+{
+    let freight = freight_at(form);
+    let capacity = freight + 1;
     LineRow {
         line: Line(v[0]),
         first: Station(v[1]),
         second: Station(v[2]),
         kind: v[3],
-        least: v[4],
-        capacity: v[5],
+        passenger: v[4],
+        freight: v[freight],
+        capacity: v[capacity],
     }
 }
 
-// "(number, first station, second station, kind, least running time, capacity 1..9)", the number above the one before.
-fn line_spans(before: u8) -> Spans
-    ensures { λ r. ⌜ ranges-of r ≡ above before line-ranges ⌝ }
+// "(number, first station, second station, kind, least running time, capacity 1..9)", the number above the one before;
+// W3: two least times, where the form has them.
+fn line_spans(form: NetworkForm, before: u8) -> Spans
+    ensures { λ r. ⌜ ranges-of r ≡ above before (line-ranges form) ⌝ }
 {
     let none = Span { lo: 0, hi: 0 };
     let least_number = before as u32 + 1;
@@ -224,20 +242,34 @@ fn line_spans(before: u8) -> Spans
     let end = Span { lo: 1, hi: 16 };
     let kind = Span { lo: 1, hi: 3 };
     let least = Span { lo: 1, hi: 240 };
-    let capacity = Span { lo: 1, hi: 9 };
+    let mut spans: [Span; 8] = [number, end, end, kind, least, least, none, none];
+    let freight = freight_at(form);
+    let capacity = freight + 1;
+    spans[capacity] = Span { lo: 1, hi: 9 };
+    let count = freight + 2;
     Spans {
-        count: 6,
-        spans: [number, end, end, kind, least, capacity, none, none],
+        count: count,
+        spans: spans,
     }
 }
 
-fn line_row(file: &[u8], at: usize, before: u8) -> LineRead
-    ensures { λ r. ⌜ line-outcome r ≡ read (line-fields (before ∷ [])) (now (file .entry)) at ⌝ }
+// The numbers of a line. Each form's ranges stand beside their reading, so that the compiler knows them there.
+fn line_numbers(file: &[u8], at: usize, form: NetworkForm, before: u8) -> RowRead
+    ensures { λ r. ⌜ r ≡ row-read (read (formats.row (above before (line-ranges form)) []) (now (file .entry)) at) ⌝ }
 {
-    let read = row(file, at, line_spans(before));
+    match form {
+        NetworkForm::OneTime => row(file, at, line_spans(NetworkForm::OneTime, before)),
+        NetworkForm::TwoTimes => row(file, at, line_spans(NetworkForm::TwoTimes, before)),
+    }
+}
+
+fn line_row(file: &[u8], at: usize, form: NetworkForm, before: u8) -> LineRead
+    ensures { λ r. ⌜ line-outcome r ≡ read (line-fields form (before ∷ [])) (now (file .entry)) at ⌝ }
+{
+    let read = line_numbers(file, at, form, before);
     if read.accepted {
         let values = read.values;
-        return LineRead::Row(line_from(narrowed(values)), read.place);
+        return LineRead::Row(line_from(form, narrowed(values)), read.place);
     }
     LineRead::Refused(read.refusal, read.place)
 }
@@ -267,9 +299,9 @@ fn refused_lines(known: Network, refusal: u8, place: usize) -> LinesRead
 }
 
 // The lines, and the first of them that is not joined by the known stations.
-fn lines(file: &[u8], at: usize, count: u8, known: Network) -> LinesRead
+fn lines(file: &[u8], at: usize, form: NetworkForm, count: u8, known: Network) -> LinesRead
     requires { ⌜ count ≤ 32 ⌝ }
-    ensures { λ r. ⌜ r ≡ lines-read known (read (lines-format count) (now (file .entry)) at) ⌝ }
+    ensures { λ r. ⌜ r ≡ lines-read known (read (lines-format form count) (now (file .entry)) at) ⌝ }
 {
     let n = count as usize;
     let mut rows: [LineRow; 32] = [empty_line(); 32];
@@ -278,7 +310,7 @@ fn lines(file: &[u8], at: usize, count: u8, known: Network) -> LinesRead
     let mut before: u8 = 0;
     let mut i: usize = 0;
     while i < n {
-        let found = line_row(file, place, before);
+        let found = line_row(file, place, form, before);
         match found {
             LineRead::Refused(k, p) => {
                 return refused_lines(known, k, p);
@@ -382,11 +414,11 @@ fn closure_count_draft(file: &[u8], at: usize, known: Network, fault: Fault) -> 
 }
 
 // The lines behind the stations and the headway that are known.
-fn lines_draft(file: &[u8], at: usize, count: u8, known: Network) -> Draft
+fn lines_draft(file: &[u8], at: usize, form: NetworkForm, count: u8, known: Network) -> Draft
     requires { ⌜ count ≤ 32 ⌝ }
-    ensures { λ r. ⌜ ((ss : List StationRow) (h : ℕ) → known ≡ before-lines ss h → r ≡ draft-read (read (lines-part ss h count) (now (file .entry)) at)) ⌝ }
+    ensures { λ r. ⌜ ((ss : List StationRow) (h : ℕ) → known ≡ before-lines ss h → r ≡ draft-read (read (lines-part form ss h count) (now (file .entry)) at)) ⌝ }
 {
-    let read = lines(file, at, count, known);
+    let read = lines(file, at, form, count, known);
     if read.accepted {
         let rows = read.rows;
         let fault = read.fault;
@@ -395,48 +427,55 @@ fn lines_draft(file: &[u8], at: usize, count: u8, known: Network) -> Draft
     refused_draft(read.refusal, read.place)
 }
 
-fn count_draft(file: &[u8], at: usize, known: Network) -> Draft
-    ensures { λ r. ⌜ ((ss : List StationRow) (h : ℕ) → known ≡ before-lines ss h → r ≡ draft-read (read (count-part ss h) (now (file .entry)) at)) ⌝ }
+fn count_draft(file: &[u8], at: usize, form: NetworkForm, known: Network) -> Draft
+    ensures { λ r. ⌜ ((ss : List StationRow) (h : ℕ) → known ≡ before-lines ss h → r ≡ draft-read (read (count-part form ss h) (now (file .entry)) at)) ⌝ }
 {
     let count = field(file, at, 0, 32);
     match count {
         FieldRead::Refused(k, p) => refused_draft(k, p),
-        FieldRead::Value(n, next) => lines_draft(file, next, narrow(n), known),
+        FieldRead::Value(n, next) => lines_draft(file, next, form, narrow(n), known),
     }
 }
 
-fn headway_draft(file: &[u8], at: usize, known: Network) -> Draft
-    ensures { λ r. ⌜ ((ss : List StationRow) → known ≡ before-lines ss 0 → r ≡ draft-read (read (headway-part ss) (now (file .entry)) at)) ⌝ }
+fn headway_draft(file: &[u8], at: usize, form: NetworkForm, known: Network) -> Draft
+    ensures { λ r. ⌜ ((ss : List StationRow) → known ≡ before-lines ss 0 → r ≡ draft-read (read (headway-part form ss) (now (file .entry)) at)) ⌝ }
 {
     let headway = field(file, at, 1, 30);
     match headway {
         FieldRead::Refused(k, p) => refused_draft(k, p),
         FieldRead::Value(n, next) => {
             let more = with_headway(known, narrow(n));
-            count_draft(file, next, more)
+            count_draft(file, next, form, more)
         }
     }
 }
 
-fn stations_draft(file: &[u8], at: usize, count: u8) -> Draft
+fn stations_draft(file: &[u8], at: usize, form: NetworkForm, count: u8) -> Draft
     requires { ⌜ count ≤ 16 ⌝ }
-    ensures { λ r. ⌜ r ≡ draft-read (read (stations-part count) (now (file .entry)) at) ⌝ }
+    ensures { λ r. ⌜ r ≡ draft-read (read (stations-part form count) (now (file .entry)) at) ⌝ }
 {
     let read = stations(file, at, count);
     if read.accepted {
         let rows = read.rows;
-        return headway_draft(file, read.place, with_stations(count, rows));
+        return headway_draft(file, read.place, form, with_stations(count, rows));
     }
     refused_draft(read.refusal, read.place)
 }
 
-// The network at the head of the file.
-pub fn read_draft(file: &[u8]) -> Draft
-    ensures { λ r. ⌜ r ≡ draft-read (read network-format (now (file .entry)) 0) ⌝ }
+// The network at the head of a file of this form.
+pub fn read_draft_as(file: &[u8], form: NetworkForm) -> Draft
+    ensures { λ r. ⌜ r ≡ draft-read (read (network-format-as form) (now (file .entry)) 0) ⌝ }
 {
     let count = field(file, 0, 1, 16);
     match count {
         FieldRead::Refused(k, p) => refused_draft(k, p),
-        FieldRead::Value(n, next) => stations_draft(file, next, narrow(n)),
+        FieldRead::Value(n, next) => stations_draft(file, next, form, narrow(n)),
     }
+}
+
+// The same in the newest form.
+pub fn read_draft(file: &[u8]) -> Draft
+    ensures { λ r. ⌜ r ≡ draft-read (read network-format (now (file .entry)) 0) ⌝ }
+{
+    read_draft_as(file, NetworkForm::TwoTimes)
 }

@@ -1,11 +1,12 @@
 // Network files.
 ghost use mathlib.Core.Path.{_≡_};
 ghost use Rattle.timetable.specs.Formats.{refused};
-ghost use Rattle.timetable.specs.NetworkFile.{read-network};
+ghost use Rattle.timetable.specs.NetworkFile.{read-network-as, read-network};
 ghost use Rattle.network_files.specs.Answers.{network-answer};
 use crate::draft::blank_network;
-use crate::draft::read_draft;
+use crate::draft::read_draft_as;
 use network::Network;
+use timetable::NetworkForm;
 
 // The network with refusal 0, or a refusal's number and place beside a blank network.
 pub struct NetworkRead {
@@ -24,11 +25,11 @@ fn refused_network(refusal: u8, place: usize) -> NetworkRead
     }
 }
 
-// A network file.
-pub fn read_network(file: &[u8]) -> NetworkRead
-    ensures { λ r. ⌜ r ≡ network-answer (read-network (now (file .entry))) ⌝ }
+// A network file of this form.
+pub fn read_network_as(file: &[u8], form: NetworkForm) -> NetworkRead
+    ensures { λ r. ⌜ r ≡ network-answer (read-network-as form (now (file .entry))) ⌝ }
 {
-    let draft = read_draft(file);
+    let draft = read_draft_as(file, form);
     if draft.accepted {
         let place = draft.place;
         if place < file.len() {
@@ -46,4 +47,11 @@ pub fn read_network(file: &[u8]) -> NetworkRead
         };
     }
     refused_network(draft.refusal, draft.place)
+}
+
+// A network file, in the newest form.
+pub fn read_network(file: &[u8]) -> NetworkRead
+    ensures { λ r. ⌜ r ≡ network-answer (read-network (now (file .entry))) ⌝ }
+{
+    read_network_as(file, NetworkForm::TwoTimes)
 }

@@ -12,7 +12,7 @@ use Rattle.network_writing.specs.Writing.{write-network, network-written
 use Rattle.network_writing.specs.RoundTrip.{NetworkComesBack}
 
 pub network-comes-back : NetworkComesBack
-unfolding write-network network-written reply
+unfolding write-network network-written network-numbers reply
 network-comes-back file buffer n next b e h =
     let read = network-trip .only file n next b e in
     let same : bytes-of (network-numbers n) ≡ file = sym (read .file-is) in

@@ -5,7 +5,7 @@ ghost use Prim.Native.Nat.{_≤_};
 ghost use lib.ListN.{length};
 ghost use Rattle.network.specs.Networks.{station-rows, line-rows, closure-rows};
 ghost use Rattle.timetable.specs.Formats.{bytes-of};
-ghost use Rattle.timetable.specs.NetworkFile.{station-numbers, line-numbers, closure-numbers, network-numbers};
+ghost use Rattle.timetable.specs.NetworkFile.{station-numbers, newest, line-numbers, closure-numbers, network-numbers};
 ghost use Rattle.timetable.specs.Outputs.{reply, put};
 ghost use Rattle.fields.specs.between.Putting.{Places};
 ghost use Rattle.network_writing.specs.Writing.{write-network, network-written};
@@ -34,28 +34,29 @@ fn put_station(out: &mut [u8], at: usize, r: StationRow) -> usize
     put::put_row(out, at, row)
 }
 
-// "(number, first station, second station, kind, least running time, capacity 1..9)"
+// "(number, first station, second station, kind, least running time, capacity 1..9)"; W3: "two, passenger first"
 fn put_line(out: &mut [u8], at: usize, r: LineRow) -> usize
     requires { ⌜ at ≤ 900000000 ⌝ }
-    ensures { λ q. ⌜ Places at (line-numbers r) (now (out .entry)) q (now (out .exit)) 36 ⌝ }
+    ensures { λ q. ⌜ Places at (line-numbers newest r) (now (out .entry)) q (now (out .exit)) 36 ⌝ }
 {
     let number = r.line.0 as u16;
     let first = r.first.0 as u16;
     let second = r.second.0 as u16;
     let kind = r.kind as u16;
-    let least = r.least as u16;
+    let passenger = r.passenger as u16;
+    let freight = r.freight as u16;
     let capacity = r.capacity as u16;
     let row = Numbers {
         from: 0,
-        to: 6,
+        to: 7,
         values: [
             number,
             first,
             second,
             kind,
-            least,
+            passenger,
+            freight,
             capacity,
-            0,
             0,
             0,
             0,
@@ -98,7 +99,7 @@ fn put_stations(out: &mut [u8], at: usize, n: Network) -> usize
 
 fn put_lines(out: &mut [u8], at: usize, n: Network) -> usize
     requires { ⌜ at ≤ 800000000 ⌝ }
-    ensures { λ q. ⌜ Places at (flatMap line-numbers (line-rows n)) (now (out .entry)) q (now (out .exit)) 1152 ⌝ }
+    ensures { λ q. ⌜ Places at (flatMap (line-numbers newest) (line-rows n)) (now (out .entry)) q (now (out .exit)) 1152 ⌝ }
 {
     let rows = n.lines;
     let k = in_use(n.linecount, 32);
@@ -139,7 +140,7 @@ fn put_counted_stations(out: &mut [u8], at: usize, n: Network) -> usize
 
 fn put_counted_lines(out: &mut [u8], at: usize, n: Network) -> usize
     requires { ⌜ at ≤ 700000000 ⌝ }
-    ensures { λ q. ⌜ Places at (n .linecount ∷ flatMap line-numbers (line-rows n)) (now (out .entry)) q (now (out .exit)) 1155 ⌝ }
+    ensures { λ q. ⌜ Places at (n .linecount ∷ flatMap (line-numbers newest) (line-rows n)) (now (out .entry)) q (now (out .exit)) 1155 ⌝ }
 {
     let rows = put::put_number(out, at, n.linecount as u16);
     put_lines(out, rows, n)

@@ -1,5 +1,5 @@
--- The ranges of the sorts, and when two of a sort are the same. Document 01, "The railway and its numbers". Assumes
--- nothing.
+-- The ranges of the sorts, and when two of a sort are the same. Document 01, "The railway and its numbers"; document
+-- 02, W1 and W3. Assumes nothing.
 use Prim.Native.Nat.{ℕ}
 use mathlib.Core.Bool.{Bool}
 use lib.Dec.{leb, eqb}
@@ -22,6 +22,10 @@ line-ok l = within 1 32 (l .0)
 
 abbrev pub track-ok : Track → Bool
 track-ok t = within 1 8 (t .0)
+
+-- document 02, W3: "Trains numbered 5000 and up are freight"
+abbrev pub is-freight : Train → Bool
+is-freight t = leb 5000 (t .0)
 
 -- "Times are whole minutes from 0 to 2879."
 abbrev pub last-minute : ℕ

@@ -1,6 +1,6 @@
 // "the theory has each as its own sort, so no call accepts a line number where a train number belongs"
 ghost use mathlib.Core.Path.{_≡_};
-ghost use Rattle.railway.specs.Ranges.{station-ok, train-ok, track-ok, line-ok, area-ok};
+ghost use Rattle.railway.specs.Ranges.{station-ok, train-ok, is-freight, track-ok, line-ok, area-ok};
 
 pub struct Station(pub u8);
 
@@ -25,6 +25,13 @@ impl Train {
         ensures { λ r. ⌜ r ≡ train-ok self ⌝ }
     {
         base::is_within(1, 9999, self.0)
+    }
+
+    // "Trains numbered 5000 and up are freight"
+    pub fn is_freight(self) -> bool
+        ensures { λ r. ⌜ r ≡ is-freight self ⌝ }
+    {
+        5000 <= self.0
     }
 }
 

@@ -20,17 +20,21 @@ placed file k p = record { refusal = k; removed = 0; file = file; place = p; len
 abbrev pub of-answer : Answer → Reply
 of-answer a = record { refusal = a .refusal; removed = a .removed; file = 0; place = 0; length = 0 }
 
--- document 01's number and what comes along, as they cross: a place is that of the file which is not the network
-unfoldable pub file-of : Option ℕ → ℕ
-file-of none = 0
-file-of (some p) = 2
+-- document 01's number and what comes along, as they cross: a place is that of a file, 1 the network and 2 the other
+unfoldable pub file-of : ℕ → Option ℕ → ℕ
+file-of file none = 0
+file-of file (some p) = file
 
 unfoldable pub or-nought : Option ℕ → ℕ
 or-nought none = 0
 or-nought (some k) = k
 
+unfoldable pub of-reply-in : ℕ → outputs.Reply → Reply
+of-reply-in file r = record { refusal = r .number; removed = 0; file = file-of file (r .place); place = or-nought (r .place); length = or-nought (r .size) }
+
+-- most calls answer with the place in the file which is not the network
 unfoldable pub of-reply : outputs.Reply → Reply
-of-reply r = record { refusal = r .number; removed = 0; file = file-of (r .place); place = or-nought (r .place); length = or-nought (r .size) }
+of-reply r = of-reply-in 2 r
 
 -- a file that is read to its end, or refused
 unfoldable pub of-outcome : {A : Type 0} → ℕ → Outcome A → Reply
@@ -56,5 +60,5 @@ left fits o buffer call = if fits then by-file o (λ k p. buffer) call else buff
 
 -- The key ring of this module: `unfolding opened` opens every definition above.
 unfoldable pub opened : Unit {0}
-unfolding file-of or-nought of-reply of-outcome bits by-file told left
+unfolding file-of or-nought of-reply-in of-reply of-outcome bits by-file told left
 opened = tt

@@ -7,7 +7,7 @@ use native.Mathlib.Omega.{arith}
 use lib.ListN.{length}
 use Rattle.network.specs.Networks.{network-refusal}
 use Rattle.timetable.specs.Formats.{Outcome, accepted, behind, _and-then_, done, read-file, bytes-of, Placed, placed}
-use Rattle.timetable.specs.NetworkFile.{Listed, network-format, network-of, network-fault, unless-fault, network-numbers}
+use Rattle.timetable.specs.NetworkFile.{newest, Listed, network-format, network-of, network-fault, unless-fault, network-numbers}
 use Rattle.timetable.specs.Machine.{Timetable}
 use Rattle.timetable.specs.Good.{Whole}
 use Rattle.timetable.specs.TimetableFile.{Entries, timetable-format, timetable-of, timetable-numbers}
@@ -17,8 +17,7 @@ use Rattle.roundtrips.specs.Types.{Network}
 use Rattle.roundtrips.specs.RoundTrips.{UnusedBlank, InspectRead, InspectRoundTrip}
 use Rattle.roundtrips.proofs.Walks.{walks}
 use Rattle.roundtrips.proofs.WalkLaws.{span, walks-then, then-walks, walks-made, made-walks, file-read, file-walks}
-use Rattle.roundtrips.proofs.NetworkWalks.{network-walks}
-use Rattle.roundtrips.proofs.NetworkTrips.{listed-good, of-numbers, of-blank, listing, listing-network, listing-faultless, walks-listing}
+use Rattle.roundtrips.proofs.NetworkTrips.{listed-good, of-blank, head-walks, listing, listing-network, listing-faultless, walks-listing}
 use Rattle.roundtrips.proofs.TimetableWalks.{all-visits, all-relations, file-entries, walks-timetable, timetable-walks}
 use Rattle.roundtrips.proofs.TimetableTrips.{written-read, entries-written}
 use Rattle.roundtrips.proofs.WrittenTables.{visits-in, relations-in}
@@ -71,9 +70,8 @@ taken file x p y next ns w b e f v =
     let i : s .value ≡ x .listed = ap (λ (y : Both). y .listed) q in
     let j : t ≡ x .entries .entry = ap (λ (y : Placed Entries). y .entry) r ∙ ap (λ (y : Both). y .entries .entry) q in
     let l : 0 + span (s .before) ≡ x .entries .place = ap (λ (y : Placed Entries). y .place) r ∙ ap (λ (y : Both). y .entries .place) q in
-    let (k, h) = network-walks 0 (s .before) (x .listed) (subst (walks network-format 0 (s .before)) i (s .first)) in
-    let good = listed-good (x .listed) h f in
-    let numbers : s .before ≡ network-numbers (network-of (x .listed)) = k ∙ sym (of-numbers (x .listed)) in
+    let (numbers, h) = head-walks 0 (s .before) (x .listed) (subst (walks network-format 0 (s .before)) i (s .first)) in
+    let good = listed-good (x .listed) newest h f in
     let walk = subst (walks timetable-format (0 + span (s .before)) (s .behind)) j c in
     let (m, o, made, is) = behind-taken (timetable-of (network-of (x .listed)) (x .entries .entry) p)
     (λ m next. accepted (record { network = network-of (x .listed); first = x .entries .place; timetable = m }) next) y next v in

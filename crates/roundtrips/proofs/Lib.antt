@@ -7,6 +7,7 @@ pub mod EditWalks
 pub mod EditTrips
 pub mod NetworkWalks
 pub mod NetworkTrips
+pub mod TurnedTrips
 pub mod VisitWalks
 pub mod OrderLaws
 pub mod TimetableWalks

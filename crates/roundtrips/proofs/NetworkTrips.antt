@@ -18,18 +18,19 @@ use Rattle.railway.specs.Edits.{edit-ok}
 use Rattle.network.specs.Networks.{blank-station, blank-line, blank-closure, station-rows, line-rows, closure-rows, stations-of, station-row-ok, line-row-ok, closure-ok, closure-number, stations-rise, lines-rise, closures-rise}
 use Rattle.network.specs.Networks.{stations-in-range, lines-in-range, closures-in-range, network-in-range, ends-listed, lines-joined, ends-after, closures-end, line-listed, closures-listed, network-refusal}
 use Rattle.network.proofs.NetworkLaws.{NetworkFacts, network-facts}
+use Rattle.timetable.specs.declared.NetworkForm.{NetworkForm}
 use Rattle.timetable.specs.Formats.{Outcome, accepted, behind, _and-then_, done, read-file, bytes-of, Placed}
-use Rattle.timetable.specs.NetworkFile.{line-numbers, closure-numbers, Rows, Listed, network-format, network-with, rows-in, rows-listed, network-of, unended, unjoined, unlisted, network-fault}
-use Rattle.timetable.specs.NetworkFile.{unless-fault, read-network-as, read-network, network-numbers}
+use Rattle.timetable.specs.NetworkFile.{newest, line-numbers, closure-numbers, Rows, Listed, network-format-as, network-format, network-with, rows-in, rows-listed, network-of, unended, unjoined, unlisted, network-fault}
+use Rattle.timetable.specs.NetworkFile.{unless-fault, read-network-as, read-network, network-numbers-as, network-numbers}
 use Rattle.timetable.specs.EditsFile.{edits-format, edits-numbers, Shift, Input, shift-format, read-shift}
 use Rattle.roundtrips.specs.Types.{Edit, LineRow, Closure, Network}
 use Rattle.roundtrips.proofs.Walks.{walks}
-use Rattle.roundtrips.specs.RoundTrips.{UnusedBlank, NetworkRead, NetworkRoundTrip, ShiftRead, ShiftRoundTrip}
+use Rattle.roundtrips.specs.RoundTrips.{Bytes, UnusedBlank, ReadAs, NetworkRoundTrip, ShiftRead, ShiftRoundTrip}
 use Rattle.roundtrips.proofs.ListLaws.{first-none, none-first}
 use Rattle.timetable.proofs.OutcomeLaws.{behind-taken, fault-free, fault-taken, Faultless, fault-none, none-fault}
 use Rattle.roundtrips.proofs.WalkLaws.{span, walks-then, then-walks, walks-made, made-walks, file-read, file-walks}
 use Rattle.roundtrips.proofs.RowsWalked.{in-test, test-in, most-test, test-most, values-entries}
-use Rattle.roundtrips.proofs.NetworkWalks.{station-number, line-number, rows-of, rows-numbers, closures-of, RowsIn, lines-at, closures-at, listed-at, walks-network, network-walks}
+use Rattle.roundtrips.proofs.NetworkWalks.{station-number, line-number, line-fits, fits-ok, rows-of, rows-numbers, closures-of, RowsIn, lines-at, closures-at, listed-at, walks-network, network-walks}
 use Rattle.roundtrips.proofs.EditTrips.{walks-edits-format, edits-format-walks}
 
 -- the rows of a network made of rows
@@ -50,22 +51,22 @@ module _ (x : Rows) where
   unfolding rows-in network-with
   rows-back = rw (rows-stations, rows-lines, rows-closures)
 
-  pub numbers-with : network-numbers (network-with x) ≡ rows-numbers x
-  unfolding network-numbers network-with
-  numbers-with = rw (rows-stations, rows-lines, rows-closures)
+  pub numbers-with : (form : NetworkForm) → network-numbers-as form (network-with x) ≡ rows-numbers form x
+  unfolding network-numbers-as network-with
+  numbers-with form = rw (rows-stations, rows-lines, rows-closures)
 
   pub blank-with : UnusedBlank (network-with x)
   blank-with = ap network-with rows-back
 
-  pub range-with : RowsIn x → T (network-in-range (network-with x))
+  pub range-with : (form : NetworkForm) → RowsIn form x → T (network-in-range (network-with x))
   unfolding network-in-range stations-in-range lines-in-range closures-in-range stations-rise lines-rise closures-rise network-with
-  range-with r =
+  range-with form r =
       let s₁ = in-test 1 16 (length (x .stations)) (r .station-count) in
       let s₂ : T (every station-row-ok (station-rows (network-with x))) = rw rows-stations (r .stations .good) in
       let s₃ : T (rising (map (λ r. r .station .0) (station-rows (network-with x)))) = rw (rows-stations, rising-map station-number (x .stations)) (r .stations .order) in
       let h₁ = in-test 1 30 (x .headway) (r .headway) in
       let l₁ = most-test 32 (length (x .lines)) (r .line-count) in
-      let l₂ : T (every line-row-ok (line-rows (network-with x))) = rw rows-lines (r .lines .good) in
+      let l₂ : T (every line-row-ok (line-rows (network-with x))) = rw rows-lines (every-weaker (line-fits form) line-row-ok (fits-ok form) (x .lines) (r .lines .good)) in
       let l₃ : T (rising (map (λ r. r .line .0) (line-rows (network-with x)))) = rw (rows-lines, rising-map line-number (x .lines)) (r .lines .order) in
       let c₁ = most-test 32 (length (x .closures)) (r .closure-count) in
       let c₂ : T (every closure-ok (closure-rows (network-with x))) = rw rows-closures (r .closures .good) in
@@ -99,14 +100,14 @@ module _ (x : Listed) where
   unfolding unlisted closures-listed network-of rows-listed
   known e = rw (rows-closures (rows-listed x)) (passing (λ c. line-listed (network-of x) (c .line)) (x .closures) e)
 
-  pub listed-good : RowsIn (rows-listed x) → Faultless x → network-refusal (network-of x) ≡ 0
+  pub listed-good : (form : NetworkForm) → RowsIn form (rows-listed x) → Faultless x → network-refusal (network-of x) ≡ 0
   unfolding network-of
-  listed-good r f =
-      refusal-none (network-of x) (range-with (rows-listed x) r) (ended (f .ended)) (joined (f .joined)) (known (f .listed))
+  listed-good form r f =
+      refusal-none (network-of x) (range-with (rows-listed x) form r) (ended (f .ended)) (joined (f .joined)) (known (f .listed))
 
-  pub of-numbers : network-numbers (network-of x) ≡ rows-numbers (rows-listed x)
+  pub of-numbers : (form : NetworkForm) → network-numbers-as form (network-of x) ≡ rows-numbers form (rows-listed x)
   unfolding network-of
-  of-numbers = numbers-with (rows-listed x)
+  of-numbers form = numbers-with (rows-listed x) form
 
   pub of-blank : UnusedBlank (network-of x)
   unfolding network-of
@@ -134,7 +135,7 @@ module _ (n : Network) (g : network-refusal n ≡ 0) (u : UnusedBlank n) where
   unfolding network-with rows-in
   closure-many = ap (λ (m : Network). m .closurecount) u
 
-  pub rows-good : RowsIn (rows-in n)
+  pub rows-good : RowsIn newest (rows-in n)
   unfolding stations-of station-row-ok line-row-ok rows-in
   rows-good = record {
     station-count = rw station-many (test-in 1 16 (n .stationcount) (omega arith) (facts .station-count));
@@ -160,18 +161,19 @@ module _ (n : Network) (g : network-refusal n ≡ 0) (u : UnusedBlank n) where
     };
   }
 
-  pub rows-written : network-numbers n ≡ rows-numbers (rows-in n)
-  rows-written = ap network-numbers (sym u) ∙ numbers-with (rows-in n)
+  pub rows-written : network-numbers n ≡ rows-numbers newest (rows-in n)
+  unfolding network-numbers
+  rows-written = ap network-numbers (sym u) ∙ numbers-with (rows-in n) newest
 
   -- what the format gives from a place on
   abbrev pub listing : ℕ → Listed
-  listing p = listed-at p (rows-in n)
+  listing p = listed-at newest p (rows-in n)
 
   listing-rows : (p : ℕ) → rows-listed (listing p) ≡ rows-in n
   unfolding rows-listed rows-in
   listing-rows p =
       ap₂ (λ (ls : List LineRow) (cs : List Closure). record { stations = station-rows n; headway = n .headway; lines = ls; closures = cs })
-      (values-entries line-numbers (lines-at p (rows-in n)) (line-rows n)) (values-entries closure-numbers (closures-at p (rows-in n)) (closure-rows n))
+      (values-entries (line-numbers newest) (lines-at p (rows-in n)) (line-rows n)) (values-entries closure-numbers (closures-at newest p (rows-in n)) (closure-rows n))
 
   pub listing-network : (p : ℕ) → network-of (listing p) ≡ n
   unfolding network-of
@@ -196,32 +198,48 @@ module _ (n : Network) (g : network-refusal n ≡ 0) (u : UnusedBlank n) where
     }
 
   pub walks-listing : (p : ℕ) → walks network-format p (network-numbers n) (listing p)
-  walks-listing p = rw rows-written (walks-network p (rows-in n) rows-good)
+  unfolding network-format
+  walks-listing p = rw rows-written (walks-network newest p (rows-in n) rows-good)
 
 -- the network file
 
+-- what is read in a form is what is written in that form
+pub listed-as : (form : NetworkForm) (file : List ℕ) (n : Network) (next : ℕ) → Bytes file → read-network-as form file ≡ accepted n next
+    → (x : Listed) × (network-of x ≡ n) × ReadAs form file (network-of x) next × RowsIn form (rows-listed x)
+unfolding read-network-as behind
+listed-as form file n next s e =
+    let (x, p, r, v) = behind-taken (read-file (network-format-as form) file) (λ x next. unless-fault (network-fault x) (accepted (network-of x) next)) n next e in
+    let (j, t) = fault-taken (network-fault x) (accepted (network-of x) p) n next v in
+    let y : network-of x ≡ n = cc in
+    let z : p ≡ next = cc in
+    let w = file-walks (network-format-as form) file x p s r in
+    let (k, i) = network-walks form 0 (w .numbers) x (w .walk) in
+    let r : ReadAs form file (network-of x) next = record {
+      file-is = w .bytes ∙ ap bytes-of (k ∙ sym (of-numbers x form));
+      end = sym z ∙ w .end ∙ ap length (sym (w .bytes));
+      good = listed-good x form i (none-fault x j);
+      unused = of-blank x;
+    } in
+    (x, y, r, i)
+
+pub read-as : (form : NetworkForm) (file : List ℕ) (n : Network) (next : ℕ) → Bytes file → read-network-as form file ≡ accepted n next → ReadAs form file n next
+read-as form file n next s e = let (x, y, r, i) = listed-as form file n next s e in subst (λ (n : Network). ReadAs form file n next) y r
+
 pub network-trip : NetworkRoundTrip
-unfolding read-network read-network-as behind
+unfolding read-network read-network-as behind network-format network-numbers
 network-trip = record {
   back = λ n g u.
       let e = file-read network-format (network-numbers n) (listing n g u 0) (walks-listing n g u 0) in
       ap (λ (o : Outcome Listed). behind o (λ x next. unless-fault (network-fault x) (accepted (network-of x) next))) e
       ∙ fault-free (network-fault (listing n g u 0)) (accepted (network-of (listing n g u 0)) (span (network-numbers n))) (fault-none (listing n g u 0) (listing-faultless n g u 0))
       ∙ ap (λ (m : Network). accepted m (span (network-numbers n))) (listing-network n g u 0);
-  only = λ file n next s e.
-      let (x, p, r, v) = behind-taken (read-file network-format file) (λ x next. unless-fault (network-fault x) (accepted (network-of x) next)) n next e in
-      let (j, t) = fault-taken (network-fault x) (accepted (network-of x) p) n next v in
-      let y : network-of x ≡ n = cc in
-      let z : p ≡ next = cc in
-      let w = file-walks network-format file x p s r in
-      let (k, i) = network-walks 0 (w .numbers) x (w .walk) in
-      subst (λ (n : Network). NetworkRead file n next) y (record {
-        file-is = w .bytes ∙ ap bytes-of (k ∙ sym (of-numbers x));
-        end = sym z ∙ w .end ∙ ap length (sym (w .bytes));
-        good = listed-good x i (none-fault x j);
-        unused = of-blank x;
-      });
+  only = λ file n next s e. read-as newest file n next s e;
 }
+
+-- the same of the network at the head of a longer file, in the newest form
+pub head-walks : (p : ℕ) (ns : List ℕ) (x : Listed) → walks network-format p ns x → (ns ≡ network-numbers (network-of x)) × RowsIn newest (rows-listed x)
+unfolding network-format network-numbers
+head-walks p ns x w = let (k, i) = network-walks newest p ns x w in (k ∙ sym (of-numbers x newest), i)
 
 -- the input of `shift`
 
@@ -265,13 +283,12 @@ shift-trip = record {
     taken file x next ns w b e j =
         let s = then-walks network-format (λ x. edits-format and-then (λ es. done (input x es))) 0 ns x w in
         let (es, v, q) = made-walks (input (s .value)) edits-format (0 + span (s .before)) (s .behind) x (s .second) in
-        let (k, i) = network-walks 0 (s .before) (s .value) (s .first) in
+        let (y, i) = head-walks 0 (s .before) (s .value) (s .first) in
         let (l, h, t, m) = edits-format-walks (0 + span (s .before)) (s .behind) es v in
-        let y : s .before ≡ network-numbers (network-of (s .value)) = k ∙ sym (of-numbers (s .value)) in
         subst (λ (x : Input). ShiftRead file (shift-of x) next) q (record {
           file-is = b ∙ ap bytes-of (s .whole ∙ ap₂ _++_ y l);
           end = e ∙ ap length (sym b);
-          good = listed-good (s .value) i (subst (λ (x : Input). Faultless (x .listed)) (sym q) j);
+          good = listed-good (s .value) newest i (subst (λ (x : Input). Faultless (x .listed)) (sym q) j);
           unused = of-blank (s .value);
           few = h;
           edits-good = t;

@@ -124,7 +124,7 @@ row-at (r ∷ rs) (n ∷ ns) (x, y) (suc i) h = row-at rs ns y i (omega arith)
 pub record Fields {A : Type 0} (ranges : List Range) (make : List ℕ → A) (numbers : A → List ℕ) (ok : A → Bool) : Type 0 where
   pub written : (ns : List ℕ) → RowIn ranges ns → ns ≡ numbers (make ns)
   pub good : (ns : List ℕ) → RowIn ranges ns → T (ok (make ns))
-  pub back : (a : A) → make (numbers a) ≡ a
+  pub back : (a : A) → T (ok a) → make (numbers a) ≡ a
   pub within : (a : A) → T (ok a) → RowIn ranges (numbers a)
 
 -- each number is in its range, as one test; no range asks for a number that takes four bytes
@@ -154,19 +154,27 @@ tested-row (r ∷ rs) h (n ∷ ns) t = (
   tested-row rs (every-tail (λ (r : Range). ltb (r .hi) 2097152) r rs h) ns (and-r (within (r .lo) (r .hi) n) (row-test rs ns) t),
 )
 
--- so the test of a value and that of its numbers need only be the same tests, put together as they may be
+-- so the test of a value and that of its numbers need only be the same tests, put together as they may be, beside one
+-- that what is made passes and that lets a value be made of its numbers
 module _ {A : Type 0} (ranges : List Range) (make : List ℕ → A) (numbers : A → List ℕ) (ok : A → Bool) (short : T (three-bytes ranges))
-    (written : (ns : List ℕ) → by-index (length ranges) 0 ns ≡ numbers (make ns)) (back : (a : A) → make (numbers a) ≡ a)
-    (tests : (a : A) → ok a ≡ row-test ranges (numbers a)) where
-  pub tested-fields : Fields ranges make numbers ok
-  tested-fields =
-      let whole : (ns : List ℕ) → RowIn ranges ns → ns ≡ numbers (make ns) = λ ns i. row-exact ranges ns i ∙ written ns in
-      record {
-        written = whole;
-        good = λ ns i. subst T (sym (tests (make ns))) (subst (λ (l : List ℕ). T (row-test ranges l)) (whole ns i) (row-tested ranges ns i));
-        back = back;
-        within = λ a t. tested-row ranges short (numbers a) (subst T (tests a) t);
-      }
+    (written : (ns : List ℕ) → by-index (length ranges) 0 ns ≡ numbers (make ns)) where
+  module _ (kept : A → Bool) (keeps : (ns : List ℕ) → T (kept (make ns))) (back : (a : A) → T (kept a) → make (numbers a) ≡ a)
+      (tests : (a : A) → ok a ≡ (kept a && row-test ranges (numbers a))) where
+    pub kept-fields : Fields ranges make numbers ok
+    kept-fields =
+        let whole : (ns : List ℕ) → RowIn ranges ns → ns ≡ numbers (make ns) = λ ns i. row-exact ranges ns i ∙ written ns in
+        record {
+          written = whole;
+          good = λ ns i.
+              subst T (sym (tests (make ns)))
+              (both (kept (make ns)) (row-test ranges (numbers (make ns))) (keeps ns) (subst (λ (l : List ℕ). T (row-test ranges l)) (whole ns i) (row-tested ranges ns i)));
+          back = λ a t. back a (and-l (kept a) (row-test ranges (numbers a)) (subst T (tests a) t));
+          within = λ a t. tested-row ranges short (numbers a) (and-r (kept a) (row-test ranges (numbers a)) (subst T (tests a) t));
+        }
+
+  module _ (back : (a : A) → make (numbers a) ≡ a) (tests : (a : A) → ok a ≡ row-test ranges (numbers a)) where
+    pub tested-fields : Fields ranges make numbers ok
+    tested-fields = kept-fields (λ a. true) (λ ns. tt) (λ a t. back a) tests
 
 pub and-assoc : (a b c : Bool) → ((a && b) && c) ≡ (a && (b && c))
 and-assoc true b c = refl
@@ -182,7 +190,7 @@ and-true false = refl
 module _ {A B : Type 0} {ranges : List Range} {make : List ℕ → A} {numbers : A → List ℕ} {ok : A → Bool} (f : Fields ranges make numbers ok) (g : A → B) where
   pub walks-fields : (floor : List ℕ) (p : ℕ) (a : A) → T (ok a) → Over floor (numbers a) → walks (row ranges floor and-then (λ ns. done (g (make ns)))) p (numbers a) (g a)
   walks-fields floor p a t o =
-      rw (ap g (f .back a)) at
+      rw (ap g (f .back a t)) at
       (walks-made (λ ns. g (make ns)) (row ranges floor) p (numbers a) (numbers a) (walks-row ranges floor p (numbers a) (f .within a t) o))
 
   pub fields-walk : (floor : List ℕ) (p : ℕ) (ns : List ℕ) (b : B) → walks (row ranges floor and-then (λ ns. done (g (make ns)))) p ns b

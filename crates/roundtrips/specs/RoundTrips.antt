@@ -16,8 +16,9 @@ use Rattle.base.specs.Lists.{every}
 use Rattle.numbers.specs.Numbers.{width}
 use Rattle.railway.specs.Edits.{edit-ok}
 use Rattle.network.specs.Networks.{network-refusal}
+use Rattle.timetable.specs.declared.NetworkForm.{NetworkForm}
 use Rattle.timetable.specs.Formats.{accepted, read, bytes-of, Placed}
-use Rattle.timetable.specs.NetworkFile.{network-with, rows-in, read-network, network-numbers}
+use Rattle.timetable.specs.NetworkFile.{newest, network-with, rows-in, read-network, network-numbers-as, network-numbers}
 use Rattle.timetable.specs.EditsFile.{edit-entry, edit-numbers, read-edits, edits-numbers, Shift, read-shift}
 use Rattle.timetable.specs.Machine.{Timetable}
 use Rattle.timetable.specs.Good.{Whole}
@@ -40,16 +41,16 @@ WrittenIsBytes = (ns : List ℕ) → Bytes (bytes-of ns)
 abbrev pub UnusedBlank : Network → Type 0
 UnusedBlank n = network-with (rows-in n) ≡ n
 
--- a network that was read: "A good network is one that 3 and 4 don't refuse."
-pub record NetworkRead (file : List ℕ) (n : Network) (next : ℕ) : Type 0 where
-  pub file-is : file ≡ bytes-of (network-numbers n)
+-- a network that was read from a file of a form: "A good network is one that 3 and 4 don't refuse."
+pub record ReadAs (form : NetworkForm) (file : List ℕ) (n : Network) (next : ℕ) : Type 0 where
+  pub file-is : file ≡ bytes-of (network-numbers-as form n)
   pub end : next ≡ length file
   pub good : network-refusal n ≡ 0
   pub unused : UnusedBlank n
 
 pub record NetworkRoundTrip : Type 0 where
   pub back : (n : Network) → network-refusal n ≡ 0 → UnusedBlank n → read-network (bytes-of (network-numbers n)) ≡ accepted n (length (bytes-of (network-numbers n)))
-  pub only : (file : List ℕ) (n : Network) (next : ℕ) → Bytes file → read-network file ≡ accepted n next → NetworkRead file n next
+  pub only : (file : List ℕ) (n : Network) (next : ℕ) → Bytes file → read-network file ≡ accepted n next → ReadAs newest file n next
 
 -- edits
 

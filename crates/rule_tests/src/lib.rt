@@ -97,7 +97,7 @@ pub fn is_broken(
 {
     match rule {
         1 => stays::breaks_1(v),
-        5 => stays::breaks_5(n, v),
+        5 => stays::breaks_5(n, t, v),
         6 => lines::breaks_6(n, here, t, v),
         11 => closed::breaks_11(n, v),
         _ => is_far_broken(sheet, n, scope, s, rule, t, v),

@@ -8,6 +8,7 @@ use crate::clock;
 use network::LineFound;
 use network::Network;
 use railway::sorts::Line;
+use railway::sorts::Train;
 use railway::visit::OutLink;
 use railway::visit::Outward;
 use railway::visit::Visit;
@@ -187,24 +188,24 @@ pub fn does_depend(interval: u8, v: Visit, w: Visit) -> bool
     false
 }
 
-// The running time is below the least of the link's line.
-fn runs_below(n: Network, o: Outward) -> bool
-    ensures { λ r. ⌜ r ≡ runs-below n o ⌝ }
+// The running time is below the least of the link's line and the train.
+fn runs_below(n: Network, t: Train, o: Outward) -> bool
+    ensures { λ r. ⌜ r ≡ runs-below n t o ⌝ }
 {
     let found = n.line_row(o.line);
     match found {
-        LineFound::Row(row) => o.run < row.least,
+        LineFound::Row(row) => o.run < row.least_time(t),
         LineFound::Nothing => false,
     }
 }
 
-// 5. "Run below the line's least."
-pub fn breaks_5(n: Network, v: Visit) -> bool
-    ensures { λ r. ⌜ r ≡ breaks-5 n v ⌝ }
+// 5. "Run below the line's least."; W3: "The least time is then that of a line and a train, and rule 5 follows it."
+pub fn breaks_5(n: Network, t: Train, v: Visit) -> bool
+    ensures { λ r. ⌜ r ≡ breaks-5 n t v ⌝ }
 {
     let link = v.outward;
     match link {
         OutLink::Nothing => false,
-        OutLink::To(o) => runs_below(n, o),
+        OutLink::To(o) => runs_below(n, t, o),
     }
 }

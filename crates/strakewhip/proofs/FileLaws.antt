@@ -7,10 +7,11 @@ use mathlib.Core.Bool.{Bool, true, false, _&&_}
 use mathlib.Core.List.{List}
 use lib.Dec.{eqb}
 use borrow.Author.Tests.{eq-eqb, ne-eqb}
-use Rattle.timetable.specs.Formats.{Outcome, accepted, refused, number, place-of, value-or, read, read-file, ended}
-use Rattle.timetable.specs.NetworkFile.{blank-network, network-format, network-of, network-fault, unless-fault, read-network-as, read-network}
+use Rattle.timetable.specs.Formats.{Outcome, accepted, refused, number, place-of, value-or}
+use Rattle.timetable.specs.NetworkFile.{newest, blank-network, read-network}
 use Rattle.network_files.specs.Answers.{network-answer}
-use Rattle.fields.proofs.FileRefusals.{Told, behind-told, read-told, ended-told, fault-told}
+use Rattle.fields.proofs.FileRefusals.{Told}
+use Rattle.network_files.proofs.ReadingLaws.{form-told}
 use Rattle.replies.proofs.FileLaws.{Tells, file-refused, file-held}
 use Rattle.strakewhip.specs.Types.{Network, NetworkRead, Reply}
 use Rattle.replies.specs.Replies.{sized, plain, placed, of-outcome, by-file, told, left}
@@ -18,10 +19,8 @@ use Rattle.replies.specs.Replies.{sized, plain, placed, of-outcome, by-file, to
 -- a network file is never refused with 0
 
 network-told : (file : List ℕ) → Told (read-network file)
-unfolding read-network read-network-as read-file
-network-told file =
-    behind-told (ended file (read network-format file 0)) (λ x next. unless-fault (network-fault x) (accepted (network-of x) next))
-    (ended-told file (read network-format file 0) (read-told network-format file 0)) (λ x next. fault-told (network-fault x) (network-of x) next)
+unfolding read-network
+network-told file = form-told newest file
 
 -- a network
 

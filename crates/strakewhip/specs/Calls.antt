@@ -3,10 +3,13 @@
 use Prim.Native.Nat.{ℕ}
 use mathlib.Core.Bool.{Bool, _&&_}
 use mathlib.Core.List.{List}
+use mathlib.Core.Option.{Option, none, some}
 use lib.Dec.{eqb}
 use lib.IntN.{ℤ}
 use lib.ListN.{length}
+use Rattle.base.specs.Choice.{if_then_else_}
 use Rattle.timetable.specs.NetworkFile.{read-network}
+use Rattle.timetable.specs.Turning.{turn-reply, turn-after}
 use Rattle.timetable.specs.Outputs.{output, output-after}
 use Rattle.sheet.specs.Sheets.{divide-refusal, after-divide, merge-refusal, after-merge}
 use Rattle.findings.specs.Lists.{sheet-list, area-list, two-list, sheet-list-refusal, area-list-refusal, two-list-refusal}
@@ -14,9 +17,9 @@ use Rattle.edit_calls.specs.Lists.{run-answer, run-division, run-answers}
 use Rattle.timetable_files.specs.Calls.{read-answer, read-after}
 use Rattle.timetable_writing.specs.Writing.{write-timetable, timetable-written}
 use Rattle.projection.specs.Calls.{project-answer, project-after}
-use Rattle.replies.specs.Replies.{plain, placed, of-reply, of-outcome, by-file, told, left}
+use Rattle.replies.specs.Replies.{plain, placed, of-reply-in, of-reply, of-outcome, by-file, told, left}
 use Rattle.edit_replies.specs.Replies.{named-under, one-reply, one-left, sheet-one-reply, sheet-one-left}
-use Rattle.strakewhip.specs.Types.{Area, Reply}
+use Rattle.strakewhip.specs.Types.{Area, NetworkForm, Reply}
 
 abbrev pub is-sheet : List ℕ → Bool
 is-sheet sheet = eqb (length sheet) 8192
@@ -31,6 +34,20 @@ network-reply network = of-outcome 1 (read-network network)
 
 unfoldable pub names-reply : List ℕ → List ℕ → Reply
 names-reply network edit = by-file (read-network network) (placed 1) (λ n. named-under n edit)
+
+-- turning: the forms that there are, by number; 1 is W1's
+
+abbrev pub form-of : ℕ → Option NetworkForm
+form-of k = if eqb k 1 then some NetworkForm.OneTime else none
+
+-- 3 for a form that there is not
+unfoldable pub turn-told : Option NetworkForm → List ℕ → List ℕ → Reply
+turn-told none file out = plain 3
+turn-told (some form) file out = of-reply-in 1 (turn-reply form file out)
+
+unfoldable pub turn-left : Option NetworkForm → List ℕ → List ℕ → List ℕ
+turn-left none file out = out
+turn-left (some form) file out = turn-after form file out
 
 -- an edit
 
@@ -139,6 +156,6 @@ module _ (network sheet : List ℕ) (s t a : ℕ) (out : List ℤ) where
 
 -- The key ring of this module: `unfolding opened` opens every definition above.
 unfoldable pub opened : Unit {0}
-unfolding network-reply names-reply edit-reply edit-left sheet-edit-reply sheet-edit-left run-reply run-left answers-left divide-reply divide-left merge-reply merge-left findings-reply
+unfolding network-reply names-reply turn-told turn-left edit-reply edit-left sheet-edit-reply sheet-edit-left run-reply run-left answers-left divide-reply divide-left merge-reply merge-left findings-reply
     findings-left area-reply area-left pair-reply pair-left read-reply read-left write-reply write-left project-reply project-left
 opened = tt

@@ -2,6 +2,7 @@
 // of edits and a timetable are the bytes of their files. `rt staticlib strakewhip` writes them to
 // target/staticlib/libstrakewhip.a under the names that they have here; include/strakewhip.h says what each one does.
 mod asking; // a network read; the areas that an edit names
+mod turns; // a network file of an earlier form turned
 mod changes; // an edit, and a list of edits
 mod sheets; // dividing and merging
 mod lists; // findings

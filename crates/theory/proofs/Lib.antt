@@ -16,3 +16,4 @@ pub mod Balance
 pub mod Demand
 pub mod ClosuresAlone
 pub mod StandingAlone
+pub mod FreightAlike

@@ -4,3 +4,4 @@ pub mod Serial
 pub mod Statements
 pub mod Closures
 pub mod Standing
+pub mod Freight

@@ -2,6 +2,7 @@
 use Prim.Native.Nat.{ℕ, zero, suc, _+_, _-_}
 use mathlib.Core.Bool.{Bool, false, _&&_, Bool·beq}
 use mathlib.Core.List.{List, [], _∷_, _++_, flatMap}
+use mathlib.Core.Option.{Option, none, some}
 use lib.Dec.{eqb}
 use lib.IntN.{ℤ, pos, negsuc}
 use lib.ListN.{length}
@@ -21,12 +22,16 @@ use Rattle.timetable.specs.Types.{Station, Train, Line, Minute, InLink, 
 use Rattle.timetable.specs.Types.{Relation, Connection, Plan}
 use Rattle.timetable.specs.Types.{Edit, Place, Prepend, Append, DeleteFirst, DeleteLast}
 use Rattle.timetable.specs.Types.{ReportArrival, ReportDeparture, AddRelation, RemoveRelation, DeleteTrain}
-use Rattle.timetable.specs.Types.{StationRow, LineRow, Closure, Network, Answer, Finding, Row, Tally}
+use Rattle.timetable.specs.Types.{StationRow, LineRow, Closure, Network, NetworkForm, Answer, Finding, Row, Tally}
 use Rattle.timetable.specs.Refusals as Refusals
 use Rattle.timetable.specs.Formats as Formats
 use Rattle.timetable.specs.Formats.{Outcome, accepted, refused, Placed}
 use Rattle.timetable.specs.NetworkFile as NetworkFile
 use Rattle.timetable.specs.NetworkFile.{network-with, network-numbers, read-network}
+use Rattle.timetable.specs.Outputs as Outputs
+use Rattle.timetable.specs.Outputs.{Reply}
+use Rattle.timetable.specs.Turning as Turning
+use Rattle.timetable.specs.Turning.{turn-reply, turn-after}
 use Rattle.timetable.specs.EditsFile as EditsFile
 use Rattle.timetable.specs.EditsFile.{Shift, edits-numbers, read-edits, read-shift}
 use Rattle.timetable.specs.TimetableFile as TimetableFile
@@ -112,8 +117,12 @@ pair a d = record { arriver = tr a; departer = tr d }
 unfoldable pub station : ℕ → ℕ → ℕ → StationRow
 station s a k = record { station = st s; area = record { 0 = a }; tracks = k }
 
+-- with its two least times; with both the same
+unfoldable pub timed-line : ℕ → ℕ → ℕ → ℕ → ℕ → ℕ → ℕ → LineRow
+timed-line l a b k p f c = record { line = ln l; first = st a; second = st b; kind = k; passenger = p; freight = f; capacity = c }
+
 unfoldable pub line : ℕ → ℕ → ℕ → ℕ → ℕ → ℕ → LineRow
-line l a b k r c = record { line = ln l; first = st a; second = st b; kind = k; least = r; capacity = c }
+line l a b k r c = timed-line l a b k r r c
 
 unfoldable pub network : List StationRow → ℕ → List LineRow → Network
 network ss h ls = network-with (record { stations = ss; headway = h; lines = ls; closures = [] })
@@ -133,6 +142,10 @@ closed cs = closed-lines (line 1 1 2 3 10 1 ∷ []) cs
 unfoldable pub windows : ℕ → List Closure
 windows zero = []
 windows (suc k) = windows k ++ (closure 1 k (suc k) ∷ [])
+
+-- the listing's stations, and a line between them with two least times
+unfoldable pub timed : ℕ → ℕ → Network
+timed p f = network (station 1 1 2 ∷ station 2 2 1 ∷ []) 3 (timed-line 1 1 2 3 p f 1 ∷ [])
 
 -- the network of the listing: `2, 1 1 2, 2 2 1, 3, 1, 1 1 2 3 10 1`
 unfoldable pub with-capacity : ℕ → Network
@@ -213,6 +226,8 @@ pub data Case : Type 0 where
   unread : List ℕ → ℕ → Case
   -- what reading a file gives: 0, the place behind it and the numbers of what was read; or the refusal and its place
   network-file : List ℕ → List ℕ → Case
+  -- turning a file of W1's form into a buffer: the answer's number and what comes along, and the buffer afterwards
+  turning : List ℕ → List ℕ → List ℕ → List ℕ → Case
   edits-file : List ℕ → List ℕ → Case
   shift-file : List ℕ → List ℕ → Case
   timetable-file : Network → List ℕ → List ℕ → Case
@@ -278,10 +293,19 @@ placed-edits p = p .place ∷ edits-numbers (p .entry)
 unfoldable pub shift-numbers : Shift → List ℕ
 shift-numbers x = network-numbers (x .network) ++ placed-edits (x .edits)
 
+unfoldable pub along : Option ℕ → List ℕ
+along none = []
+along (some k) = k ∷ []
+
+unfoldable pub reply-numbers : Reply → List ℕ
+reply-numbers r = r .number ∷ (along (r .place) ++ along (r .size))
+
 unfoldable pub passes : Case → Bool
 passes (bytes n bs) = same (write-number n) bs && reads-as n (length bs) (read-number bs)
 passes (unread bs k) = reads-refused k (read-number bs)
 passes (network-file bs ks) = same ks (outcome-numbers network-numbers (read-network bs))
+passes (turning bs out ks left) =
+    same ks (reply-numbers (turn-reply NetworkForm.OneTime bs out)) && same left (turn-after NetworkForm.OneTime bs out)
 passes (edits-file bs ks) = same ks (outcome-numbers placed-edits (read-edits bs))
 passes (shift-file bs ks) = same ks (outcome-numbers shift-numbers (read-shift bs))
 passes (timetable-file n bs ks) = same ks (outcome-numbers (timetable-numbers n) (read-timetable n bs))
@@ -307,10 +331,10 @@ failing k (c ∷ cs) = if passes c then failing (suc k) cs else k ∷ failing (s
 
 -- The key ring of this module and of all that it computes with.
 unfoldable pub opened : Unit {0}
-unfolding st tr ln at plan place prepend append delete-first delete-last arrives departs relate unrelate delete-train four two pair station line network closure closed-lines closed windows
-    with-capacity net branch leaving inbound crowd connections visiting by to tabled standing bare counted told run-of listed-edits
-    outcome-numbers placed-edits shift-numbers reads-as reads-refused lists answer-numbers signed row-numbers each-before passes failing
+unfolding st tr ln at plan place prepend append delete-first delete-last arrives departs relate unrelate delete-train four two pair station timed-line line network closure closed-lines closed windows
+    timed with-capacity net branch leaving inbound crowd connections visiting by to tabled standing bare counted told run-of listed-edits
+    outcome-numbers placed-edits shift-numbers reads-as reads-refused lists answer-numbers signed row-numbers each-before along reply-numbers passes failing
     Lists.opened Runs.opened Numbers.opened Relations.opened Edits.opened Networks.opened
-    Refusals.opened Formats.opened NetworkFile.opened EditsFile.opened TimetableFile.opened Pieces.opened
+    Refusals.opened Formats.opened NetworkFile.opened Outputs.opened Turning.opened EditsFile.opened TimetableFile.opened Pieces.opened
     Visits.opened Tables.opened Machine.opened Groups.opened Good.opened Rules.opened Findings.opened Projection.opened Count.opened Listing.opened
 opened = tt

@@ -4,18 +4,19 @@ use Prim.Native.Nat.{_+_, _-_}
 use mathlib.Core.Path.{_≡_, refl}
 use mathlib.Core.Bool.{true, false}
 use mathlib.Core.List.{List, [], _∷_, _++_}
+use lib.ListN.{replicate}
 use Rattle.timetable.specs.Types.{Connection, Disconnection, Dependency, InLink, OutLink, Amend}
 use Rattle.timetable.specs.Findings.{finding}
 use Rattle.timetable.specs.Machine.{nothing-placed}
 use Rattle.timetable.specs.Formats.{bytes-of}
-use Rattle.timetable.specs.Pieces.{cut, size, station-row, line-row, up-to-lines, network-row, one-station, headway-place, joined-by, first-line, second-line, closure-row, up-to-closures, closed-row, closed-by, first-closure, second-closure, two-stations}
+use Rattle.timetable.specs.Pieces.{cut, size, station-row, timed-row, line-row, old-row, up-to-lines, network-row, one-station, headway-place, joined-by, first-line, second-line, closure-row, up-to-closures, closed-row, closed-by, first-closure, second-closure, old-file, old-second, old-closure, two-stations}
 use Rattle.timetable.specs.Pieces.{net-numbers, loop-numbers, listed-numbers, each-kind, crowd-visits, connected}
 use Rattle.timetable.specs.Cases as Cases
 use Rattle.timetable.specs.Cases.{st, plan, place, prepend, append, delete-first, delete-last, arrives, departs, relate, unrelate, delete-train}
-use Rattle.timetable.specs.Cases.{four, two, pair, station, line, network, closure, closed-lines, closed, windows, with-capacity, net, branch, leaving, inbound, crowd, connections}
+use Rattle.timetable.specs.Cases.{four, two, pair, station, line, network, closure, closed-lines, closed, windows, timed, with-capacity, net, branch, leaving, inbound, crowd, connections}
 use Rattle.timetable.specs.Cases.{visiting, by, to, tabled, standing, bare, counted, told}
 use Rattle.timetable.specs.Cases.{Case, bytes, unread, found, stands, related, answered, answered-on, ordered, network-is, naming, table-is}
-use Rattle.timetable.specs.Cases.{network-file, edits-file, shift-file, timetable-file}
+use Rattle.timetable.specs.Cases.{network-file, turning, edits-file, shift-file, timetable-file}
 use Rattle.timetable.specs.Cases.{area-has, pair-has, projected, tallied, printed, failing, run-of, listed-edits}
 
 -- document 01, "Examples on the edges" and "A run of the program `shift`"
@@ -347,7 +348,7 @@ files =
     ∷ network-file (bytes-of (up-to-lines (station-row 1 300 8 ∷ []) 3 33)) (3 ∷ 2 ∷ [])
     ∷ network-file (bytes-of (joined-by (line-row 1 1 2 4 10 1 ∷ []))) (3 ∷ (first-line + 3) ∷ [])
     ∷ network-file (bytes-of (joined-by (line-row 1 1 2 3 241 1 ∷ []))) (3 ∷ (first-line + 4) ∷ [])
-    ∷ network-file (bytes-of (joined-by (line-row 1 1 2 3 240 10 ∷ []))) (3 ∷ (first-line + 6) ∷ [])
+    ∷ network-file (bytes-of (joined-by (line-row 1 1 2 3 240 10 ∷ []))) (3 ∷ (first-line + 8) ∷ [])
     ∷ network-file (bytes-of (joined-by (line-row 1 17 2 3 10 1 ∷ []))) (3 ∷ (first-line + 1) ∷ [])
     -- stations in falling order, equal ones; lines likewise
     ∷ network-file (bytes-of (network-row (station-row 2 1 2 ∷ station-row 1 2 1 ∷ []) 3 (line-row 1 1 2 3 10 1 ∷ []))) (3 ∷ 4 ∷ [])
@@ -362,7 +363,7 @@ files =
     ∷ network-file (bytes-of (joined-by (line-row 1 3 1 3 10 1 ∷ []))) (4 ∷ first-line ∷ [])
     ∷ network-file (bytes-of (joined-by (line-row 1 1 2 3 10 1 ∷ line-row 2 3 1 3 10 1 ∷ []))) (4 ∷ second-line ∷ [])
     ∷ network-file (bytes-of (joined-by (line-row 1 1 1 3 10 1 ∷ line-row 2 3 1 3 10 1 ∷ []))) (4 ∷ first-line ∷ [])
-    ∷ network-file (bytes-of (joined-by (line-row 1 1 1 3 10 1 ∷ line-row 2 1 2 3 10 10 ∷ []))) (3 ∷ (second-line + 5) ∷ [])
+    ∷ network-file (bytes-of (joined-by (line-row 1 1 1 3 10 1 ∷ line-row 2 1 2 3 10 10 ∷ []))) (3 ∷ (second-line + 6) ∷ [])
     ∷ network-file (bytes-of (loop-numbers ++ (0 ∷ []))) (1 ∷ size loop-numbers ∷ [])
     -- edits: one of each kind, none, too many, kinds
     ∷ edits-file (bytes-of each-kind) (0 ∷ size each-kind ∷ 1 ∷ each-kind)
@@ -564,9 +565,50 @@ standing-trains =
     ∷ found net (place 1 7 1 100 102 ∷ place 1 8 1 103 104 ∷ departs 1 7 102 ∷ []) (finding (st 1) 2 7 8) false
     ∷ []
 
+-- document 02, W3
+pub freight : List Case
+freight =
+    -- the border: a run between the two times, both orders of them
+    found (timed 10 15) (leaving 4999 102 12) (finding (st 1) 5 4999 0) false
+    ∷ found (timed 10 15) (leaving 5000 102 12) (finding (st 1) 5 5000 0) true
+    ∷ found (timed 15 10) (leaving 4999 102 12) (finding (st 1) 5 4999 0) true
+    ∷ found (timed 15 10) (leaving 5000 102 12) (finding (st 1) 5 5000 0) false
+    -- the least time itself is no fault; the last train is freight
+    ∷ found (timed 10 15) (leaving 5000 102 15) (finding (st 1) 5 5000 0) false
+    ∷ found (timed 10 15) (leaving 9999 102 14) (finding (st 1) 5 9999 0) true
+    ∷ found (timed 10 15) (leaving 4999 102 9) (finding (st 1) 5 4999 0) true
+    -- ranges of both, in memory and in a file, where passenger comes first
+    ∷ network-is (timed 0 10) 3
+    ∷ network-is (timed 10 0) 3
+    ∷ network-is (timed 241 10) 3
+    ∷ network-is (timed 10 241) 3
+    ∷ network-is (timed 240 1) 0
+    ∷ network-file (bytes-of (joined-by (timed-row 1 1 2 3 0 10 1 ∷ []))) (3 ∷ (first-line + 4) ∷ [])
+    ∷ network-file (bytes-of (joined-by (timed-row 1 1 2 3 10 241 1 ∷ []))) (3 ∷ (first-line + 5) ∷ [])
+    ∷ network-file (bytes-of (joined-by (timed-row 1 1 2 3 10 15 1 ∷ []))) (0 ∷ size (joined-by (timed-row 1 1 2 3 10 15 1 ∷ [])) ∷ joined-by (timed-row 1 1 2 3 10 15 1 ∷ []))
+    -- a turned file, byte for byte; "a longer one keeps its rest"
+    ∷ turning (2 ∷ 1 ∷ 1 ∷ 2 ∷ 2 ∷ 2 ∷ 1 ∷ 3 ∷ 1 ∷ 1 ∷ 1 ∷ 2 ∷ 3 ∷ 10 ∷ 1 ∷ 1 ∷ 1 ∷ 5 ∷ 6 ∷ []) (replicate 21 99) (0 ∷ 20 ∷ [])
+    (2 ∷ 1 ∷ 1 ∷ 2 ∷ 2 ∷ 2 ∷ 1 ∷ 3 ∷ 1 ∷ 1 ∷ 1 ∷ 2 ∷ 3 ∷ 10 ∷ 10 ∷ 1 ∷ 1 ∷ 1 ∷ 5 ∷ 6 ∷ 99 ∷ [])
+    -- a buffer that is just long enough, one that is too short, none
+    ∷ turning (old-file (old-row 1 1 2 3 240 1 ∷ []) []) (replicate 19 99) (0 ∷ 19 ∷ []) (bytes-of (joined-by (line-row 1 1 2 3 240 1 ∷ [])))
+    ∷ turning (old-file (old-row 1 1 2 3 240 1 ∷ []) []) (replicate 18 99) (13 ∷ 19 ∷ []) (replicate 18 99)
+    ∷ turning (old-file [] []) [] (13 ∷ 10 ∷ []) []
+    -- refused, with the place in the old file: 3, 14, 4 of a line and of a closure, 2, 1 at a surplus byte
+    ∷ turning (old-file (old-row 1 1 2 3 240 1 ∷ old-row 2 1 2 3 10 10 ∷ []) []) (replicate 99 0) (3 ∷ (old-second + 5) ∷ []) (replicate 99 0)
+    ∷ turning (old-file (old-row 1 1 2 3 10 1 ∷ []) (closure-row 1 6 6 ∷ [])) (replicate 99 0) (14 ∷ old-closure ∷ []) (replicate 99 0)
+    ∷ turning (old-file (old-row 1 1 2 3 240 1 ∷ old-row 2 1 1 3 10 1 ∷ []) []) (replicate 99 0) (4 ∷ old-second ∷ []) (replicate 99 0)
+    ∷ turning (old-file (old-row 1 1 2 3 10 1 ∷ []) (closure-row 2 5 6 ∷ [])) (replicate 99 0) (4 ∷ old-closure ∷ []) (replicate 99 0)
+    ∷ turning (128 ∷ 0 ∷ []) [] (2 ∷ 0 ∷ []) []
+    ∷ turning (old-file [] [] ++ (0 ∷ [])) (replicate 99 0) (1 ∷ 10 ∷ []) (replicate 99 0)
+    -- document 01's form has no closures: it ends early
+    ∷ turning (bytes-of (cut (closed-row two-stations 3 (old-row 1 1 2 3 10 1 ∷ []) []))) (replicate 99 0) (1 ∷ 15 ∷ []) (replicate 99 0)
+    -- the newest form is not W1's: its time of freight stands where a capacity is read
+    ∷ turning (bytes-of net-numbers) (replicate 99 0) (3 ∷ (first-line + 5) ∷ []) (replicate 99 0)
+    ∷ []
+
 pub table : List Case
-unfolding document ranges edits rules relations others files closures standing-trains
-table = document ++ (ranges ++ (edits ++ (rules ++ (relations ++ (others ++ (files ++ (closures ++ standing-trains)))))))
+unfolding document ranges edits rules relations others files closures standing-trains freight
+table = document ++ (ranges ++ (edits ++ (rules ++ (relations ++ (others ++ (files ++ (closures ++ (standing-trains ++ freight))))))))
 
 pub examples-hold : failing 1 table ≡ []
 unfolding table Cases.opened

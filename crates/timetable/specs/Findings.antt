@@ -81,7 +81,7 @@ rules n s here =
     ∷ of-two breaks-2
     ∷ of-two (breaks-3 (n .headway))
     ∷ of-relation (λ r. not (met here r))
-    ∷ of-one (λ t. breaks-5 n (t .visit)) unused
+    ∷ of-one (λ t. breaks-5 n (t .train) (t .visit)) unused
     ∷ of-one (breaks-6 n (here .visits)) unused
     ∷ of-out (λ there t o. not (out-answered s (t .train) o there))
     ∷ of-in (λ there t i. not (in-answered s (t .train) i there))

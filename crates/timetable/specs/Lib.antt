@@ -7,6 +7,7 @@ pub mod Tables
 pub mod Machine
 pub mod Groups
 pub mod NetworkFile
+pub mod Turning
 pub mod EditsFile
 pub mod Good
 pub mod TimetableFile

@@ -1,8 +1,9 @@
 -- The network file. Document 01, "Files": "Network: station count, stations rising, headway, line count, lines rising,
 -- fields as listed; rising is strict, for stations and lines by their number alone." Document 02, W1: "Up to 32
--- closures, with their count before them, stand in each file right after its network, rising by line and start".
--- Assumes nothing.
-use Prim.Native.Nat.{ℕ, _-_}
+-- closures, with their count before them, stand in each file right after its network, rising by line and start". W3:
+-- "Each line gets two [least running times], passenger first, in the network file in place of the one." A file has a
+-- form; what is written has the newest. Assumes nothing.
+use Prim.Native.Nat.{ℕ, _+_, _-_}
 use mathlib.Core.Bool.{not}
 use mathlib.Core.List.{List, [], _∷_, _++_, map, flatMap}
 use mathlib.Core.Option.{Option, none, some}
@@ -12,7 +13,7 @@ use Rattle.base.specs.Choice.{if_then_else_}
 use Rattle.base.specs.Lists.{first}
 use Rattle.railway.specs.Ranges.{last-minute, last-end}
 use Rattle.network.specs.Networks.{blank-station, blank-line, blank-closure, station-rows, line-rows, closure-rows, ends-after, ends-listed, line-listed}
-use Rattle.timetable.specs.Types.{StationRow, LineRow, Closure, Network, Fault}
+use Rattle.timetable.specs.Types.{StationRow, LineRow, Closure, Network, NetworkForm, Fault}
 use Rattle.timetable.specs.Formats.{Format, done, field, _and-then_, Outcome, accepted, refused, behind, read-file, Range, _to_, row, entries, Placed, placed}
 
 -- rows
@@ -30,28 +31,44 @@ station-numbers r = r .station .0 ∷ r .area .0 ∷ r .tracks ∷ []
 unfoldable pub station-entry : List ℕ → Format StationRow
 station-entry floor = row station-ranges floor and-then (λ ns. done (station-of ns))
 
--- "lines (number, first station, second station, kind, least running time, capacity 1..9)"
-unfoldable pub line-ranges : List Range
-line-ranges = 1 to 32 ∷ 1 to 16 ∷ 1 to 16 ∷ 1 to 3 ∷ 1 to 240 ∷ 1 to 9 ∷ []
+-- the form that is written
+abbrev pub newest : NetworkForm
+newest = NetworkForm.TwoTimes
 
-unfoldable pub line-of : List ℕ → LineRow
-line-of ns = record {
+-- "lines (number, first station, second station, kind, least running time, capacity 1..9)"; W3: two least times
+unfoldable pub line-ranges : NetworkForm → List Range
+line-ranges NetworkForm.OneTime = 1 to 32 ∷ 1 to 16 ∷ 1 to 16 ∷ 1 to 3 ∷ 1 to 240 ∷ 1 to 9 ∷ []
+line-ranges NetworkForm.TwoTimes = 1 to 32 ∷ 1 to 16 ∷ 1 to 16 ∷ 1 to 3 ∷ 1 to 240 ∷ 1 to 240 ∷ 1 to 9 ∷ []
+
+-- which of the numbers is the time of freight, the capacity behind it: "giving both times the old number"
+abbrev pub freight-at : NetworkForm → ℕ
+freight-at NetworkForm.OneTime = 4
+freight-at NetworkForm.TwoTimes = 5
+
+unfoldable pub line-of : NetworkForm → List ℕ → LineRow
+line-of form ns = record {
   line = record { 0 = getD ns 0 0 };
   first = record { 0 = getD ns 1 0 };
   second = record { 0 = getD ns 2 0 };
   kind = getD ns 3 0;
-  least = getD ns 4 0;
-  capacity = getD ns 5 0;
+  passenger = getD ns 4 0;
+  freight = getD ns (freight-at form) 0;
+  capacity = getD ns (freight-at form + 1) 0;
 }
 
-unfoldable pub line-numbers : LineRow → List ℕ
-line-numbers r = r .line .0 ∷ r .first .0 ∷ r .second .0 ∷ r .kind ∷ r .least ∷ r .capacity ∷ []
+-- the least times of a row as they stand in a file; one stands for both
+unfoldable pub times : NetworkForm → LineRow → List ℕ
+times NetworkForm.OneTime r = r .passenger ∷ []
+times NetworkForm.TwoTimes r = r .passenger ∷ r .freight ∷ []
 
-unfoldable pub line-fields : List ℕ → Format LineRow
-line-fields floor = row line-ranges floor and-then (λ ns. done (line-of ns))
+unfoldable pub line-numbers : NetworkForm → LineRow → List ℕ
+line-numbers form r = r .line .0 ∷ r .first .0 ∷ r .second .0 ∷ r .kind ∷ (times form r ++ (r .capacity ∷ []))
 
-unfoldable pub line-entry : List ℕ → Format (Placed LineRow)
-line-entry floor = placed (line-fields floor)
+unfoldable pub line-fields : NetworkForm → List ℕ → Format LineRow
+line-fields form floor = row (line-ranges form) floor and-then (λ ns. done (line-of form ns))
+
+unfoldable pub line-entry : NetworkForm → List ℕ → Format (Placed LineRow)
+line-entry form floor = placed (line-fields form floor)
 
 -- W1: line, start, end; "starts are 0..2879, ends 1..2880"
 unfoldable pub closure-ranges : List Range
@@ -99,8 +116,8 @@ closure-floor c = c .entry .line .0 ∷ c .entry .start .0 ∷ []
 unfoldable pub stations-format : ℕ → Format (List StationRow)
 stations-format k = entries station-entry station-floor k (0 ∷ [])
 
-unfoldable pub lines-format : ℕ → Format (List (Placed LineRow))
-lines-format k = entries line-entry line-floor k (0 ∷ [])
+unfoldable pub lines-format : NetworkForm → ℕ → Format (List (Placed LineRow))
+lines-format form k = entries (line-entry form) line-floor k (0 ∷ [])
 
 unfoldable pub closures-format : ℕ → Format (List (Placed Closure))
 closures-format k = entries closure-entry closure-floor k (0 ∷ 0 ∷ [])
@@ -113,20 +130,23 @@ closures-part ss h ls m = closures-format m and-then (λ cs. done (record { stat
 unfoldable pub closure-count-part : List StationRow → ℕ → List (Placed LineRow) → Format Listed
 closure-count-part ss h ls = field 0 32 (λ m. closures-part ss h ls m)
 
-unfoldable pub lines-part : List StationRow → ℕ → ℕ → Format Listed
-lines-part ss h m = lines-format m and-then (λ ls. closure-count-part ss h ls)
+unfoldable pub lines-part : NetworkForm → List StationRow → ℕ → ℕ → Format Listed
+lines-part form ss h m = lines-format form m and-then (λ ls. closure-count-part ss h ls)
 
-unfoldable pub count-part : List StationRow → ℕ → Format Listed
-count-part ss h = field 0 32 (λ m. lines-part ss h m)
+unfoldable pub count-part : NetworkForm → List StationRow → ℕ → Format Listed
+count-part form ss h = field 0 32 (λ m. lines-part form ss h m)
 
-unfoldable pub headway-part : List StationRow → Format Listed
-headway-part ss = field 1 30 (λ h. count-part ss h)
+unfoldable pub headway-part : NetworkForm → List StationRow → Format Listed
+headway-part form ss = field 1 30 (λ h. count-part form ss h)
 
-unfoldable pub stations-part : ℕ → Format Listed
-stations-part k = stations-format k and-then (λ ss. headway-part ss)
+unfoldable pub stations-part : NetworkForm → ℕ → Format Listed
+stations-part form k = stations-format k and-then (λ ss. headway-part form ss)
+
+unfoldable pub network-format-as : NetworkForm → Format Listed
+network-format-as form = field 1 16 (λ k. stations-part form k)
 
 unfoldable pub network-format : Format Listed
-network-format = field 1 16 (λ k. stations-part k)
+network-format = network-format-as newest
 
 -- a network of these rows, the rows that are not used blank
 unfoldable pub network-with : Rows → Network
@@ -197,24 +217,27 @@ under network own both =
     if eqb network 3 then refused 3 0
     else behind own (λ x next. unless-fault (record { number = network; place = 0 }) (both x next))
 
--- by a form that is named: an older one is another format of the same parts
-unfoldable pub read-network-as : Format Listed → List ℕ → Outcome Network
-read-network-as form file = behind (read-file form file) (λ x next. unless-fault (network-fault x) (accepted (network-of x) next))
+-- by a form that is named
+unfoldable pub read-network-as : NetworkForm → List ℕ → Outcome Network
+read-network-as form file = behind (read-file (network-format-as form) file) (λ x next. unless-fault (network-fault x) (accepted (network-of x) next))
 
 unfoldable pub read-network : List ℕ → Outcome Network
-read-network file = read-network-as network-format file
+read-network file = read-network-as newest file
 
--- writing
-unfoldable pub network-numbers : Network → List ℕ
-network-numbers n =
+-- writing, in the newest form
+unfoldable pub network-numbers-as : NetworkForm → Network → List ℕ
+network-numbers-as form n =
     n .stationcount ∷ (flatMap station-numbers (station-rows n)
-    ++ (n .headway ∷ n .linecount ∷ (flatMap line-numbers (line-rows n)
+    ++ (n .headway ∷ n .linecount ∷ (flatMap (line-numbers form) (line-rows n)
     ++ (n .closurecount ∷ flatMap closure-numbers (closure-rows n)))))
+
+unfoldable pub network-numbers : Network → List ℕ
+network-numbers n = network-numbers-as newest n
 
 -- The key ring of this module: `unfolding opened` opens every definition above.
 unfoldable pub opened : Unit {0}
-unfolding station-ranges station-of station-numbers station-entry line-ranges line-of line-numbers line-fields line-entry closure-ranges closure-of closure-numbers
+unfolding station-ranges station-of station-numbers station-entry line-ranges line-of times line-numbers line-fields line-entry closure-ranges closure-of closure-numbers
     closure-fields closure-entry station-floor line-floor closure-floor stations-format lines-format closures-format
-    closures-part closure-count-part lines-part count-part headway-part stations-part network-format network-with rows-in rows-listed network-of
-    blank-network unended unjoined unlisted fault-of or-fault network-fault unless-fault under read-network-as read-network network-numbers
+    closures-part closure-count-part lines-part count-part headway-part stations-part network-format-as network-format network-with rows-in rows-listed network-of
+    blank-network unended unjoined unlisted fault-of or-fault network-fault unless-fault under read-network-as read-network network-numbers-as network-numbers
 opened = tt

@@ -24,6 +24,10 @@ written k = record { number = 0; place = none; size = some k }
 abbrev pub refused : ℕ → Reply
 refused k = record { number = k; place = none; size = none }
 
+-- refused with a number and its place in a file
+abbrev pub refused-at : ℕ → ℕ → Reply
+refused-at k p = record { number = k; place = some p; size = none }
+
 -- "its needed length comes along"
 abbrev pub needed : ℕ → Reply
 needed k = record { number = 13; place = none; size = some k }

@@ -21,9 +21,16 @@ size ns = length (bytes-of ns)
 unfoldable pub station-row : ℕ → ℕ → ℕ → List ℕ
 station-row s a k = s ∷ a ∷ k ∷ []
 
--- number, first station, second station, kind, least running time, capacity
+-- number, first station, second station, kind, least running times of passenger trains and of freight, capacity; with
+-- both times the same; in W1's form, with one
+unfoldable pub timed-row : ℕ → ℕ → ℕ → ℕ → ℕ → ℕ → ℕ → List ℕ
+timed-row l a b k p f c = l ∷ a ∷ b ∷ k ∷ p ∷ f ∷ c ∷ []
+
 unfoldable pub line-row : ℕ → ℕ → ℕ → ℕ → ℕ → ℕ → List ℕ
-line-row l a b k r c = l ∷ a ∷ b ∷ k ∷ r ∷ c ∷ []
+line-row l a b k r c = timed-row l a b k r r c
+
+unfoldable pub old-row : ℕ → ℕ → ℕ → ℕ → ℕ → ℕ → List ℕ
+old-row l a b k r c = l ∷ a ∷ b ∷ k ∷ r ∷ c ∷ []
 
 -- station count, stations, headway, line count
 unfoldable pub up-to-lines : List (List ℕ) → ℕ → ℕ → List ℕ
@@ -79,6 +86,17 @@ first-closure = size (up-to-closures two-stations 3 (line-row 1 1 2 3 10 1 ∷ [
 
 unfoldable pub second-closure : ℕ
 second-closure = first-closure + size (closure-row 1 100 110)
+
+-- in W1's form: the listing's stations with some lines and closures; the place of the second line behind a first that
+-- takes seven bytes, and of the first closure
+unfoldable pub old-file : List (List ℕ) → List (List ℕ) → List ℕ
+old-file ls cs = bytes-of (closed-row two-stations 3 ls cs)
+
+unfoldable pub old-second : ℕ
+old-second = first-line + size (old-row 1 1 2 3 240 1)
+
+unfoldable pub old-closure : ℕ
+old-closure = size (up-to-closures two-stations 3 (old-row 1 1 2 3 10 1 ∷ []) 1)
 
 -- edits: the kind, then the fields
 
@@ -138,6 +156,6 @@ connected from (suc k) = 1 ∷ 1 ∷ from ∷ 2 ∷ 7 ∷ 8 ∷ connected (suc f
 
 -- The key ring of this module: `unfolding opened` opens every definition above.
 unfoldable pub opened : Unit {0}
-unfolding all cut size station-row line-row up-to-lines closure-row up-to-closures closed-row network-row one-station headway-place two-stations joined-by first-line second-line net-numbers loop-numbers closed-by first-closure second-closure
+unfolding all cut size station-row timed-row line-row old-row up-to-lines closure-row up-to-closures closed-row network-row one-station headway-place two-stations joined-by first-line second-line net-numbers loop-numbers closed-by first-closure second-closure old-file old-second old-closure
     plan-row extension-row report-row edit-row listed-numbers each-kind crowd-visits connected flatMap
 opened = tt

@@ -1,5 +1,5 @@
--- The rules of document 01, "Findings", and of document 02, W1 and W2, one by one, as tests of visits and tables. t and
--- u are the trains, v and w their visits; `here` is the table of s, `there` that of the far station. Assumes nothing.
+-- The rules of document 01, "Findings", and of document 02, W1 to W3, one by one, as tests of visits and tables. t and u
+-- are the trains, v and w their visits; `here` is the table of s, `there` that of the far station. Assumes nothing.
 use Prim.Native.Nat.{ℕ, _+_, min, max}
 use mathlib.Core.Bool.{Bool, true, not, _&&_, _||_}
 use mathlib.Core.List.{List, map}
@@ -10,7 +10,7 @@ use Rattle.base.specs.Choice.{if_then_else_}
 use Rattle.base.specs.Lists.{any, every, keep, is, each-two}
 use Rattle.railway.specs.Ranges.{same-station, same-train, same-track, same-line}
 use Rattle.railway.specs.Relations.{used}
-use Rattle.network.specs.Networks.{line-row, closure-rows}
+use Rattle.network.specs.Networks.{line-row, least-time, closure-rows}
 use Rattle.timetable.specs.Types.{Station, Train, Inward, Outward, OutLink, Visit, Relation, Connection, Disconnection, Dependency, LineRow, Closure, Network}
 use Rattle.timetable.specs.Visits.{arr, dep, stops, leaves, comes-from, leaves-to}
 use Rattle.timetable.specs.Tables.{Entry, Table, visit-of}
@@ -70,9 +70,9 @@ met tab (Connection i ts) = every (λ t. is stops (visit-of t tab)) (used ts) &&
 met tab (Disconnection i ts) = every (λ t. is (λ v. true) (visit-of t tab)) (used ts) && each-two (both-visit (disconnected i) tab) (used ts)
 met tab (Dependency i p) = both-visit (depends i) tab (p .arriver) (p .departer)
 
--- 5. "Run below the line's least."
-unfoldable pub breaks-5 : Network → Visit → Bool
-breaks-5 n = leaves (λ o. is (λ r. ltb (o .run) (r .least)) (line-row n (o .line)))
+-- 5. "Run below the line's least."; W3: "The least time is then that of a line and a train, and rule 5 follows it."
+unfoldable pub breaks-5 : Network → Train → Visit → Bool
+breaks-5 n t = leaves (λ o. is (λ r. ltb (o .run) (least-time r t)) (line-row n (o .line)))
 
 -- departure + run
 unfoldable pub due : Visit → Outward → ℕ

@@ -41,6 +41,14 @@ pub enum Output {
     TooShort(usize),
 }
 
+// The forms of a network file, by what a line's row has; a later one is one more case.
+pub enum NetworkForm {
+    // W1's: one least running time.
+    OneTime,
+    // The newest: two, of passenger trains and of freight.
+    TwoTimes,
+}
+
 // What only the whole of a file shows, by document 01's number and the place of its entry's first byte; number 0 where
 // there is none.
 pub struct Fault {

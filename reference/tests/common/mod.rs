@@ -2,11 +2,11 @@
 
 use reference::number;
 
-/// Two stations in two areas with two tracks, headway 3, one either-way line of least run 10 and capacity 1; the count of
-/// closures is to follow.
-pub const NETWORK: &[u32] = &[2, 1, 1, 2, 2, 2, 2, 3, 1, 1, 1, 2, 3, 10, 1];
+/// Two stations in two areas with two tracks, headway 3, one either-way line of least run 10 for passenger and freight
+/// trains and of capacity 1; the count of closures is to follow.
+pub const NETWORK: &[u32] = &[2, 1, 1, 2, 2, 2, 2, 3, 1, 1, 1, 2, 3, 10, 10, 1];
 /// The same with one station, at which both ends of the line are; the line begins at byte 6.
-pub const LOOSE: &[u32] = &[1, 1, 1, 1, 3, 1, 1, 1, 1, 3, 10, 1];
+pub const LOOSE: &[u32] = &[1, 1, 1, 1, 3, 1, 1, 1, 1, 3, 10, 10, 1];
 
 pub fn file(numbers: &[u32]) -> Vec<u8> {
     let mut bytes = Vec::new();

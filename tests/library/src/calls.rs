@@ -3,7 +3,7 @@
 use crate::model;
 use std::collections::{BTreeMap, BTreeSet};
 use strakewhip::raw::{self, Reply};
-use strakewhip::{Error, File};
+use strakewhip::{Error, File, Form};
 
 /// Counts what was compared, and tells what differs.
 #[derive(Default)]
@@ -34,12 +34,20 @@ impl Report {
     }
 
     fn replies(&mut self, call: &'static str, reply: Reply, expected: Reply, wrapped: Wrapped) {
+        self.reply(call, reply, expected);
+        self.wrapped(call, reply, wrapped);
+    }
+
+    fn reply(&mut self, call: &'static str, reply: Reply, expected: Reply) {
         self.compared += 1;
         self.answered.insert((call, reply.refusal, reply.file));
         self.refusals[usize::from(reply.refusal.min(14))] += 1;
         if reply != expected {
             self.differs(call, format!("{reply:?}, expected {expected:?}"));
         }
+    }
+
+    fn wrapped(&mut self, call: &'static str, reply: Reply, wrapped: Wrapped) {
         let same = match wrapped {
             Ok(counts) => reply.refusal == 0 && counts == (reply.removed, reply.length),
             Err(error) => {
@@ -70,6 +78,20 @@ impl Report {
         let reply = unsafe { raw::strakewhip_network(network.as_ptr(), network.len()) };
         let wrapped = strakewhip::network(network).map(|length| (0, length));
         self.replies("network", reply, model::network(network), wrapped);
+    }
+
+    /// The wrapper has only the forms that there are.
+    pub fn turn(&mut self, form: u8, file: &[u8], out: &mut [u8]) -> Reply {
+        let (mut own, mut expected) = (out.to_vec(), out.to_vec());
+        let (f, o) = (file, &mut *out);
+        let reply = unsafe { raw::strakewhip_turn(form, f.as_ptr(), f.len(), o.as_mut_ptr(), o.len()) };
+        self.reply("turn", reply, model::turn(form, file, &mut expected));
+        if let Some(form) = Form::from_number(form) {
+            let wrapped = strakewhip::turn(form, file, &mut own).map(|length| (0, length));
+            self.wrapped("turn", reply, wrapped);
+        }
+        self.buffers("turn", out, &own, &expected);
+        reply
     }
 
     pub fn names(&mut self, network: &[u8], edit: &[u8]) {

@@ -9,6 +9,7 @@ const TIMETABLE: &[(u8, u8)] = &[(1, 2), (2, 2), (3, 2), (7, 2), (12, 2)];
 /// Each call, the files that it refuses, and the refusals that are of no file; all of them accept something.
 const CALLS: &[(&str, &[&[(u8, u8)]], &[u8])] = &[
     ("network", &[NETWORK], &[]),
+    ("turn", &[NETWORK], &[3, 13]),
     ("names", &[NETWORK, EDIT], &[7]),
     ("edit", &[NETWORK, EDIT], &[5, 7, 6, 8, 9, 10, 11, 12]),
     ("edit_sheet", &[NETWORK, EDIT], &[5, 7, 6, 8, 9, 10, 11, 12]),

@@ -3,7 +3,7 @@
 
 use crate::files::bytes_of;
 use crate::random::Random;
-use reference::network::{Direction, Network};
+use reference::network::{Direction, Form, Network};
 use reference::railway::{Line, Relation, Station, Timetable, Train, Visit};
 use std::collections::BTreeMap;
 
@@ -30,7 +30,8 @@ pub fn network(r: &mut Random) -> Vec<u32> {
         let first = r.below(stations.len());
         let second = (first + 1 + r.below(stations.len() - 1)) % stations.len();
         let kind = [3, 3, 1, 2][r.below(4)];
-        numbers.extend([*line, stations[first], stations[second], kind, r.from(1, 20), r.from(1, 3)]);
+        let (passenger, freight) = (r.from(1, 20), r.from(1, 20));
+        numbers.extend([*line, stations[first], stations[second], kind, passenger, freight, r.from(1, 3)]);
     }
     numbers.extend(closures(r, &lines));
     numbers
@@ -55,16 +56,45 @@ fn lines_at(numbers: &[u32]) -> usize {
     2 + 3 * numbers[0] as usize
 }
 
-/// Where the count of closures stands among them.
-pub fn closures_at(numbers: &[u32]) -> usize {
+/// The numbers of a line.
+fn line_fields(form: Form) -> usize {
+    match form {
+        Form::OneTime => 6,
+        Form::Newest => 7,
+    }
+}
+
+/// Where the count of closures stands among a network's numbers.
+pub fn closures_at(numbers: &[u32], form: Form) -> usize {
     let lines = lines_at(numbers);
-    lines + 1 + 6 * numbers[lines] as usize
+    lines + 1 + line_fields(form) * numbers[lines] as usize
+}
+
+/// The lines of a network's numbers.
+pub fn lines_of(numbers: &[u32], form: Form) -> impl Iterator<Item = &[u32]> {
+    numbers[lines_at(numbers) + 1..closures_at(numbers, form)].chunks(line_fields(form))
+}
+
+/// A network's numbers with its lines changed, each a row of its own.
+fn with_lines(numbers: &[u32], form: Form, change: impl Fn(&[u32]) -> Vec<u32>) -> Vec<u32> {
+    let lines: Vec<u32> = lines_of(numbers, form).flat_map(change).collect();
+    [&numbers[..=lines_at(numbers)], &lines, &numbers[closures_at(numbers, form)..]].concat()
+}
+
+/// A network in the earlier form, its one least time that of passenger trains.
+pub fn earlier(numbers: &[u32]) -> Vec<u32> {
+    with_lines(numbers, Form::Newest, |line| [&line[..5], &line[6..]].concat())
+}
+
+/// A network of the earlier form in the newest, with its one least time as both.
+pub fn doubled(earlier: &[u32]) -> Vec<u32> {
+    with_lines(earlier, Form::OneTime, |line| [&line[..5], &line[4..]].concat())
 }
 
 /// A network's file with a closure whose end is not after its start, or of any line, listed or not; a line's ends may be
 /// at fault besides.
-pub fn misclosed(r: &mut Random, numbers: &[u32]) -> Vec<u8> {
-    let (lines, count) = (lines_at(numbers), closures_at(numbers));
+pub fn misclosed(r: &mut Random, numbers: &[u32], form: Form) -> Vec<u8> {
+    let (lines, count) = (lines_at(numbers), closures_at(numbers, form));
     let mut numbers = numbers.to_vec();
     if numbers[count] == 0 {
         numbers[count] = 1;
@@ -76,7 +106,7 @@ pub fn misclosed(r: &mut Random, numbers: &[u32]) -> Vec<u8> {
         _ => numbers[at + 2] = r.from(1, numbers[at + 1].max(1)),
     }
     if r.one_in(4) && numbers[lines] > 0 {
-        let line = lines + 1 + 6 * r.below(numbers[lines] as usize);
+        let line = lines + 1 + line_fields(form) * r.below(numbers[lines] as usize);
         numbers[line + 1] = numbers[line + 2];
     }
     bytes_of(&numbers)
@@ -121,7 +151,7 @@ impl Dispatcher<'_> {
             17..=19 => self.report(r),
             20..=22 => self.relate(r),
             23 => self.forget(r),
-            _ => r.one_in(3).then(|| vec![11, r.from(1, self.trains)]),
+            _ => r.one_in(3).then(|| vec![11, self.train(r)]),
         };
         chosen.unwrap_or_else(|| self.place(r))
     }
@@ -129,6 +159,16 @@ impl Dispatcher<'_> {
     fn station(&self, r: &mut Random) -> Station {
         let listed: Vec<Station> = self.network.stations.keys().copied().collect();
         listed[r.below(listed.len())]
+    }
+
+    /// Half of the trains stand about 5000, where freight begins.
+    fn train(&self, r: &mut Random) -> u32 {
+        let train = r.from(1, self.trains);
+        match train % 4 {
+            3 => 4999 - train / 4,
+            0 => 4999 + train / 4,
+            _ => train,
+        }
     }
 
     fn visit(&self, r: &mut Random) -> Option<(Station, Train, Visit)> {
@@ -144,7 +184,7 @@ impl Dispatcher<'_> {
     fn place(&self, r: &mut Random) -> Vec<u32> {
         let station = self.station(r);
         let arrival = r.from(100, 140);
-        vec![1, station.0, r.from(1, self.trains), self.track(r, station), arrival, arrival + r.from(0, 5)]
+        vec![1, station.0, self.train(r), self.track(r, station), arrival, arrival + r.from(0, 5)]
     }
 
     fn extend(&self, r: &mut Random, kind: u32) -> Option<Vec<u32>> {
@@ -179,7 +219,7 @@ impl Dispatcher<'_> {
     fn relate(&self, r: &mut Random) -> Option<Vec<u32>> {
         let station = self.station(r);
         let mut trains: Vec<u32> = self.timetable.visits_at(station).iter().map(|(train, _)| train.0).collect();
-        trains.extend([r.from(1, self.trains), r.from(1, self.trains)]);
+        trains.extend([self.train(r), self.train(r)]);
         let mut numbers = vec![9, station.0, r.from(1, 3), r.from(0, 8)];
         if numbers[2] == 3 {
             numbers.extend([2, trains[r.below(trains.len())], trains[r.below(trains.len())]]);

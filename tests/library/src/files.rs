@@ -1,7 +1,7 @@
 //! Files as the second implementation reads them, each alone.
 
 use reference::edits::{self, Edit};
-use reference::network::{Network, NetworkPart};
+use reference::network::{self, Form, Network};
 use reference::number::{self, FileRefusal, Reader};
 use reference::railway::Timetable;
 use reference::timetable::TimetablePart;
@@ -15,11 +15,7 @@ pub fn bytes_of(numbers: &[u32]) -> Vec<u8> {
 }
 
 pub fn network_of(file: &[u8]) -> Result<Network, FileRefusal> {
-    let mut reader = Reader::new(file);
-    let part = NetworkPart::read(&mut reader)?;
-    reader.end()?;
-    part.test_whole()?;
-    Ok(part.network)
+    network::read(file, Form::Newest)
 }
 
 pub fn edits_of(file: &[u8]) -> Result<Vec<Edit>, FileRefusal> {

@@ -11,6 +11,7 @@ mod orders;
 mod random;
 mod sheets;
 mod suites;
+mod turns;
 
 use calls::Report;
 use random::Random;
@@ -35,6 +36,7 @@ fn main() {
         suites::damaged_sheets(&mut report, &mut r, &railway);
         suites::damaged_files(&mut report, &mut r, &railway);
         suites::crowded(&mut report, &mut r, &railway);
+        turns::turned(&mut report, &mut r, &railway);
         orders::reordered(&mut report, &mut r, &railway);
     }
     let seconds = began.elapsed().as_secs();

@@ -5,13 +5,13 @@ use crate::sheets::{divided, encode, good, in_area, joined, part, whole};
 use reference::edits::Edit;
 use reference::findings::{self, Finding};
 use reference::machine::{self, UNKNOWN};
-use reference::network::Network;
+use reference::network::{self, Form, Network};
 use reference::number::FileRefusal;
 use reference::projection;
 use reference::railway::{Area, Station, Timetable, Train, LAST_MINUTE};
 use reference::tally::Tally;
 use reference::timetable;
-use std::collections::BTreeSet;
+use std::collections::{BTreeMap, BTreeSet};
 use strakewhip::raw::Reply;
 use strakewhip::{DIVISION, SHEET};
 
@@ -46,6 +46,15 @@ fn either(run: Result<Reply, Reply>) -> Reply {
 
 pub fn network(file: &[u8]) -> Reply {
     either(placed(NETWORK, network_of(file)).map(|_| sized(file.len())))
+}
+
+/// W3: "An old network file, its closures kept, is turned into a new one by giving both times the old number".
+pub fn turn(form: u8, file: &[u8], out: &mut [u8]) -> Reply {
+    let mut run = || {
+        unless(form == 1, 3)?;
+        written(&placed(NETWORK, network::turn(file, Form::OneTime))?, out)
+    };
+    either(run())
 }
 
 /// "An edit names the areas of its stations s and p; edit 11 names every area with a station; one refused with 3 or 7
@@ -183,6 +192,25 @@ pub fn merge(network: &[u8], division: &[u8], sheet: &mut [u8]) -> Reply {
         Ok(plain(0))
     };
     either(run())
+}
+
+/// A whole timetable's findings as they were before W3: rule 5 by one least time of a line for all trains. The other
+/// rules are as they are now, as they read no least time.
+pub fn findings_before(least: &BTreeMap<u32, u32>, network: &Network, timetable: &Timetable) -> Vec<[u16; 4]> {
+    let mut found = findings::central(network, timetable);
+    found.retain(|one| one.rule != 5);
+    for ((station, train), visit) in &timetable.visits {
+        // "Run below the line's least."
+        if visit.out_link.is_some_and(|link| link.run < i64::from(least[&link.line.0])) {
+            found.push(Finding { station: *station, rule: 5, first: train.0, second: 0 });
+        }
+    }
+    found.sort();
+    fours(&numbers_of(&found))
+}
+
+pub fn fours(numbers: &[u16]) -> Vec<[u16; 4]> {
+    numbers.chunks(4).map(|four| [four[0], four[1], four[2], four[3]]).collect()
 }
 
 fn numbers_of(found: &[Finding]) -> Vec<u16> {

@@ -2,7 +2,7 @@
 
 use crate::calls::Report;
 use crate::files::edit_of;
-use crate::model::named;
+use crate::model::{fours, named};
 use crate::random::Random;
 use crate::sheets::{part, whole};
 use crate::suites::{list_of, Railway};
@@ -55,10 +55,6 @@ fn tally_of(report: &mut Report, edits: &[Vec<u8>], answers: &[u8]) -> [u32; 4] 
         report.raise(edit, answer[0], answer[1], &mut tally);
     }
     tally
-}
-
-fn fours(numbers: &[u16]) -> Vec<[u16; 4]> {
-    numbers.chunks(4).map(|four| [four[0], four[1], four[2], four[3]]).collect()
 }
 
 /// The list that a call writes, first asked for its length.

@@ -1,16 +1,16 @@
 //! What is tried on each railway.
 
 use crate::calls::Report;
-use crate::drafts::{self, closures_at, damaged, displaced, misclosed, Dispatcher};
+use crate::drafts::{self, closures_at, damaged, displaced, earlier, misclosed, Dispatcher};
 use crate::files::{bytes_of, edit_of, network_of};
 use crate::orders::{shared, whole_list};
 use crate::random::Random;
 use crate::sheets::{divided, good, in_area, part, whole};
 use reference::machine;
-use reference::network::Network;
+use reference::network::{Form, Network};
 use reference::railway::Timetable;
 use reference::timetable;
-use strakewhip::{DIVISION, MOST_ANSWERS, MOST_FINDINGS, MOST_ROWS, MOST_TIMETABLE, SHEET};
+use strakewhip::{DIVISION, MOST_ANSWERS, MOST_FINDINGS, MOST_NETWORK, MOST_ROWS, MOST_TIMETABLE, SHEET};
 
 /// A network, the edits of a shift, and what they lead to.
 pub struct Railway {
@@ -69,12 +69,29 @@ pub fn outputs(report: &mut Report, r: &mut Random, railway: &Railway) {
     let found = whole_list(report, file, sheet);
     assert_eq!(found, shared(report, file, division), "{}: shared findings", report.place);
     report.meets("a departure found on a closed line", found.iter().any(|[_, rule, ..]| *rule == 11));
+    between_times(report, railway, &found);
     let mut written = vec![7; MOST_TIMETABLE];
     let length = report.write(file, sheet, &mut written).length;
     report.read(file, &written[..length], &mut vec![7; SHEET]);
     for (station, train) in timetable.visits.keys().take(40) {
         let from = (station.0 as u8, train.0 as u16, r.from(80, 200) as u16);
         report.project(file, sheet, from, &mut [7; MOST_ROWS]);
+    }
+}
+
+/// Tells of runs that only one of their line's two least times finds, and of which sort the train is.
+fn between_times(report: &mut Report, railway: &Railway, found: &[[u16; 4]]) {
+    for ((station, train), visit) in &railway.timetable.visits {
+        let Some(link) = visit.out_link else { continue };
+        let line = railway.network.lines[&link.line];
+        if (link.run < line.passenger_least) != (link.run < line.freight_least) {
+            let rule_5 = found.contains(&[station.0 as u16, 5, train.0 as u16, 0]);
+            report.meets("a freight train found by its own time alone", train.0 >= 5000 && rule_5);
+            report.meets("a freight train not found by the passengers' time", train.0 >= 5000 && !rule_5);
+            report.meets("a passenger train found by its own time alone", train.0 < 5000 && rule_5);
+            report.meets("a passenger train not found by freight's time", train.0 < 5000 && !rule_5);
+            report.meets("train 4999 or 5000 between the two times", [4999, 5000].contains(&train.0));
+        }
     }
 }
 
@@ -226,7 +243,7 @@ pub fn damaged_files(report: &mut Report, r: &mut Random, railway: &Railway) {
         let other = match r.from(1, 3) {
             1 => damaged(r, file),
             2 => displaced(r, numbers),
-            _ => misclosed(r, numbers),
+            _ => misclosed(r, numbers, Form::Newest),
         };
         network_faults(report, r, railway, &other, &edit);
         let edit = damaged(r, &edit);
@@ -284,7 +301,7 @@ fn network_faults(report: &mut Report, r: &mut Random, railway: &Railway, networ
     let (sheet, division) = (sheet.split_off(short), division.split_off(short));
     if let Some(refusal) = network_of(network).err().filter(|refusal| refusal.number == 4) {
         let numbers = numbers_in(network);
-        let closure = refusal.place > bytes_of(&numbers[..closures_at(&numbers)]).len();
+        let closure = refusal.place > bytes_of(&numbers[..closures_at(&numbers, Form::Newest)]).len();
         report.meets("4 of a line", !closure);
         report.meets("4 of a closure", closure);
     }
@@ -303,15 +320,15 @@ fn network_faults(report: &mut Report, r: &mut Random, railway: &Railway, networ
     report.project(network, &sheet, (r.from(0, 17) as u8, r.from(0, 40) as u16, 100), &mut [7; MOST_ROWS]);
 }
 
-/// Sixteen stations in a ring, with the largest numbers that a network has, and as many closures.
-fn full_network() -> Vec<u8> {
+/// Sixteen stations in a ring, joined twice, with numbers of the most bytes, and as many closures as there may be.
+fn full_network() -> Vec<u32> {
     let mut numbers = vec![16];
     (1..=16).for_each(|station| numbers.extend([station, (station - 1) % 6 + 1, 8]));
-    numbers.extend([30, 16]);
-    (1..=16).for_each(|line| numbers.extend([line, line, line % 16 + 1, 3, 240, 9]));
+    numbers.extend([30, 32]);
+    (0..32).for_each(|line| numbers.extend([line + 1, line % 16 + 1, (line + 1) % 16 + 1, 3, 240, 240, 9]));
     numbers.push(32);
     (1..=16).for_each(|line| numbers.extend([line, 2040, 2050, line, 2879, 2880]));
-    bytes_of(&numbers)
+    numbers
 }
 
 /// All its stations full, with numbers of the most bytes.
@@ -332,11 +349,16 @@ fn full_timetable(r: &mut Random) -> Vec<u8> {
     bytes_of(&numbers)
 }
 
-/// A railway with all its stations full: its file has the most bytes that any has, and no station takes more.
+/// A railway with all its stations full: its files have the most bytes that any have, and no station takes more.
 pub fn fullest(report: &mut Report, r: &mut Random) {
     report.place = String::from("the fullest railway");
-    let (network, file) = (full_network(), full_timetable(r));
-    assert_eq!(file.len(), MOST_TIMETABLE);
+    let (network, file) = (bytes_of(&full_network()), full_timetable(r));
+    assert_eq!([network.len(), file.len()], [MOST_NETWORK, MOST_TIMETABLE]);
+    let old = bytes_of(&earlier(&full_network()));
+    let mut turned = [7; MOST_NETWORK];
+    report.turn(1, &old, &mut turned);
+    assert!(turned[..] == network, "{}: turned otherwise", report.place);
+    report.turn(1, &old, &mut [7; MOST_NETWORK - 1]);
     let (mut sheet, mut division) = (vec![7; SHEET], vec![7; DIVISION]);
     report.read(&network, &file, &mut sheet);
     report.divide(&network, &sheet, &mut division);

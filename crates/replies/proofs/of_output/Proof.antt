@@ -2,7 +2,7 @@
 use mathlib.Core.Path.{sym, _∙_, ap}
 use borrow.Author.Needs.{needs}
 use Rattle.timetable.specs.Outputs.{reply}
-use Rattle.replies.specs.Replies.{file-of, or-nought, of-reply}
+use Rattle.replies.specs.Replies.{file-of, or-nought, of-reply-in, of-reply}
 use Rattle.replies.proofs.of_output.Statement.{statement}
 use Rattle.replies.proofs.of_output.Tie as tie
 
@@ -25,15 +25,15 @@ sized-requires-2 : tie.Need-sized-requires-2
 sized-requires-2 c κs = search needs
 
 returns : tie.Need-returns
-unfolding reply file-of or-nought of-reply
+unfolding reply file-of or-nought of-reply-in of-reply
 returns c = c .sized .ensures ∙ sym (ap (λ x. of-reply (reply x)) (c .before .before .o .given .1))
 
 returns-2 : tie.Need-returns-2
-unfolding reply file-of or-nought of-reply
+unfolding reply file-of or-nought of-reply-in of-reply
 returns-2 c = c .plain .ensures ∙ sym (ap (λ x. of-reply (reply x)) (c .before .before .o2 .given .1))
 
 returns-3 : tie.Need-returns-3
-unfolding reply file-of or-nought of-reply
+unfolding reply file-of or-nought of-reply-in of-reply
 returns-3 c = c .sized2 .ensures ∙ sym (ap (λ x. of-reply (reply x)) (c .before .before .o3 .given .1))
 
 pub of-output-spec : {M : Type 1} → statement M

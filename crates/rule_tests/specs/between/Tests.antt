@@ -54,7 +54,7 @@ module _ (n : Network) (scope : Scope) (m : Timetable) where
   unfoldable pub own-broken : Table → Entry → List (ℕ × Bool)
   own-broken here t =
       (1, breaks-1 (t .visit))
-      ∷ (5, breaks-5 n (t .visit))
+      ∷ (5, breaks-5 n (t .train) (t .visit))
       ∷ (6, breaks-6 n (here .visits) t)
       ∷ (11, breaks-11 n (t .visit))
       ∷ []

@@ -5,7 +5,7 @@ use lib.Dec.{ltb, eqb}
 use Rattle.base.specs.Choice.{if_then_else_}
 use Rattle.base.specs.Lists.{is}
 use Rattle.railway.specs.Ranges.{same-station, same-train, same-line}
-use Rattle.network.specs.Networks.{line-row}
+use Rattle.network.specs.Networks.{line-row, least-time}
 use Rattle.timetable.specs.Visits.{arr, dep, leaves, comes-from}
 use Rattle.timetable.specs.Tables.{Entry}
 use Rattle.timetable.specs.Rules.{connected, disconnected, due, ahead, caught}
@@ -18,9 +18,9 @@ entry t v = record { train = t; visit = v }
 unfoldable pub leaves-by : Line → Visit → Bool
 leaves-by l = leaves (λ q. same-line l (q .line))
 
--- rule 5: the running time is below the least of the link's line
-unfoldable pub runs-below : Network → Outward → Bool
-runs-below n o = is (λ r. ltb (o .run) (r .least)) (line-row n (o .line))
+-- rule 5: the running time is below the least of the link's line and the train
+unfoldable pub runs-below : Network → Train → Outward → Bool
+runs-below n t o = is (λ r. ltb (o .run) (least-time r t)) (line-row n (o .line))
 
 -- rule 4: the test of two visits, of a connection or of a disconnection
 unfoldable pub apart : Bool → ℕ → Visit → Visit → Bool

@@ -35,6 +35,9 @@ is-within-requires-2 c κs = search needs
 run-valid-requires : tie.Need-run-valid-requires
 run-valid-requires c κs = search needs
 
+run-valid-requires-2 : tie.Need-run-valid-requires-2
+run-valid-requires-2 c κs = search needs
+
 both-requires-3 : tie.Need-both-requires-3
 both-requires-3 c κs = search needs
 
@@ -43,6 +46,9 @@ both-requires-4 c κs = search needs
 
 both-requires-5 : tie.Need-both-requires-5
 both-requires-5 c κs = search needs
+
+both-requires-6 : tie.Need-both-requires-6
+both-requires-6 c κs = search needs
 
 returns : tie.Need-returns
 unfolding line-row-ok
@@ -62,7 +68,9 @@ valid-spec =
     cast-is-within-2
     is-within-requires-2
     run-valid-requires
+    run-valid-requires-2
     both-requires-3
     both-requires-4
     both-requires-5
+    both-requires-6
     returns)

@@ -43,7 +43,7 @@ returns c ss h k =
     let s = c .before .before .before .before .before .before .args in
     let g = c .before .before .count .given in
     let o = sym (c .before .before .before .before .field .ensures) ∙ ap field-outcome (g .1) in
-    c .refused-draft .ensures ∙ sym (ap draft-read (field-stop 0 32 (λ m. lines-part ss h m) (now (s .file)) (s .at) (g .0 .0) (g .0 .1 .0) o))
+    c .refused-draft .ensures ∙ sym (ap draft-read (field-stop 0 32 (λ m. lines-part (s .form) ss h m) (now (s .file)) (s .at) (g .0 .0) (g .0 .1 .0) o))
 
 returns-2 : tie.Need-returns-2
 unfolding count-part field-outcome
@@ -53,7 +53,7 @@ returns-2 c ss h k =
     let o = sym (c .before .before .before .before .before .field .ensures) ∙ ap field-outcome (g .1) in
     let b = field-bounded 0 32 (now (s .file)) (s .at) (g .0 .0) (g .0 .1 .0) o in
     let n = small _ _ (c .before .narrow .ensures) (omega (arith, b .1)) in
-    c .lines-draft .ensures ss h k ∙ ap (λ (m : ℕ). draft-read (read (lines-part ss h m) (now (s .file)) (g .0 .1 .0))) n ∙ sym (ap draft-read (field-on 0 32 (λ m. lines-part ss h m) (now (s .file)) (s .at) (g .0 .0) (g .0 .1 .0) o))
+    c .lines-draft .ensures ss h k ∙ ap (λ (m : ℕ). draft-read (read (lines-part (s .form) ss h m) (now (s .file)) (g .0 .1 .0))) n ∙ sym (ap draft-read (field-on 0 32 (λ m. lines-part (s .form) ss h m) (now (s .file)) (s .at) (g .0 .0) (g .0 .1 .0) o))
 
 pub count-draft-spec : {M : Type 1} → statement M
 count-draft-spec =

@@ -38,7 +38,7 @@ returns c ss k =
     let s = c .before .before .before .before .before .before .args in
     let g = c .before .before .headway .given in
     let o = sym (c .before .before .before .before .field .ensures) ∙ ap field-outcome (g .1) in
-    c .refused-draft .ensures ∙ sym (ap draft-read (field-stop 1 30 (λ h. count-part ss h) (now (s .file)) (s .at) (g .0 .0) (g .0 .1 .0) o))
+    c .refused-draft .ensures ∙ sym (ap draft-read (field-stop 1 30 (λ h. count-part (s .form) ss h) (now (s .file)) (s .at) (g .0 .0) (g .0 .1 .0) o))
 
 returns-2 : tie.Need-returns-2
 unfolding headway-part field-outcome
@@ -48,7 +48,7 @@ returns-2 c ss k =
     let o = sym (c .before .before .before .before .before .before .field .ensures) ∙ ap field-outcome (g .1) in
     let b = field-bounded 1 30 (now (s .file)) (s .at) (g .0 .0) (g .0 .1 .0) o in
     let n = small _ _ (c .before .before .narrow .ensures) (omega (arith, b .1)) in
-    c .count-draft .ensures ss (g .0 .0) (c .before .with-headway .ensures ss 0 k ∙ ap (before-lines ss) n) ∙ sym (ap draft-read (field-on 1 30 (λ h. count-part ss h) (now (s .file)) (s .at) (g .0 .0) (g .0 .1 .0) o))
+    c .count-draft .ensures ss (g .0 .0) (c .before .with-headway .ensures ss 0 k ∙ ap (before-lines ss) n) ∙ sym (ap draft-read (field-on 1 30 (λ h. count-part (s .form) ss h) (now (s .file)) (s .at) (g .0 .0) (g .0 .1 .0) o))
 
 pub headway-draft-spec : {M : Type 1} → statement M
 headway-draft-spec =

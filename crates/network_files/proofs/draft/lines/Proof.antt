@@ -16,6 +16,7 @@ use Rattle.timetable.specs.Formats.{Outcome, accepted, refused, read, entries, 
 use Rattle.timetable.specs.NetworkFile.{fault-of, line-fields, line-entry, line-floor, lines-format}
 use Rattle.network_files.specs.declared.draft.LinesRead.{LinesRead}
 use Rattle.timetable.specs.declared.Fault.{Fault}
+use Rattle.timetable.specs.declared.NetworkForm.{NetworkForm}
 use Rattle.fields.specs.between.Answers.{padded}
 use Rattle.network_files.specs.Answers.{lines-read, line-outcome}
 use Rattle.network_files.specs.between.Faults.{fault-next}
@@ -26,8 +27,8 @@ use Rattle.network_files.proofs.draft.lines.Statement.{statement}
 use Rattle.network_files.proofs.draft.lines.Tie as tie
 
 -- what is left to read: k rows behind the number before
-abbrev left-at : List ℕ → ℕ → ℕ → ℕ → Outcome (List (Placed LineRow))
-left-at file k before place = read (entries line-entry line-floor k (before ∷ [])) file place
+abbrev left-at : NetworkForm → List ℕ → ℕ → ℕ → ℕ → Outcome (List (Placed LineRow))
+left-at form file k before place = read (entries (line-entry form) line-floor k (before ∷ [])) file place
 
 abbrev rows-of : List (Placed LineRow) → List LineRow
 rows-of ls = map (λ l. l .entry) ls
@@ -38,30 +39,30 @@ loose known l = not (ends-listed known (l .entry))
 abbrev lines-done : ℕ → List LineRow → Fault → LinesRead
 lines-done place rows fault = record { accepted = true; refusal = 0; place = place; rows = rows; fault = fault }
 
-module _ (file : List ℕ) (n i before place : ℕ) where
-  taken : i < n → (r : LineRow) (next : ℕ) → read (line-fields (before ∷ [])) file place ≡ accepted r next
-      → left-at file (n - i) before place ≡ prefixed (record { place = place; entry = r } ∷ []) (left-at file (n - (i + 1)) (r .line .0) next)
+module _ (form : NetworkForm) (file : List ℕ) (n i before place : ℕ) where
+  taken : i < n → (r : LineRow) (next : ℕ) → read (line-fields form (before ∷ [])) file place ≡ accepted r next
+      → left-at form file (n - i) before place ≡ prefixed (record { place = place; entry = r } ∷ []) (left-at form file (n - (i + 1)) (r .line .0) next)
   unfolding line-floor line-entry
   taken h r next e =
       let m : n - i ≡ suc (n - (i + 1)) = omega arith in
-      rw m (entries-next line-entry line-floor (before ∷ []) file place (n - (i + 1)) (record { place = place; entry = r }) next (placed-some (line-fields (before ∷ [])) file place r next e))
+      rw m (entries-next (line-entry form) line-floor (before ∷ []) file place (n - (i + 1)) (record { place = place; entry = r }) next (placed-some (line-fields form (before ∷ [])) file place r next e))
 
-  stopped : i < n → (k p : ℕ) → read (line-fields (before ∷ [])) file place ≡ refused k p → left-at file (n - i) before place ≡ refused k p
+  stopped : i < n → (k p : ℕ) → read (line-fields form (before ∷ [])) file place ≡ refused k p → left-at form file (n - i) before place ≡ refused k p
   unfolding line-entry
   stopped h k p e =
       let m : n - i ≡ suc (n - (i + 1)) = omega arith in
-      rw m (entries-stop line-entry line-floor (before ∷ []) file place (n - (i + 1)) k p (placed-none (line-fields (before ∷ [])) file place k p e))
+      rw m (entries-stop (line-entry form) line-floor (before ∷ []) file place (n - (i + 1)) k p (placed-none (line-fields form (before ∷ [])) file place k p e))
 
-  ended : n ≤ i → left-at file (n - i) before place ≡ accepted [] place
-  ended h = let m : n - i ≡ 0 = omega arith in rw m (entries-over line-entry line-floor (before ∷ []) file place)
+  ended : n ≤ i → left-at form file (n - i) before place ≡ accepted [] place
+  ended h = let m : n - i ≡ 0 = omega arith in rw m (entries-over (line-entry form) line-floor (before ∷ []) file place)
 
 abbrev Inv-loop : tie.InvT-loop
-Inv-loop file at count known n rows₀ fault₀ place₀ before₀ i₀ rows fault place before i =
-    (i ≤ n) × ((s : SoFar (left-at file n 0 at) i (left-at file (n - i) before place))
+Inv-loop file at form count known n rows₀ fault₀ place₀ before₀ i₀ rows fault place before i =
+    (i ≤ n) × ((s : SoFar (left-at form file n 0 at) i (left-at form file (n - i) before place))
     × (rows ≡ padded 32 blank-line (rows-of (s .elements))) × (fault ≡ fault-of 4 (first (loose known) (s .elements))))
 
 abbrev μ-loop : tie.MeasureT-loop
-μ-loop file at count known n rows₀ fault₀ place₀ before₀ i₀ rows fault place before i = n - i
+μ-loop file at form count known n rows₀ fault₀ place₀ before₀ i₀ rows fault place before i = n - i
 
 empty-line-requires : tie.Need-empty-line-requires Inv-loop μ-loop
 empty-line-requires c κs = search needs
@@ -92,7 +93,7 @@ returns c =
     let l = c .before .before .before .before .before .before .loop in
     let g = c .before .before .found .given in
     let o = sym (c .before .before .before .before .line-row .ensures) ∙ ap line-outcome (g .1) in
-    let q = stopped (now (s .file)) (s .count) (l .i) (l .before) (l .place) (omega arith) (g .0 .0) (g .0 .1 .0) o in
+    let q = stopped (s .form) (now (s .file)) (s .count) (l .i) (l .before) (l .place) (omega arith) (g .0 .0) (g .0 .1 .0) o in
     c .refused-lines .ensures ∙ sym (ap (lines-read (s .known)) (stop _ _ _ (l .inv .1 .0) (g .0 .0) (g .0 .1 .0) q))
 
 enum-known-found-2 : tie.Need-enum-known-found-2 Inv-loop μ-loop
@@ -123,7 +124,7 @@ loop-again c =
     let l = c .before .before .before .before .before .before .before .loop in
     let g = c .before .before .before .found2 .given in
     let o = sym (c .before .before .before .before .before .line-row .ensures) ∙ ap line-outcome (g .1) in
-    let q = taken (now (s .file)) (s .count) (l .i) (l .before) (l .place) (omega arith) (g .0 .0) (g .0 .1 .0) o in
+    let q = taken (s .form) (now (s .file)) (s .count) (l .i) (l .before) (l .place) (omega arith) (g .0 .0) (g .0 .1 .0) o in
     let f = l .inv .1 .0 in
     let x : Placed LineRow = record { place = l .place; entry = g .0 .0 } in (
       omega arith,
@@ -142,7 +143,7 @@ returns-2 c =
     let s = c .before .before .before .before .before .args in
     let l = c .before .loop in
     let f = l .inv .1 .0 in
-    let q = ended (now (s .file)) (s .count) (l .i) (l .before) (l .place) (omega arith) in
+    let q = ended (s .form) (now (s .file)) (s .count) (l .i) (l .before) (l .place) (omega arith) in
     sym (ap (lines-read (s .known)) (over _ _ _ f (l .place) q)
     ∙ ap (λ (v : List LineRow). lines-done (l .place) v (fault-of 4 (first (loose (s .known)) (f .elements)))) (sym (l .inv .1 .1))
     ∙ ap (lines-done (l .place) (l .rows)) (sym (l .inv .1 .2)))

@@ -24,10 +24,10 @@ unfolding lines-part lines-fault
 returns c ss h k =
     let s = c .before .before .before .before .before .before .before .args in
     let r = c .before .before .before .before .before .lines in
-    let (ls, o, u, v) = lines-known ss h (s .count) (s .known) (r .result) (now (s .file)) (s .at) k (r .ensures) (c .before .before .before .before .if1 .taken) in
-    let m = lines-many (now (s .file)) (s .at) (s .count) ls (r .result .place) o in
+    let (ls, o, u, v) = lines-known (s .form) ss h (s .count) (s .known) (r .result) (now (s .file)) (s .at) k (r .ensures) (c .before .before .before .before .if1 .taken) in
+    let m = lines-many (s .form) (now (s .file)) (s .at) (s .count) ls (r .result .place) o in
     c .closure-count-draft .ensures ss h ls (c .before .with-lines .ensures ss h ls m u k) v
-    ∙ sym (ap draft-read (then-on (lines-format (s .count)) (λ ls. closure-count-part ss h ls) (now (s .file)) (s .at) ls (r .result .place) o))
+    ∙ sym (ap draft-read (then-on (lines-format (s .form) (s .count)) (λ ls. closure-count-part ss h ls) (now (s .file)) (s .at) ls (r .result .place) o))
 
 refused-draft-requires : tie.Need-refused-draft-requires
 refused-draft-requires c κs = search needs
@@ -38,7 +38,7 @@ returns-2 c ss h k =
     let s = c .before .before .before .before .args in
     let r = c .before .before .lines in
     let o = lines-refusal (s .known) _ (r .result) (r .ensures) (c .before .if1 .left) in
-    c .refused-draft .ensures ∙ sym (ap draft-read (then-stop (lines-format (s .count)) (λ ls. closure-count-part ss h ls) (now (s .file)) (s .at) (r .result .refusal) (r .result .place) o))
+    c .refused-draft .ensures ∙ sym (ap draft-read (then-stop (lines-format (s .form) (s .count)) (λ ls. closure-count-part ss h ls) (now (s .file)) (s .at) (r .result .refusal) (r .result .place) o))
 
 pub lines-draft-spec : {M : Type 1} → statement M
 lines-draft-spec = tie.close (tie.spec lines-requires with-lines-requires closure-count-draft-requires returns refused-draft-requires returns-2)

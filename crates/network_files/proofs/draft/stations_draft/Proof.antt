@@ -28,7 +28,7 @@ returns c =
     let (ss, o, u) = stations-value _ (r .result) (r .ensures) (c .before .before .before .if1 .taken) in
     let m = stations-many (now (s .file)) (s .at) (s .count) ss (r .result .place) o in
     c .headway-draft .ensures ss (c .before .with-stations .ensures ss m u)
-    ∙ sym (ap draft-read (then-on (stations-format (s .count)) (λ ss. headway-part ss) (now (s .file)) (s .at) ss (r .result .place) o))
+    ∙ sym (ap draft-read (then-on (stations-format (s .count)) (λ ss. headway-part (s .form) ss) (now (s .file)) (s .at) ss (r .result .place) o))
 
 refused-draft-requires : tie.Need-refused-draft-requires
 refused-draft-requires c κs = search needs
@@ -39,7 +39,7 @@ returns-2 c =
     let s = c .before .before .before .before .args in
     let r = c .before .before .stations in
     let o = stations-refusal _ (r .result) (r .ensures) (c .before .if1 .left) in
-    c .refused-draft .ensures ∙ sym (ap draft-read (then-stop (stations-format (s .count)) (λ ss. headway-part ss) (now (s .file)) (s .at) (r .result .refusal) (r .result .place) o))
+    c .refused-draft .ensures ∙ sym (ap draft-read (then-stop (stations-format (s .count)) (λ ss. headway-part (s .form) ss) (now (s .file)) (s .at) (r .result .refusal) (r .result .place) o))
 
 pub stations-draft-spec : {M : Type 1} → statement M
 stations-draft-spec =

@@ -3,7 +3,7 @@ use mathlib.Core.List.{[], _∷_, flatMap}
 use native.Mathlib.Omega.{arith}
 use borrow.Author.Needs.{needs}
 use Rattle.network.specs.Networks.{line-rows}
-use Rattle.timetable.specs.NetworkFile.{line-numbers}
+use Rattle.timetable.specs.NetworkFile.{newest, line-numbers}
 use Rattle.fields.proofs.NumbersPut.{near, places-two}
 use Rattle.network_writing.proofs.writing.put_counted_lines.Statement.{statement}
 use Rattle.network_writing.proofs.writing.put_counted_lines.Tie as tie
@@ -25,7 +25,7 @@ returns c =
     let s = c .before .before .before .before .before .before .before .before .before .before .args in
     let v = c .before .before .before .before .before .before .put-number in
     let w = c .before .before .put-lines in
-    places-two (s .at) (v .result) (w .result) (s .n .linecount ∷ []) (flatMap line-numbers (line-rows (s .n))) _ (v .last .0) _ 3 1152
+    places-two (s .at) (v .result) (w .result) (s .n .linecount ∷ []) (flatMap (line-numbers newest) (line-rows (s .n))) _ (v .last .0) _ 3 1152
     (near (s .at) (s .n .linecount ∷ []) _ (v .result) (v .last .0) 3 (omega arith) (v .ensures)) (w .ensures)
 
 pub put-counted-lines-spec : {M : Type 1} → statement M

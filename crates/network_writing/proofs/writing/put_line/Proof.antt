@@ -1,7 +1,7 @@
 -- `network_writing::writing::put_line` meets its contract: the first numbers of the row are the line's. Assumes
 -- nothing.
 use native.Mathlib.Omega.{arith}
-use Rattle.timetable.specs.NetworkFile.{line-numbers}
+use Rattle.timetable.specs.NetworkFile.{times, line-numbers}
 use Rattle.fields.specs.between.Answers.{in-use}
 use Rattle.fields.proofs.NumbersPut.{near}
 use borrow.Author.Needs.{needs}
@@ -20,8 +20,11 @@ cast-second c = search needs
 cast-kind : tie.Need-cast-kind
 cast-kind c = search needs
 
-cast-least : tie.Need-cast-least
-cast-least c = search needs
+cast-passenger : tie.Need-cast-passenger
+cast-passenger c = search needs
+
+cast-freight : tie.Need-cast-freight
+cast-freight c = search needs
 
 cast-capacity : tie.Need-cast-capacity
 cast-capacity c = search needs
@@ -33,8 +36,8 @@ same-length : tie.Need-same-length
 same-length c = search needs
 
 returns : tie.Need-returns
-unfolding line-numbers in-use
+unfolding times line-numbers in-use
 returns c = near _ _ _ _ _ 36 (omega arith) (c .before .before .put-row .ensures)
 
 pub put-line-spec : {M : Type 1} → statement M
-put-line-spec = tie.close (tie.spec cast-number cast-first cast-second cast-kind cast-least cast-capacity put-row-requires same-length returns)
+put-line-spec = tie.close (tie.spec cast-number cast-first cast-second cast-kind cast-passenger cast-freight cast-capacity put-row-requires same-length returns)

@@ -5,7 +5,7 @@ use mathlib.Core.Path.{_≡_, refl, _∙_}
 use native.Mathlib.Omega.{arith}
 use lib.ListN.{length, length-map}
 use Rattle.network.specs.Networks.{blank-line, line-rows}
-use Rattle.timetable.specs.NetworkFile.{line-numbers}
+use Rattle.timetable.specs.NetworkFile.{newest, line-numbers}
 use Rattle.fields.proofs.NumbersPut.{Left, row-put, rows-put}
 use borrow.Author.Needs.{needs}
 use Rattle.network_writing.proofs.writing.put_lines.Statement.{statement}
@@ -13,7 +13,7 @@ use Rattle.network_writing.proofs.writing.put_lines.Tie as tie
 
 abbrev Inv-loop : tie.InvT-loop
 Inv-loop out₀ at rows k next₀ i₀ out next i =
-    (i ≤ k) × (next ≤ at + 36 * i) × (length out ≡ length out₀) × Left line-numbers rows k at out₀ i next out
+    (i ≤ k) × (next ≤ at + 36 * i) × (length out ≡ length out₀) × Left (line-numbers newest) rows k at out₀ i next out
 
 abbrev μ-loop : tie.MeasureT-loop
 μ-loop out₀ at rows k next₀ i₀ out next i = k - i
@@ -50,7 +50,7 @@ loop-again c =
       omega arith,
       omega (arith, w .ensures .2),
       w .kept .0 ∙ l .inv .2,
-      row-put line-numbers (s .n .lines) (u .result) (s .at) (s .out .now) (omega (arith, u .ensures, many)) (l .i) blank-line (l .next) (l .out) (l .inv .3) (c .before .before .before .before .before .loop-test .taken) (w .result) (w .last .0) (w .ensures .0) (w .ensures .1),
+      row-put (line-numbers newest) (s .n .lines) (u .result) (s .at) (s .out .now) (omega (arith, u .ensures, many)) (l .i) blank-line (l .next) (l .out) (l .inv .3) (c .before .before .before .before .before .loop-test .taken) (w .result) (w .last .0) (w .ensures .0) (w .ensures .1),
     )
 
 same-length : tie.Need-same-length Inv-loop μ-loop
@@ -64,7 +64,7 @@ returns c =
     let many : length (s .n .lines) ≡ 32 = simp length-map at (q .good .1 .1 .0 .1 .1 .1 .1 .1 .1 .0 .1 .0 .1) in
     let u = c .before .before .in-use in
     let l = c .before .loop in
-    let x = rows-put line-numbers (s .n .lines) (u .result) (s .at) (s .out .now) (omega (arith, u .ensures, many)) (l .i) blank-line (l .next) (l .out) (l .inv .3) (c .loop-test .left) (s .n .linecount) 32 many (u .ensures) in
+    let x = rows-put (line-numbers newest) (s .n .lines) (u .result) (s .at) (s .out .now) (omega (arith, u .ensures, many)) (l .i) blank-line (l .next) (l .out) (l .inv .3) (c .loop-test .left) (s .n .linecount) 32 many (u .ensures) in
     (x .0, x .1, omega (arith, l .inv .0, l .inv .1, u .ensures))
 
 pub put-lines-spec : {M : Type 1} → statement M

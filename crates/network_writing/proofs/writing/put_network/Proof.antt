@@ -3,7 +3,7 @@ use mathlib.Core.List.{[], _∷_, _++_, flatMap}
 use native.Mathlib.Omega.{arith}
 use borrow.Author.Needs.{needs}
 use Rattle.network.specs.Networks.{station-rows, line-rows, closure-rows}
-use Rattle.timetable.specs.NetworkFile.{station-numbers, line-numbers, closure-numbers, network-numbers}
+use Rattle.timetable.specs.NetworkFile.{station-numbers, newest, line-numbers, closure-numbers, network-numbers-as, network-numbers}
 use Rattle.fields.proofs.NumbersPut.{near, places-two}
 use Rattle.network_writing.proofs.writing.put_network.Statement.{statement}
 use Rattle.network_writing.proofs.writing.put_network.Tie as tie
@@ -27,7 +27,7 @@ same-length : tie.Need-same-length
 same-length c = search needs
 
 returns : tie.Need-returns
-unfolding network-numbers
+unfolding network-numbers network-numbers-as
 returns c =
     let n = c .before .before .before .before .before .before .before .before .before .before .before .before .before .before .before .before .before .before .args .n in
     let v = c .before .before .before .before .before .before .before .before .before .before .before .before .before .before .before .put-counted-stations in
@@ -35,7 +35,7 @@ returns c =
     let x = c .before .before .before .before .before .before .put-counted-lines in
     let y = c .before .before .put-counted-closures in
     let stations = n .stationcount ∷ flatMap station-numbers (station-rows n) in
-    let lines = n .linecount ∷ flatMap line-numbers (line-rows n) in
+    let lines = n .linecount ∷ flatMap (line-numbers newest) (line-rows n) in
     let closures = n .closurecount ∷ flatMap closure-numbers (closure-rows n) in
     let h = near (v .result) (n .headway ∷ []) _ (w .result) (w .last .0) 3 (omega (arith, v .ensures .2)) (w .ensures) in
     let l = places-two (w .result) (x .result) (y .result) lines closures _ (x .last .0) _ 1155 1155 (x .ensures) (y .ensures) in
