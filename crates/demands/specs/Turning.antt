@@ -4,18 +4,20 @@
 -- stands in theory Freight. Nothing here is proved. Assumes nothing.
 use Prim.Native.Nat.{ℕ}
 use mathlib.Core.Path.{_≡_}
+use mathlib.Core.Bool.{_||_}
 use mathlib.Core.List.{List, map}
+use lib.Dec.{eqb}
 use lib.ListN.{length}
 use Rattle.network.specs.Networks.{area-of}
 use Rattle.timetable.specs.declared.NetworkForm.{NetworkForm}
 use Rattle.timetable.specs.Formats.{accepted}
 use Rattle.timetable.specs.Machine.{Timetable}
-use Rattle.timetable.specs.Groups.{Grouping}
-use Rattle.timetable.specs.Findings.{numbers-of, picked, inside}
+use Rattle.timetable.specs.Groups.{Grouping, gather}
+use Rattle.timetable.specs.Findings.{numbers-of, picked, inside, between}
 use Rattle.timetable.specs.NetworkFile.{read-network-as, read-network}
 use Rattle.timetable.specs.Turning.{turned}
 use Rattle.sheet.specs.Sheets.{decode-sheet}
-use Rattle.findings.specs.Lists.{sheet-list, area-list}
+use Rattle.findings.specs.Lists.{sheet-list, area-list, two-parts, two-list}
 use Rattle.roundtrips.specs.RoundTrips.{Bytes}
 use Rattle.theory.specs.Freight.{found-had, FoundAlike}
 use Rattle.demands.specs.Types.{Area, Network}
@@ -27,6 +29,8 @@ pub record TurnedAlike (n : Network) : Type 0 where
   pub finds : (γ : Grouping) (m : Timetable) → FoundAlike n γ m
   pub sheet-lists : (sheet : List ℕ) → sheet-list n sheet ≡ numbers-of (map (λ x. x .found) (found-had n (decode-sheet sheet)))
   pub area-lists : (sheet : List ℕ) (a : Area) → area-list n sheet a ≡ numbers-of (picked (inside (area-of n) (a .0)) (found-had n (decode-sheet sheet)))
+  pub pair-lists : (first second : List ℕ) (a b : Area) → two-list n first second a b
+      ≡ numbers-of (picked (between (area-of n) (a .0) (b .0)) (found-had n (gather (area-of n) (λ x. eqb x (a .0) || eqb x (b .0)) (two-parts first second a b))))
 
 abbrev pub TurnedFilesFindAlike : Type 0
 TurnedFilesFindAlike =
