@@ -131,6 +131,18 @@ def growth():
         row(f'`{name}`', *(short(of_call(name, size, 'library')) for size in GROWTH))
 
 
+def insertions():
+    """What a visit put in takes beyond the same call refused with 8, and an insertion that copies the page."""
+    def turn(place, side):
+        words = [BUILT, 'insertion', place, side]
+        return (instructions([*words, str(TURNS)]) - instructions([*words, '0'])) / TURNS
+    head('Insertion', 'records moved', 'bytes moved', 'the call', 'beyond a refused one', 'copying the page', 'its bytes')
+    refused, nothing = turn('there', 'library'), turn('there', 'nothing')
+    for place, moved in (('front', 23), ('middle', 12), ('end', 0)):
+        call, page = turn(place, 'library'), turn(place, 'page')
+        row(place, moved, 16 * moved, short(call), short(call - refused), short(page - nothing), 2 * 512)
+
+
 def wall(folder):
     head('Program, ms', *SIZES)
     for program in ('shift', 'inspect'):
@@ -173,6 +185,8 @@ def main():
         tests()
         print()
         growth()
+        print()
+        insertions()
         if '--times' in sys.argv[1:]:
             print()
             wall(folder)

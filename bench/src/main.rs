@@ -4,11 +4,14 @@
 //!   bench times                           microseconds of each call, the middle of many rounds: library, second one
 //!   bench turns CALL SIZE SIDE COUNT      does the call COUNT times (SIDE: library or reference), to be counted;
 //!                                         SIZE may also be one of those by which growth is measured
+//!   bench insertion WHERE SIDE COUNT      puts a visit in at a station of 23 visits COUNT times (WHERE: front, middle,
+//!                                         end or there, where one stands; SIDE: library, page, which copies it, nothing)
 //!   bench calls                           the calls' names and what they do
 //!   bench sizes                           what each size holds
 
 mod calls;
 mod files;
+mod insertions;
 
 use calls::{reference, Held, CALLS};
 use files::{Size, GROWTH, SIZES};
@@ -96,8 +99,9 @@ fn main() {
         ["files", folder] => write_files(folder),
         ["times"] => times(),
         ["turns", call, name, side, count] => turns(call, size(name), side, count.parse().expect("a count")),
+        ["insertion", place, side, count] => insertions::turns(place, side, count.parse().expect("a count")),
         ["calls"] => CALLS.iter().for_each(|(call, what)| println!("{call} {what}")),
         ["sizes"] => sizes(),
-        _ => panic!("files DIR, times, turns CALL SIZE SIDE COUNT, calls, or sizes"),
+        _ => panic!("files DIR, times, turns CALL SIZE SIDE COUNT, insertion WHERE SIDE COUNT, calls, or sizes"),
     }
 }

@@ -79,7 +79,7 @@ pub fn change_here(page: &mut [u8], e: Edit)
         }
         Edit::AddRelation(r) => {
             let relation = r.relation;
-            page::add_relation(page, relation)
+            page::add_relation(page, relation);
         }
         Edit::RemoveRelation(r) => {
             let relation = r.relation;

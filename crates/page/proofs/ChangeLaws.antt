@@ -15,18 +15,17 @@ use Rattle.base.proofs.Counts.{keep-every}
 use Rattle.base.proofs.Lengths.{length-keep}
 use Rattle.base.proofs.Sorted.{two-head, two-tail, smaller, same-equal, below-itself}
 use Rattle.base.proofs.Tests.{T-false, true-T, by-value, every-head, every-tail, every-weaker}
-use Rattle.base.specs.Lists.{any, every, keep, count, each-two, same}
 use Rattle.railway.specs.Ranges.{same-train}
 use Rattle.railway.specs.Relations.{key, precedes, same-relation}
 use Rattle.timetable.specs.Tables.{Entry, Table, enter, add-visit, change-entry, change-visit, has-relation, insert, add-relation, drop-relation, lose-all}
-use Rattle.timetable.proofs.TableLaws.{number}
+use Rattle.timetable.proofs.TableLaws.{number, precedes-across}
 use Rattle.records.specs.Bytes.{zeros, word, splice}
 use Rattle.records.specs.Records.{named, visit-bytes, encode-entry, decode-entry, encode-relation, decode-relation}
 use Rattle.records.proofs.RecordLaws.{entry-length, relation-length, word-back, relation-back, entry-back}
 use Rattle.page.specs.Types.{Train, Visit, Relation}
 use Rattle.page.specs.Pages.{slots, encode-page, records-of, visit-records, relation-records, visits-of, relations-of, decode-page}
 use Rattle.page.specs.between.Changes.{table-in, index-of, put-in, take-out, with-record, without-record, counts-to, train-index, train-place, page-add-visit}
-use Rattle.page.specs.between.Changes.{moved-by-visit, page-write-visit, page-remove-visit, relation-index, relation-place, page-add-relation, page-remove-relation}
+use Rattle.page.specs.between.Changes.{moved-by-visit, page-write-visit, page-remove-visit, relation-index, relation-place, page-add-relation, moved-by-relation, page-remove-relation}
 use Rattle.page.specs.between.Changes.{page-lose-train}
 use Rattle.page.proofs.SlotLaws.{index-most, table-of-page}
 use Rattle.page.proofs.RecordsPut.{splice-past, counts-few}
@@ -185,28 +184,29 @@ enter-cut e (x ∷ xs) = rw (entry-number x) (go (ltb (e .train .0) (x .train .0
     go true ih = refl
     go false ih = ap (λ r. x ∷ r) ih
 
--- in a list in order, those from there on are all that are above
+-- in a list in order, those from the first that passes a test on are all that pass it, if what stands behind one that
+-- passes does too
+module _ {A : Type 0} (encoded : A → List ℕ) (f : List ℕ → Bool) (g : A → Bool) (agrees : (x : A) → f (encoded x) ≡ g x)
+    (before : A → A → Bool) (up : (x y : A) → g x ≡ true → T (before x y) → T (g y)) where
+  passing-behind : (xs : List A) → T (each-two before xs) → length xs - index-of f (map encoded xs) ≡ count g xs
+  unfolding index-of count
+  passing-behind [] o = refl
+  passing-behind (x ∷ xs) o = rw (agrees x) (go (g x) refl (passing-behind xs (two-tail before x xs o)))
+    where
+      later : g x ≡ true → count g xs ≡ length xs
+      later e = sym (length-keep g xs) ∙ ap length (keep-every g xs (every-weaker (before x) g (λ y l. up x y e l) xs (two-head before x xs o)))
+
+      go : (b : Bool) → g x ≡ b → length xs - index-of f (map encoded xs) ≡ count g xs
+          → suc (length xs) - (if b then 0 else suc (index-of f (map encoded xs))) ≡ (1 if b else 0) + count g xs
+      go true e ih = omega (arith, later e)
+      go false e ih = omega (arith, ih)
+
+-- visits above a train
 above-count : (t : Train) (es : List Entry) → T (each-two (smaller number) es)
     → length es - index-of (λ b. ltb (t .0) (word b 0)) (map encode-entry es) ≡ count (λ e. ltb (t .0) (number e)) es
-unfolding index-of count
-above-count t [] o = refl
-above-count t (x ∷ xs) o = rw (entry-number x) (go (ltb (t .0) (number x)) refl (above-count t xs (two-tail (smaller number) x xs o)))
-  where
-    above : Entry → Bool
-    above e = ltb (t .0) (number e)
-
-    -- those after one that is above are above too
-    later : ltb (t .0) (number x) ≡ true → count above xs ≡ length xs
-    later e =
-        sym (length-keep above xs)
-        ∙ ap length (keep-every above xs (every-weaker (smaller number x) above
-        (λ y l. lt→ltb (t .0) (number y) (omega (arith, ltb-true (t .0) (number x) e, ltb→lt (number x) (number y) l))) xs (two-head (smaller number) x xs o)))
-
-    go : (b : Bool) → ltb (t .0) (number x) ≡ b
-        → let i = index-of (λ r. ltb (t .0) (word r 0)) (map encode-entry xs) in length xs - i ≡ count above xs
-        → suc (length xs) - (if b then 0 else suc i) ≡ (1 if b else 0) + count above xs
-    go true e ih = omega (arith, later e)
-    go false e ih = omega (arith, ih)
+above-count t =
+    passing-behind encode-entry (λ b. ltb (t .0) (word b 0)) (λ e. ltb (t .0) (number e)) (λ e. ap (λ (n : ℕ). ltb (t .0) n) (entry-number e)) (smaller number)
+    (λ x y e l. lt→ltb (t .0) (number y) (omega (arith, ltb-true (t .0) (number x) e, ltb→lt (number x) (number y) l)))
 
 module _ (t : Train) (tab : Table) (fit : Fitting tab) where
   page-place : train-place t (encode-page tab) ≡ index-of (λ b. ltb (t .0) (word b 0)) (map encode-entry (tab .visits))
@@ -317,6 +317,16 @@ module _ (q : Relation) (tab : Table) (fit : Fitting tab) where
       let inside : i ≤ length (tab .relations) =
       omega (arith, index-most (λ b. precedes q (decode-relation b)) (map encode-relation (tab .relations)), length-map (tab .relations) encode-relation) in
       rw (few, relations-place) (page-with-relation tab fit q i (insert q (tab .relations)) inside room (insert-cut q (tab .relations) absent))
+
+  -- "answers how many records it moved, exactly those after the new one"
+  pub moved-relation-page : length (tab .relations) < 6 → T (each-two precedes (tab .relations))
+      → moved-by-relation q (encode-page tab) ≡ count (precedes q) (tab .relations)
+  unfolding moved-by-relation
+  moved-relation-page room o =
+      let few = counts-few 1 5 (encode-page tab) (length (tab .relations)) (page-length tab fit) (sym (relations-count tab)) (omega arith) in
+      rw (few, relations-place, relations-count tab)
+      (passing-behind encode-relation (λ b. precedes q (decode-relation b)) (precedes q) (λ r. ap (precedes q) (relation-back r)) precedes
+      (λ x y e l. precedes-across q x y (true-T (precedes q x) e) l) (tab .relations) o)
 
   -- in a list in order a relation stands once
   alone : (x y : Relation) → same-relation q x ≡ true → T (precedes x y) → same-relation q y ≡ false

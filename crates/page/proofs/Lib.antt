@@ -4,6 +4,7 @@ pub mod FindLaws
 pub mod FoundLaws
 pub mod RecordsPut
 pub mod ChangeLaws
+pub mod InsertionsHold
 pub mod AnewLaws
 pub mod PageLaws
 pub mod EntryLaws

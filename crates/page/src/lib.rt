@@ -13,7 +13,7 @@ ghost use Rattle.records.specs.Bytes.{zeros, word, splice};
 ghost use Rattle.records.specs.Records.{encode-relation, decode-relation};
 ghost use Rattle.page.specs.Pages.{slots, records-of};
 ghost use Rattle.page.specs.between.Changes.{table-in, index-of, with-record, without-record, train-found, visit-answer, page-add-visit, moved-by-visit};
-ghost use Rattle.page.specs.between.Changes.{page-write-visit, page-remove-visit, page-add-relation, page-remove-relation};
+ghost use Rattle.page.specs.between.Changes.{page-write-visit, page-remove-visit, page-add-relation, moved-by-relation, page-remove-relation};
 ghost use Rattle.page.specs.between.Changes.{slotted, slotted-count, slotted-left, left-count, page-lose-train};
 use railway::relation::Relation;
 use railway::sorts::Train;
@@ -248,19 +248,19 @@ pub fn remove_visit(page: &mut [u8], train: Train)
     }
 }
 
-// Puts the relation in its place.
-pub fn add_relation(page: &mut [u8], relation: Relation)
-    ensures { λ _. ⌜ now (page .exit) ≡ page-add-relation relation (now (page .entry)) ⌝ }
+// Puts the relation in its place, and answers how many records it moved: those after the new one.
+pub fn add_relation(page: &mut [u8], relation: Relation) -> usize
+    ensures { λ r. ⌜ (r ≡ moved-by-relation relation (now (page .entry))) × (now (page .exit) ≡ page-add-relation relation (now (page .entry))) ⌝ }
 {
     if page.len() != 512 {
-        return;
+        return 0;
     }
     let n = bytes::size(page[1]);
     if 5 < n {
-        return;
+        return 0;
     }
     let i = relation_place(&page[416..512], n, relation);
-    put_in(page, 1, 416, i, record::relation_record(relation));
+    put_in(page, 1, 416, i, record::relation_record(relation))
 }
 
 // Takes the relation out.

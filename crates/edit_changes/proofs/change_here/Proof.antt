@@ -129,7 +129,7 @@ same-length-9 c = search needs
 
 returns-9 : tie.Need-returns-9
 unfolding here-page
-returns-9 c = rw (c .before .before .before .before .before .e9 .given .1) (c .before .before .add-relation .ensures)
+returns-9 c = rw (c .before .before .before .before .before .e9 .given .1) (c .before .before .add-relation .ensures .1)
 
 same-length-10 : tie.Need-same-length-10
 same-length-10 c = search needs

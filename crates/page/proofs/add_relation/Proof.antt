@@ -7,15 +7,17 @@ use mathlib.Core.Path.{_≡_, sym, ap, _∙_}
 use mathlib.Core.List.{List}
 use lib.ListN.{getD}
 use denote.Ref.{now}
-use Rattle.page.specs.between.Changes.{with-record, page-add-relation}
+use Rattle.page.specs.between.Changes.{with-record, page-add-relation, moved-by-relation}
 use Rattle.page.proofs.FindLaws.{relation-place-is}
 use Rattle.page.proofs.RecordsPut.{counts-short, counts-over, counts-few}
 use Rattle.page.proofs.add_relation.Statement.{statement}
 use Rattle.page.proofs.add_relation.Tie as tie
 
 returns : tie.Need-returns
-unfolding page-add-relation
-returns c = rw (counts-short 1 5 (now (c .before .before .args .page)) (c .if1 .taken))
+unfolding page-add-relation moved-by-relation
+returns c =
+    let e = counts-short 1 5 (now (c .before .before .args .page)) (c .if1 .taken) in
+    (rw e, rw e)
 
 slice-read-size : tie.Need-slice-read-size
 slice-read-size c = search needs
@@ -24,10 +26,11 @@ size-requires : tie.Need-size-requires
 size-requires c κs = search needs
 
 returns-2 : tie.Need-returns-2
-unfolding page-add-relation
+unfolding page-add-relation moved-by-relation
 returns-2 c =
     let z = c .before .size in
-    rw (counts-over 1 5 (now (c .before .before .before .before .before .args .page)) (z .result) (c .before .before .before .if1 .left) (z .ensures .0) (c .if2 .taken))
+    let e = counts-over 1 5 (now (c .before .before .before .before .before .args .page)) (z .result) (c .before .before .before .if1 .left) (z .ensures .0) (c .if2 .taken) in
+    (rw e, rw e)
 
 sub-relation-place : tie.Need-sub-relation-place
 sub-relation-place c = search needs
@@ -51,8 +54,9 @@ same-length : tie.Need-same-length
 same-length c = search needs
 
 returns-3 : tie.Need-returns-3
-unfolding page-add-relation
+unfolding page-add-relation moved-by-relation
 returns-3 c =
+    let put = c .before .before .put-in in
     let place = c .before .before .before .before .before .relation-place in
     let u = c .before .before .before .before .before .before .before .before in
     let z = u .before .size in
@@ -63,7 +67,7 @@ returns-3 c =
     let many : z .result ≡ min (getD p 1 0) 6 = omega arith in
     let there = relation-place-is (s .args .relation) p (place .result) (z .result) whole many (place .ensures .0) in
     let new = c .before .before .before .relation-record .ensures in
-    c .before .before .put-in .ensures .1 ∙ ap (λ (r : List ℕ). with-record 1 416 (place .result) r p) new ∙ sym (rw (few, there))
+    (put .ensures .0 ∙ sym (rw (few, there)), put .ensures .1 ∙ ap (λ (r : List ℕ). with-record 1 416 (place .result) r p) new ∙ sym (rw (few, there)))
 
 pub add-relation-spec : {M : Type 1} → statement M
 add-relation-spec =

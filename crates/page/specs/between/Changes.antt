@@ -102,6 +102,9 @@ relation-place q page = index-of (λ r. precedes q (decode-relation r)) (relatio
 unfoldable pub page-add-relation : Relation → List ℕ → List ℕ
 page-add-relation q page = if counts-to 1 5 page then with-record 1 416 (relation-place q page) (encode-relation q) page else page
 
+unfoldable pub moved-by-relation : Relation → List ℕ → ℕ
+moved-by-relation q page = if counts-to 1 5 page then getD page 1 0 - relation-place q page else 0
+
 unfoldable pub page-remove-relation : Relation → List ℕ → List ℕ
 page-remove-relation q page =
     if counts-to 1 6 page && ltb (relation-index q page) (getD page 1 0)
@@ -141,5 +144,5 @@ page-lose-train t page =
 -- The key ring of this module: `unfolding opened` opens every definition above.
 unfoldable pub opened : Unit {0}
 unfolding table-in index-of found train-found visit-answer put-in take-out with-record without-record counts-to train-index train-place page-add-visit moved-by-visit page-write-visit
-    page-remove-visit relation-index relation-place page-add-relation page-remove-relation is-slotted slotted slotted-count slotted-left left-count page-lose-train
+    page-remove-visit relation-index relation-place page-add-relation moved-by-relation page-remove-relation is-slotted slotted slotted-count slotted-left left-count page-lose-train
 opened = tt

@@ -23,7 +23,7 @@ same-length-2 c = search needs
 
 returns-2 : tie.Need-returns-2
 unfolding page-with-relation
-returns-2 c = c .before .before .add-relation .ensures ∙ rw (sym (c .before .before .before .before .before .has-relation .ensures) ∙ c .before .before .before .before .if1 .left)
+returns-2 c = c .before .before .add-relation .ensures .1 ∙ rw (sym (c .before .before .before .before .before .has-relation .ensures) ∙ c .before .before .before .before .if1 .left)
 
 pub put-relation-spec : {M : Type 1} → statement M
 put-relation-spec =
