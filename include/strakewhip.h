@@ -117,6 +117,22 @@ strakewhip_reply strakewhip_pair_findings(const uint8_t *network, size_t network
                                           size_t first_length, const uint8_t *second, size_t second_length, uint8_t one,
                                           uint8_t other, uint16_t *out, size_t out_length);
 
+/* The list of findings after one edit, from the list before it (document 02, W5): entries of `list` that the edit does
+ * not make stale, together with the findings redone at the stations that it names, and by rules 7 to 10 at those joined
+ * to them by a line; deleting a train redoes all. `sheet` is that of all stations after the edit, `list` four numbers a
+ * finding, rising strictly; entries elsewhere are kept as they are. Given the list of the sheet before, `out` is that of
+ * the sheet after. Refuses: 5 (the sheet); the network's file; the edit's file (1, 2, 3 with `file` 2); 7; 6; 3 (the
+ * list does not rise, or its length is no multiple of four); 13. `length`: numbers, four a finding. */
+strakewhip_reply strakewhip_recheck(const uint8_t *network, size_t network_length, const uint8_t *sheet,
+                                    size_t sheet_length, const uint8_t *edit, size_t edit_length, const uint16_t *list,
+                                    size_t list_length, uint16_t *out, size_t out_length);
+
+/* The same for one area, from its sheet, also where the edit names other areas alone. Refuses: as `strakewhip_recheck`,
+ * 3 of the area before 7. */
+strakewhip_reply strakewhip_recheck_area(const uint8_t *network, size_t network_length, const uint8_t *sheet,
+                                         size_t sheet_length, const uint8_t *edit, size_t edit_length, uint8_t area,
+                                         const uint16_t *list, size_t list_length, uint16_t *out, size_t out_length);
+
 /* A timetable's file into a sheet. Refuses: 5 (the sheet); the network's file; the timetable's file (1, 2, 3, then 7
  * and 12 entry by entry, with `file` 2). `length`: the bytes read, that is all. */
 strakewhip_reply strakewhip_read(const uint8_t *network, size_t network_length, const uint8_t *timetable,

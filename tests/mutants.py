@@ -4,8 +4,8 @@
 Usage: tests/mutants.py [WORD ...]    only the mistakes whose name has one of the words
 
 The copy is built in a temporary folder. A mistake is found if compare.py reports a difference to the second implementation.
-No program turns an old network file: of a mistake there (TURNED) the library's comparison has to report a difference,
-for which target/staticlib/libstrakewhip.a has to be built.
+No program turns an old network file or updates a list of findings: of a mistake there (TURNED, RECHECKED) the library's
+comparison has to report a difference of those calls, for which target/staticlib/libstrakewhip.a has to be built.
 """
 
 import os
@@ -322,7 +322,23 @@ MUTANTS = [
      "Ok(NetworkPart::read_form(&mut Reader::new(file), form)?.network.write())"),
     ("TURNED refused in the new file", "network.rs", "Ok(read(file, form)?.write())",
      "Ok(read(file, form).map_err(|old| FileRefusal { place: old.place + 1, ..old })?.write())"),
+    # Wrong only in the update of a list after an edit.
+    ("RECHECKED without neighbours", "recheck.rs", "(7..=10).contains(&rule)", "(7..=6).contains(&rule)"),
+    ("RECHECKED by rule 11 at neighbours", "recheck.rs", "(7..=10)", "(7..=11)"),
+    ("RECHECKED without rule 10", "recheck.rs", "(7..=10)", "(7..=9)"),
+    ("RECHECKED by all rules at neighbours", "recheck.rs", "((7..=10).contains(&rule) &&", "(rule > 0 &&"),
+    ("RECHECKED at s alone", "recheck.rs", "named.contains(&station)", "named[0] == station"),
+    ("RECHECKED beside s alone", "recheck.rs", "named.iter().any(", "named.iter().take(1).any("),
+    ("RECHECKED along first to second", "network.rs", "[(one, other), (other, one)]", "[(one, other)]"),
+    ("RECHECKED after a deletion as before it", "recheck.rs", "else { return true };", "else { return false };"),
+    ("RECHECKED without what stays", "recheck.rs", "elsewhere.chain(redone)", "elsewhere.take(0).chain(redone)"),
+    ("RECHECKED without what is redone", "recheck.rs", "elsewhere.chain(redone)", "elsewhere.chain(redone.take(0))"),
+    ("RECHECKED with what is stale", "recheck.rs", "filter(|entry| !stale(network, edit, entry))", "filter(|_| true)"),
+    ("RECHECKED from a list with an entry twice", "recheck.rs", "two[0] < two[1]", "two[0] <= two[1]"),
 ]
+
+# The calls of the library that differ where a program cannot show it.
+OF_THE_LIBRARY = {"TURNED": ("turn",), "RECHECKED": ("recheck", "recheck_area")}
 
 
 def by_programs(name, folder, built):
@@ -337,8 +353,8 @@ def by_programs(name, folder, built):
     return run.stdout.split("\n")[1].strip() if run.returncode == 1 and "DIFFERENCE" in run.stdout else None
 
 
-def by_library(folder, built):
-    """The first difference that tests/library reports, built in the folder beside the copy with the mistake, or none."""
+def by_library(calls, folder, built):
+    """The first difference of these calls that tests/library, built beside the copy with the mistake, reports, or none."""
     if not os.path.exists(os.path.join(ARCHIVES, "libstrakewhip.a")):
         print("target/staticlib/libstrakewhip.a is not built")
         return None
@@ -348,7 +364,8 @@ def by_library(folder, built):
     command = ["cargo", "run", "--quiet", "--offline", "--target-dir", built, "--", "10"]
     run = subprocess.run(command, cwd=os.path.join(folder, "tests", "library"), stdout=subprocess.PIPE,
                          stderr=subprocess.STDOUT, text=True, env={**os.environ, "STRAKEWHIP_LIB": ARCHIVES})
-    told = [line for line in run.stdout.split("\n") if line.startswith("library: turn differs")]
+    heads = tuple(f"library: {call} differs" for call in calls)
+    told = [line for line in run.stdout.split("\n") if line.startswith(heads)]
     return told[0] if run.returncode == 1 and told else None
 
 
@@ -381,7 +398,8 @@ def main():
                 print(f"{name}: does not build\n{build.stdout}")
                 missed.append(name)
                 continue
-            first = by_library(folder, built) if name.startswith("TURNED") else by_programs(name, folder, built)
+            calls = OF_THE_LIBRARY.get(name.split(" ")[0])
+            first = by_library(calls, folder, built) if calls else by_programs(name, folder, built)
             print(f"{name}: {first or 'NOT FOUND'}", flush=True)
             if not first:
                 missed.append(name)

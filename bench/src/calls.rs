@@ -14,7 +14,7 @@ use strakewhip::{DIVISION, MOST_ANSWERS, MOST_FINDINGS, MOST_ROWS, MOST_TIMETABL
 pub type Turn<'a> = Box<dyn FnMut() + 'a>;
 
 /// Each call by its name and what it does.
-pub const CALLS: [(&str, &str); 14] = [
+pub const CALLS: [(&str, &str); 16] = [
     ("edit", "an amendment on a division"),
     ("edit-tested", "the same place taken, refused with 8: what the test of one area's sheet takes"),
     ("delete-train", "a train that is not there deleted: six areas"),
@@ -25,6 +25,8 @@ pub const CALLS: [(&str, &str); 14] = [
     ("findings", "the findings of the whole"),
     ("area", "those of area 1"),
     ("pair", "those of areas 1 and 2"),
+    ("recheck", "the list of the whole after an edit of one station, from the list before"),
+    ("recheck-two", "the same after an edit of two stations"),
     ("read", "the timetable's file read"),
     ("write", "the timetable's file written"),
     ("project", "a projection from the first visit"),
@@ -36,12 +38,14 @@ pub struct Held {
     sheet: Vec<u8>,
     division: Vec<u8>,
     numbers: Vec<u16>,
+    list: Vec<u16>,
     rows: Vec<i32>,
     file: Vec<u8>,
     first: (u8, u16, u16),
     amend: Vec<u8>,
     place: Vec<u8>,
     delete: Vec<u8>,
+    ends: Vec<u8>,
 }
 
 impl Held {
@@ -52,16 +56,21 @@ impl Held {
         library::divide(&railway.network, &sheet, &mut division).expect("the sheet is good");
         let ((s, t), v) = railway.held.visits.iter().next().expect("there is a visit");
         let plan = [s.0, t.0, v.track.0, v.arrival.time as u32, v.departure.time as u32];
+        let mut list = vec![0; MOST_FINDINGS];
+        let length = library::findings(&railway.network, &sheet, &mut list).expect("the sheet is good");
+        list.truncate(length);
         Held {
             sheet,
             division,
             numbers: vec![0; MOST_FINDINGS],
+            list,
             rows: vec![0; MOST_ROWS],
             file: vec![0; MOST_TIMETABLE],
             first: (s.0 as u8, t.0 as u16, v.arrival.time as u16),
             amend: edit_bytes(&[&[6], &plan[..]].concat()),
             place: edit_bytes(&[&[1], &plan[..]].concat()),
             delete: edit_bytes(&[11, 9999]),
+            ends: edit_bytes(&[5, s.0, t.0, s.0 + 1]),
         }
     }
 
@@ -102,6 +111,12 @@ impl Held {
                 let (one, rest) = self.division.split_at(SHEET);
                 let list = library::pair_findings(n, one, &rest[..SHEET], 1, 2, &mut self.numbers);
                 black_box(list.expect("they are good"));
+            }),
+            "recheck" => Box::new(move || {
+                black_box(library::recheck(n, &self.sheet, &self.amend, &self.list, &mut self.numbers).expect("it is good"));
+            }),
+            "recheck-two" => Box::new(move || {
+                black_box(library::recheck(n, &self.sheet, &self.ends, &self.list, &mut self.numbers).expect("it is good"));
             }),
             "read" => Box::new(move || {
                 black_box(library::read(n, &railway.timetable, &mut self.sheet).expect("it is good"));

@@ -82,6 +82,8 @@ CALLS = {
     "strakewhip_findings": _IN + _IN + _NUMBERS,
     "strakewhip_area_findings": _IN + _IN + (_U8,) + _NUMBERS,
     "strakewhip_pair_findings": _IN + _IN + _IN + (_U8, _U8) + _NUMBERS,
+    "strakewhip_recheck": _IN + _IN + _IN + _NUMBERS + _NUMBERS,
+    "strakewhip_recheck_area": _IN + _IN + _IN + (_U8,) + _NUMBERS + _NUMBERS,
     "strakewhip_read": _IN + _IN + _IN,
     "strakewhip_write": _IN + _IN + _IN,
     "strakewhip_project": _IN + _IN + (_U8, _U16, _U16) + _ROWS,
@@ -189,6 +191,26 @@ def pair_findings(network, first, second, one, other):
     out = (_U16 * MOST_FINDINGS)()
     lent = _lent(network) + _lent(first) + _lent(second)
     return _fours(out, _call("strakewhip_pair_findings", *lent, one, other, out, MOST_FINDINGS).length)
+
+
+def _numbers(findings):
+    """A pointer and a length for a list of findings that is only read."""
+    numbers = [number for one in findings for number in one]
+    return (_U16 * max(1, len(numbers)))(*numbers), len(numbers)
+
+
+def recheck(network, sheet, edit, findings):
+    """The list after an edit, from the sheet after it and the list before. Refuses: 5; the network; the edit's; 7, 6, 3."""
+    out = (_U16 * (MOST_FINDINGS + 4 * len(findings)))()
+    lent = _lent(network) + _lent(sheet) + _lent(edit) + _numbers(findings)
+    return _fours(out, _call("strakewhip_recheck", *lent, out, len(out)).length)
+
+
+def recheck_area(network, sheet, edit, area, findings):
+    """The same for one area, from its sheet. Refuses: 5; the network; the edit's; 3 of the area; 7, 6, 3."""
+    out = (_U16 * (MOST_FINDINGS + 4 * len(findings)))()
+    lent = _lent(network) + _lent(sheet) + _lent(edit) + (area,) + _numbers(findings)
+    return _fours(out, _call("strakewhip_recheck_area", *lent, out, len(out)).length)
 
 
 def read(network, timetable, sheet):

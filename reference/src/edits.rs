@@ -36,6 +36,24 @@ pub enum Edit {
     DeleteTrain { train: Train },
 }
 
+impl Edit {
+    /// "Its stations s and p"; none for edit 11, which is of all stations.
+    pub fn stations(&self) -> Option<Vec<Station>> {
+        match self {
+            Edit::Place(plan) | Edit::Amend(plan) => Some(vec![plan.station]),
+            Edit::Prepend(plan, extension) | Edit::Append(plan, extension) => {
+                Some(vec![plan.station, extension.neighbour])
+            }
+            Edit::DeleteFirst { station, neighbour, .. } | Edit::DeleteLast { station, neighbour, .. } => {
+                Some(vec![*station, *neighbour])
+            }
+            Edit::ReportArrival { station, .. } | Edit::ReportDeparture { station, .. } => Some(vec![*station]),
+            Edit::AddRelation { station, .. } | Edit::RemoveRelation { station, .. } => Some(vec![*station]),
+            Edit::DeleteTrain { .. } => None,
+        }
+    }
+}
+
 pub fn read_station(reader: &mut Reader) -> Result<Number, FileRefusal> {
     reader.within(1..=16)
 }

@@ -90,6 +90,11 @@ impl Network {
         joins && self.lists(from) && self.lists(to)
     }
 
+    /// Whether a line has the two stations as its ends, whichever way it runs.
+    pub fn joined(&self, one: Station, other: Station) -> bool {
+        self.lines.values().any(|line| [(one, other), (other, one)].contains(&(line.first, line.second)))
+    }
+
     /// The file of the newest form.
     pub fn write(&self) -> Vec<u8> {
         let mut numbers = vec![self.stations.len() as u32];

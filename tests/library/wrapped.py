@@ -64,6 +64,25 @@ def main():
     assert library.turn(library.ONE_TIME, old) == NETWORK
     assert library.turn(library.ONE_TIME, old[:-1] + bytes([1, 1, 90, 103])) == closed[1]
 
+    # Each edit, with the list of before it, gives the list of after it: of the whole, and of each area.
+    division, sheet = bytearray(library.DIVISION), bytearray(library.SHEET)
+    whole, own = [], {area: [] for area in range(1, 7)}
+    for edit in EDITS:
+        library.edit(NETWORK, edit, division)
+        library.edit_sheet(NETWORK, edit, sheet)
+        whole = library.recheck(NETWORK, sheet, edit, whole)
+        assert whole == library.findings(NETWORK, sheet), (edit, whole)
+        for area in own:
+            part = library.area_sheet(division, area)
+            own[area] = library.recheck_area(NETWORK, part, edit, area, own[area])
+            assert own[area] == library.area_findings(NETWORK, part, area), (edit, area)
+    # A list of other findings: what is not at station 1, and not rules 7 to 10 at station 2, stays.
+    foreign = [(1, 9, 9, 9), (2, 3, 9, 9), (2, 9, 9, 9), (2, 11, 9, 9), (300, 7, 9, 9)]
+    kept = [one for one in library.recheck(NETWORK, sheet, EDITS[0], foreign) if 9 in one[2:]]
+    assert kept == [(2, 3, 9, 9), (2, 11, 9, 9), (300, 7, 9, 9)], kept
+    refused(3, 0, 0, library.recheck, NETWORK, sheet, EDITS[0], foreign[::-1])
+    refused(3, 0, 0, library.recheck_area, NETWORK, one, EDITS[0], 7, whole)
+
     refused(2, 1, 0, library.network, bytes([128, 0]))
     refused(14, 1, 17, library.network, NETWORK[:-1] + bytes([2, 1, 90, 90, 2, 0, 1]))
     refused(4, 1, 20, library.findings, NETWORK[:-1] + bytes([2, 1, 90, 91, 2, 0, 1]), sheet)

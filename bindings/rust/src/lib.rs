@@ -242,6 +242,57 @@ pub fn pair_findings(
     told(reply).map(|reply| reply.length)
 }
 
+/// The list of findings after one edit, from the sheet of all stations after it and the list before it: what the edit
+/// does not make stale of `list`, together with what is redone. Given the list of the sheet before, it is that of the
+/// sheet after, at the cost of the stations that the edit names and of those joined to them. Answers how many numbers
+/// there are. Refuses: 5; the network; 1, 2, 3 of the edit; 7; 6; 3 of a list that does not rise strictly, four numbers
+/// a finding; 13.
+pub fn recheck(network: &[u8], sheet: &[u8], edit: &[u8], list: &[u16], out: &mut [u16]) -> Result<usize, Error> {
+    let reply = unsafe {
+        raw::strakewhip_recheck(
+            network.as_ptr(),
+            network.len(),
+            sheet.as_ptr(),
+            sheet.len(),
+            edit.as_ptr(),
+            edit.len(),
+            list.as_ptr(),
+            list.len(),
+            out.as_mut_ptr(),
+            out.len(),
+        )
+    };
+    told(reply).map(|reply| reply.length)
+}
+
+/// The same for one area, from its sheet, also where the edit names other areas alone. Refuses as [`recheck`] does, 3 of
+/// the area before 7.
+pub fn recheck_area(
+    network: &[u8],
+    sheet: &[u8],
+    edit: &[u8],
+    area: u8,
+    list: &[u16],
+    out: &mut [u16],
+) -> Result<usize, Error> {
+    let reply = unsafe {
+        raw::strakewhip_recheck_area(
+            network.as_ptr(),
+            network.len(),
+            sheet.as_ptr(),
+            sheet.len(),
+            edit.as_ptr(),
+            edit.len(),
+            area,
+            list.as_ptr(),
+            list.len(),
+            out.as_mut_ptr(),
+            out.len(),
+        )
+    };
+    told(reply).map(|reply| reply.length)
+}
+
 /// Reads a timetable's file into a sheet, and answers how many bytes it has. Refuses: 5; the network; 1, 2, 3 of the
 /// timetable by place; then 7 and 12, entry by entry.
 pub fn read(network: &[u8], timetable: &[u8], sheet: &mut [u8]) -> Result<usize, Error> {

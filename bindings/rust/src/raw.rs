@@ -86,6 +86,31 @@ extern "C" {
         out: *mut u16,
         out_length: usize,
     ) -> Reply;
+    pub fn strakewhip_recheck(
+        network: *const u8,
+        network_length: usize,
+        sheet: *const u8,
+        sheet_length: usize,
+        edit: *const u8,
+        edit_length: usize,
+        list: *const u16,
+        list_length: usize,
+        out: *mut u16,
+        out_length: usize,
+    ) -> Reply;
+    pub fn strakewhip_recheck_area(
+        network: *const u8,
+        network_length: usize,
+        sheet: *const u8,
+        sheet_length: usize,
+        edit: *const u8,
+        edit_length: usize,
+        area: u8,
+        list: *const u16,
+        list_length: usize,
+        out: *mut u16,
+        out_length: usize,
+    ) -> Reply;
     pub fn strakewhip_read(
         network: *const u8,
         network_length: usize,

@@ -1,15 +1,16 @@
 -- The lists that the builder puts, gone through from an index on: one entry or relation, then the rest. Assumes
 -- nothing.
 use Prim.Native.Nat.{ℕ, suc, _+_, _-_, _<_, _≤_, min}
-use mathlib.Core.Path.{_≡_, refl, sym, ap, _∙_}
+use mathlib.Core.Path.{_≡_, refl, sym, ap, ap₂, _∙_}
 use mathlib.Core.Bool.{Bool, true, false, not, _||_}
 use mathlib.Core.List.{List, [], _∷_, _++_, map, flatMap, append-nil}
 use native.Mathlib.Omega.{arith}
 use lib.Dec.{eqb}
 use lib.ListN.{length, take, drop, getD, length-take, drop-of-length-le}
 use lib.Seq.{getD-take}
-use borrow.Author.Tests.{eq-eqb, ne-eqb}
-use Rattle.base.specs.Choice.{if_then_else_}
+use borrow.Author.Tests.{eqb-true, eq-eqb, ne-eqb}
+use Rattle.base.specs.Choice.{if_then_else_, _if_else_}
+use Rattle.base.proofs.Tests.{by-value}
 use Rattle.base.proofs.Lengths.{drop-next}
 use Rattle.network.specs.Networks.{station-rows, stations-of}
 use Rattle.network.proofs.RowsInUse.{used-rows}
@@ -18,7 +19,7 @@ use Rattle.timetable.specs.Visits.{with-out, outs}
 use Rattle.timetable.specs.Tables.{Entry, Table}
 use Rattle.timetable.specs.Machine.{Timetable}
 use Rattle.timetable.specs.Rules.{met}
-use Rattle.timetable.specs.Findings.{rules}
+use Rattle.timetable.specs.Findings.{is-far, rules}
 use Rattle.page.specs.between.Changes.{table-in}
 use Rattle.rules.specs.between.Parts.{entry}
 use Rattle.page.specs.between.Entries.{entry-at, relation-at}
@@ -26,9 +27,12 @@ use Rattle.page.proofs.EntryLaws.{entries-next, relations-next}
 use Rattle.railway.specs.declared.visit.OutLink.{OutLink}
 use Rattle.builder.specs.Types.{Station, Train, Outward, Visit, Relation, Network}
 use Rattle.scope.specs.declared.Scope.{Scope}
+use Rattle.scope.specs.declared.redone.Marks.{Marks}
 use Rattle.rule_tests.specs.between.Tests.{clash, broken, second-of}
-use Rattle.builder.specs.between.Builder.{rule-count, told, is-far, against, unmet-numbers, facing, step, walk, rule-numbers, numbers-from, station-numbers, all-numbers}
+use Rattle.builder.specs.between.Builder.{rule-count, told, against, unmet-numbers, facing, step, walk, rule-numbers, numbers-from}
+use Rattle.builder.specs.between.Builder.{station-numbers, all-numbers, first-rule, rules-redone, redone-station, redone-numbers}
 use Rattle.scope.specs.Scopes.{takes}
+use Rattle.scope.specs.Redone.{all-redone, level}
 
 -- the rules that are gone through are those of document 01
 pub rules-counted : (n : Network) (s : Station) (here : Table) → length (rules n s here) ≡ rule-count
@@ -136,25 +140,52 @@ module _ (n : Network) (scope : Scope) (m : Timetable) (here : Table) (s : Stati
     unfolding rule-numbers
     rule-none p = sym (rw (← asked, p))
 
-  -- the rules that are left, from a number on
-  abbrev pub rules-left : ℕ → List ℕ
-  rules-left rule = numbers-from n scope m here s rule (suc rule-count - rule)
+  -- the rules that are left, from a number on to an end
+  abbrev pub rules-left : ℕ → ℕ → List ℕ
+  rules-left end rule = numbers-from n scope m here s rule (end - rule)
 
-  pub rules-next : (rule : ℕ) → rule ≤ rule-count → rules-left rule ≡ rule-numbers n scope m here s rule ++ rules-left (rule + 1)
+  pub rules-next : (end rule : ℕ) → rule < end → rules-left end rule ≡ rule-numbers n scope m here s rule ++ rules-left end (rule + 1)
   unfolding numbers-from
-  rules-next rule h =
-      let more : suc rule-count - rule ≡ suc (suc rule-count - (rule + 1)) = omega arith in
+  rules-next end rule h =
+      let more : end - rule ≡ suc (end - (rule + 1)) = omega arith in
       ap (numbers-from n scope m here s rule) more
 
-  pub rules-over : (rule : ℕ) → rule-count < rule → rules-left rule ≡ []
+  pub rules-over : (end rule : ℕ) → end ≤ rule → rules-left end rule ≡ []
   unfolding numbers-from
-  rules-over rule h =
-      let none : suc rule-count - rule ≡ 0 = omega arith in
+  rules-over end rule h =
+      let none : end - rule ≡ 0 = omega arith in
       ap (numbers-from n scope m here s rule) none
 
-  pub station-is : here ≡ m s → rules-left 1 ≡ station-numbers n scope m s
-  unfolding station-numbers
-  station-is same = ap (λ (x : Table). numbers-from n scope m x s 1 rule-count) same
+  -- as many as there are up to the end
+  pub rules-all : (there : Table) → here ≡ there → (end first count : ℕ) → end ≡ first + count → rules-left end first ≡ numbers-from n scope m there s first count
+  rules-all there same end first count e =
+      let many : end - first ≡ count = omega arith in
+      ap₂ (λ (x : Table) (k : ℕ). numbers-from n scope m x s first k) same many
+
+-- what is redone at a station of a level: some of the rules
+pub redone-range : (k : ℕ) → (1 ≤ first-rule k) × (first-rule k + rules-redone k ≤ rule-count + 1)
+unfolding first-rule rules-redone
+redone-range k = by-value (eqb k 1) yes no
+  where
+    yes : eqb k 1 ≡ true → (1 ≤ first-rule k) × (first-rule k + rules-redone k ≤ rule-count + 1)
+    yes e = rw (eqb-true k 1 e) (omega arith, omega arith)
+
+    no : eqb k 1 ≡ false → (1 ≤ first-rule k) × (first-rule k + rules-redone k ≤ rule-count + 1)
+    no e = rw e (omega arith, go (eqb k 2))
+      where
+        go : (b : Bool) → 1 + (rule-count if b else 0) ≤ rule-count + 1
+        go true = omega arith
+        go false = omega arith
+
+pub redone-is : (n : Network) (scope : Scope) (marks : Marks) (m : Timetable) (s : Station) (k first count : ℕ)
+    → k ≡ level marks (s .0) → first ≡ first-rule k → count ≡ rules-redone k → numbers-from n scope m (m s) s first count ≡ redone-station n scope marks m s
+unfolding redone-station
+redone-is n scope marks m s k first count e f g = rw (f, g, e)
+
+-- a whole list is what is redone where all is
+pub all-redone-is : (n : Network) (scope : Scope) (m : Timetable) → redone-numbers n scope all-redone m ≡ all-numbers n scope m
+unfolding redone-numbers redone-station all-numbers station-numbers level first-rule rules-redone
+all-redone-is n scope m = refl
 
 -- rows in use, gone through from an index on
 module _ {A : Type 0} (f : A → List ℕ) (rows : List A) (k : ℕ) (fits : k ≤ length rows) (i : ℕ) where
@@ -174,10 +205,10 @@ flat-map f g [] = refl
 flat-map f g (x ∷ xs) = ap (λ (ys : List ℕ). f (g x) ++ ys) (flat-map f g xs)
 
 -- all stations, by the rows in use
-pub stations-are : (n : Network) (scope : Scope) (m : Timetable) (k : ℕ) → length (n .stations) ≡ 16 → k ≡ min (n .stationcount) 16
-    → flatMap (λ r. station-numbers n scope m (r .station)) (take k (n .stations)) ≡ all-numbers n scope m
-unfolding all-numbers stations-of station-rows
-stations-are n scope m k many e =
+pub stations-are : (f : Station → List ℕ) (n : Network) (k : ℕ) → length (n .stations) ≡ 16 → k ≡ min (n .stationcount) 16
+    → flatMap (λ r. f (r .station)) (take k (n .stations)) ≡ flatMap f (stations-of n)
+unfolding stations-of station-rows
+stations-are f n k many e =
     sym
-    (flat-map (station-numbers n scope m) (λ (r : StationRow). r .station) (take (n .stationcount) (n .stations))
-    ∙ ap (flatMap (λ r. station-numbers n scope m (r .station))) (used-rows (n .stations) (n .stationcount) 16 k many e))
+    (flat-map f (λ (r : StationRow). r .station) (take (n .stationcount) (n .stations))
+    ∙ ap (flatMap (λ r. f (r .station))) (used-rows (n .stations) (n .stationcount) 16 k many e))

@@ -1,8 +1,8 @@
 -- How long what the builder puts is at most: a finding is four numbers, a visit has 24 findings under one rule, a
 -- station 24 visits and 6 relations, whatever the bytes of its page are, and a list at most 16 stations. Assumes
 -- nothing.
-use Prim.Native.Nat.{ℕ, zero, suc, _+_, _*_, _≤_, min}
-use mathlib.Core.Path.{_≡_}
+use Prim.Native.Nat.{ℕ, zero, suc, _+_, _*_, _-_, _≤_, min}
+use mathlib.Core.Path.{_≡_, refl, ap}
 use mathlib.Core.Bool.{Bool, true, false, not, _||_}
 use mathlib.Core.List.{List, [], _∷_, flatMap}
 use native.Mathlib.Omega.{arith}
@@ -15,6 +15,7 @@ use Rattle.timetable.specs.Visits.{with-out, outs}
 use Rattle.timetable.specs.Tables.{Entry, Table, empty}
 use Rattle.timetable.specs.Machine.{Timetable}
 use Rattle.timetable.specs.Rules.{met}
+use Rattle.timetable.specs.Findings.{is-far}
 use Rattle.records.specs.Records.{decode-entry, decode-relation}
 use Rattle.page.specs.Pages.{records-of, visit-records, relation-records, visits-of, relations-of, decode-page}
 use Rattle.page.specs.between.Changes.{table-in}
@@ -24,7 +25,7 @@ use Rattle.builder.specs.Types.{Station, Outward, Visit, Relation, Netwo
 use Rattle.scope.specs.declared.Scope.{Scope}
 use Rattle.builder.specs.between.Builder.{rule-count, visit-most, visits-most, relations-most, station-most, list-most}
 use Rattle.rule_tests.specs.between.Tests.{held, clash, broken, second-of}
-use Rattle.builder.specs.between.Builder.{told, is-far, against, unmet-numbers, facing, step, walk, rule-numbers, numbers-from, station-numbers, all-numbers}
+use Rattle.builder.specs.between.Builder.{told, against, unmet-numbers, facing, step, walk, rule-numbers, numbers-from, station-numbers, all-numbers}
 use Rattle.scope.specs.Scopes.{takes}
 
 -- lists of at most w numbers each
@@ -64,6 +65,28 @@ rule-most rule = if eqb rule 4 then relations-most else visits-most
 unfoldable pub most-from : ℕ → ℕ → ℕ
 most-from rule zero = 0
 most-from rule (suc left) = rule-most rule + most-from (rule + 1) left
+
+most-append : (rule a b : ℕ) → most-from rule (a + b) ≡ most-from rule a + most-from (rule + a) b
+unfolding most-from
+most-append rule zero b =
+    let same : 0 + b ≡ b = omega arith in
+    let start : rule ≡ rule + 0 = omega arith in
+    omega (arith, ap (most-from rule) same, ap (λ (k : ℕ). most-from k b) start)
+most-append rule (suc a) b =
+    let more : suc a + b ≡ suc (a + b) = omega arith in
+    let next : rule + 1 + a ≡ rule + suc a = omega arith in
+    omega (arith, ap (most-from rule) more, most-append (rule + 1) a b, ap (λ (k : ℕ). most-from k b) next)
+
+-- some of the rules put no more than all
+range-most : (first count : ℕ) → 1 ≤ first → first + count ≤ rule-count + 1 → most-from first count ≤ station-most
+unfolding most-from rule-most
+range-most first count low high =
+    let rest : ℕ = rule-count + 1 - (first + count) in
+    let start : 1 + (first - 1) ≡ first = omega arith in
+    let all : first - 1 + (count + rest) ≡ rule-count = omega arith in
+    let whole : most-from 1 rule-count ≡ station-most = refl in
+    omega
+    (arith, whole, ap (most-from 1) all, most-append 1 (first - 1) (count + rest), ap (λ (k : ℕ). most-from k (count + rest)) start, most-append first count rest)
 
 -- a timetable within the limits of visits and relations at each station
 module _ (n : Network) (scope : Scope) (m : Timetable) (few : (s : Station) → (length (m s .visits) ≤ 24) × (length (m s .relations) ≤ 6)) where
@@ -111,13 +134,12 @@ module _ (n : Network) (scope : Scope) (m : Timetable) (few : (s : Station) → 
       from-bound rule (suc left) =
           omega (arith, length-append (rule-numbers n scope m here s rule) (numbers-from n scope m here s (rule + 1) left), rule-bound rule, from-bound (rule + 1) left)
 
-      pub rules-bound : length (numbers-from n scope m here s 1 rule-count) ≤ station-most
-      unfolding most-from rule-most
-      rules-bound = from-bound 1 rule-count
+      pub rules-bound : (first count : ℕ) → 1 ≤ first → first + count ≤ rule-count + 1 → length (numbers-from n scope m here s first count) ≤ station-most
+      rules-bound first count low high = omega (arith, from-bound first count, range-most first count low high)
 
   station-bound : (s : Station) → length (station-numbers n scope m s) ≤ station-most
   unfolding station-numbers
-  station-bound s = rules-bound (m s) s (few s .0) (few s .1)
+  station-bound s = rules-bound (m s) s (few s .0) (few s .1) 1 rule-count (omega arith) (omega arith)
 
   pub all-most : length (stations-of n) ≤ 16 → length (all-numbers n scope m) ≤ list-most
   unfolding all-numbers
@@ -145,8 +167,8 @@ held-few : (sheet : List ℕ) (s : Station) → (length (held sheet s .visits) �
 unfolding held
 held-few sheet s = table-few (station-part sheet s)
 
--- all rules at the page of a station
+-- some of the rules at the page of a station
 pub page-bound : (n : Network) (scope : Scope) (sheet : List ℕ) (s : Station) (here : Table) → here ≡ held sheet s
-    → length (numbers-from n scope (held sheet) here s 1 rule-count) ≤ station-most
-page-bound n scope sheet s here same =
-    rw same (rules-bound n scope (held sheet) (held-few sheet) (held sheet s) s (held-few sheet s .0) (held-few sheet s .1))
+    → (first count : ℕ) → 1 ≤ first → first + count ≤ rule-count + 1 → length (numbers-from n scope (held sheet) here s first count) ≤ station-most
+page-bound n scope sheet s here same first count low high =
+    rw same (rules-bound n scope (held sheet) (held-few sheet) (held sheet s) s (held-few sheet s .0) (held-few sheet s .1) first count low high)

@@ -11,7 +11,9 @@ ghost use Rattle.page.specs.between.Changes.{table-in};
 ghost use Rattle.rules.specs.between.Parts.{entry};
 ghost use Rattle.page.specs.between.Entries.{entry-at};
 ghost use Rattle.builder.specs.between.Builder.{visit-most, visits-most, relations-most, station-most, list-most};
-ghost use Rattle.builder.specs.between.Builder.{is-far, against, facing, step, walk, unmet-numbers, rule-numbers, station-numbers, all-numbers};
+ghost use Rattle.builder.specs.between.Builder.{rule-count, against, facing, step, walk, unmet-numbers, rule-numbers, numbers-from, all-numbers};
+ghost use Rattle.builder.specs.between.Builder.{first-rule, rules-redone, redone-station, redone-numbers};
+ghost use Rattle.timetable.specs.Findings.{is-far};
 ghost use Rattle.rule_tests.specs.between.Tests.{held};
 ghost use Rattle.scope.specs.Scopes.{takes};
 use network::Network;
@@ -23,6 +25,8 @@ use railway::visit::OutLink;
 use railway::visit::Visit;
 use records::record;
 use scope::Scope;
+use scope::redone;
+use scope::redone::Marks;
 use sheet::station_page;
 
 mod put; // numbers put into the lent buffer
@@ -181,21 +185,11 @@ fn list_unmet(out: &mut [u16], at: usize, here: &[u8], s: Station) -> usize
     to
 }
 
-// Rules 7 to 10.
-fn is_far(rule: u16) -> bool
-    ensures { λ r. ⌜ r ≡ is-far rule ⌝ }
-{
-    if rule < 7 {
-        return false;
-    }
-    rule <= 10
-}
-
 // Whether the list may take what the rule finds at the station.
 fn is_asked(n: Network, scope: Scope, s: Station, rule: u16) -> bool
     ensures { λ r. ⌜ r ≡ (is-far rule || takes n scope s s) ⌝ }
 {
-    if is_far(rule) {
+    if redone::is_far(rule) {
         return true;
     }
     scope::is_taken(n, scope, s, s)
@@ -223,31 +217,74 @@ fn list_rule(
     at
 }
 
-// All rules, by their numbers.
-fn list_station(
+// As many rules as asked for, from a number on.
+fn list_rules(
     out: &mut [u16],
     at: usize,
     sheet: &[u8],
     n: Network,
     scope: Scope,
     s: Station,
+    first: u16,
+    count: u16,
 ) -> usize
-    requires { ⌜ at + station-most ≤ list-most ⌝ }
-    ensures { λ r. ⌜ Puts at (station-numbers n scope (held (now (sheet .entry))) s) (now (out .entry)) r (now (out .exit)) station-most ⌝ }
+    requires { ⌜ (at + station-most ≤ list-most) × (1 ≤ first) × (first + count ≤ rule-count + 1) ⌝ }
+    ensures { λ r. ⌜ Puts at (numbers-from n scope (held (now (sheet .entry))) (held (now (sheet .entry)) s) s first count) (now (out .entry)) r (now (out .exit)) station-most ⌝ }
 {
     let here = station_page::page_of(sheet, s);
+    let end = first + count;
     let mut to = at;
-    let mut rule: u16 = 1;
-    while rule <= RULES {
+    let mut rule = first;
+    while rule < end {
         to = list_rule(out, to, sheet, here, n, scope, s, rule);
         rule += 1;
     }
     to
 }
 
-// All stations, from the buffer's start.
-pub fn list_all(out: &mut [u16], sheet: &[u8], n: Network, scope: Scope) -> usize
-    ensures { λ r. ⌜ Puts 0 (all-numbers n scope (held (now (sheet .entry)))) (now (out .entry)) r (now (out .exit)) list-most ⌝ }
+// What is redone at a station of this level: its first rule, and how many.
+fn first_rule(level: u8) -> u16
+    ensures { λ r. ⌜ r ≡ first-rule level ⌝ }
+{
+    if level == 1 {
+        return 7;
+    }
+    1
+}
+
+fn rules_redone(level: u8) -> u16
+    ensures { λ r. ⌜ r ≡ rules-redone level ⌝ }
+{
+    if level == 2 {
+        return RULES;
+    }
+    if level == 1 {
+        return 4;
+    }
+    0
+}
+
+fn list_redone_at(
+    out: &mut [u16],
+    at: usize,
+    sheet: &[u8],
+    n: Network,
+    scope: Scope,
+    marks: Marks,
+    s: Station,
+) -> usize
+    requires { ⌜ at + station-most ≤ list-most ⌝ }
+    ensures { λ r. ⌜ Puts at (redone-station n scope marks (held (now (sheet .entry))) s) (now (out .entry)) r (now (out .exit)) station-most ⌝ }
+{
+    let level = redone::level(marks, s.0 as u16);
+    let first = first_rule(level);
+    let count = rules_redone(level);
+    list_rules(out, at, sheet, n, scope, s, first, count)
+}
+
+// What is redone, station by station, from the buffer's start.
+pub fn list_redone(out: &mut [u16], sheet: &[u8], n: Network, scope: Scope, marks: Marks) -> usize
+    ensures { λ r. ⌜ Puts 0 (redone-numbers n scope marks (held (now (sheet .entry)))) (now (out .entry)) r (now (out .exit)) list-most ⌝ }
 {
     let rows = n.stations;
     let k = network::in_use(n.stationcount, 16);
@@ -255,8 +292,15 @@ pub fn list_all(out: &mut [u16], sheet: &[u8], n: Network, scope: Scope) -> usiz
     let mut i: usize = 0;
     while i < k {
         let row = rows[i];
-        to = list_station(out, to, sheet, n, scope, row.station);
+        to = list_redone_at(out, to, sheet, n, scope, marks, row.station);
         i += 1;
     }
     to
+}
+
+// A whole list: what is redone where all is.
+pub fn list_all(out: &mut [u16], sheet: &[u8], n: Network, scope: Scope) -> usize
+    ensures { λ r. ⌜ Puts 0 (all-numbers n scope (held (now (sheet .entry)))) (now (out .entry)) r (now (out .exit)) list-most ⌝ }
+{
+    list_redone(out, sheet, n, scope, redone::everywhere())
 }

@@ -11,21 +11,17 @@ use Rattle.base.proofs.Tests.{and-l, and-r, every-head, every-tail}
 use Rattle.network.specs.Networks.{area-of}
 use Rattle.timetable.specs.Machine.{Timetable}
 use Rattle.timetable.specs.Groups.{six, Divided, divide}
-use Rattle.timetable.specs.Findings.{finding, numbers, numbers-of, own-list, pair-list}
+use Rattle.timetable.specs.Findings.{finding, numbers, numbers-of, own-list, pair-list, findings-in}
 use Rattle.theory.specs.Statements as theory
 use Rattle.sheet.specs.Sheets.{decode-sheet, sheet-at}
 use Rattle.sheet.proofs.SheetLaws.{area-number, all-areas}
 use Rattle.findings.specs.Lists.{area-list, two-list}
 use Rattle.findings.proofs.DividedLists.{area-same, pair-same}
 use Rattle.demands.specs.Types.{Network, Finding}
-use Rattle.demands.specs.Demand.{findings-in, area, area-lists, pair-lists, all-lists}
+use Rattle.recheck.proofs.FourLaws.{fours-numbers}
+use Rattle.demands.specs.Demand.{area, area-lists, pair-lists, all-lists}
 
 -- numbers
-
-pub numbers-back : (fs : List Finding) → findings-in (numbers-of fs) ≡ fs
-unfolding findings-in numbers-of flatMap finding
-numbers-back [] = refl
-numbers-back (f ∷ fs) = ap (λ (l : List Finding). f ∷ l) (numbers-back fs)
 
 numbers-join : (xs ys : List Finding) → numbers-of (xs ++ ys) ≡ numbers-of xs ++ numbers-of ys
 unfolding numbers-of flatMap
@@ -63,4 +59,4 @@ module _ (n : Network) (division : List ℕ) (m : Timetable) (reads : (a : ℕ) 
       (λ ab t. pair-same n division m reads (area (ab .0)) (area (ab .1)) (and-l (area-number (ab .0)) (area-number (ab .1)) t) (and-r (area-number (ab .0)) (area-number (ab .1)) t))
       (pairs six) all-pairs)
       ∙ sym (numbers-join (flatMap (own-list n (area-of n) parts) six) (flatMap (pair-list n (area-of n) parts) (pairs six))))
-      ∙ numbers-back (flatMap (own-list n (area-of n) parts) six ++ flatMap (pair-list n (area-of n) parts) (pairs six))
+      ∙ fours-numbers (flatMap (own-list n (area-of n) parts) six ++ flatMap (pair-list n (area-of n) parts) (pairs six))

@@ -15,7 +15,7 @@ use Rattle.network.specs.Networks.{network-refusal, listed, area-of}
 use Rattle.timetable.specs.Machine.{Timetable, answer, after}
 use Rattle.timetable.specs.Groups.{six, divide}
 use Rattle.timetable.specs.Good.{Whole}
-use Rattle.timetable.specs.Findings.{findings}
+use Rattle.timetable.specs.Findings.{findings, findings-in}
 use Rattle.theory.specs.Reordering.{along}
 use Rattle.theory.specs.Statements.{AnyOrder, Findings}
 use Rattle.theory.specs.Statements as theory
@@ -32,8 +32,9 @@ use Rattle.machine.proofs.WholeSheets.{whole-good, whole-back, bytes-run, divid
 use Rattle.findings.specs.Lists.{sheet-list, sheet-list-refusal}
 use Rattle.findings.proofs.DividedLists.{list-formed, area-listed, pair-listed}
 use Rattle.demands.specs.Types.{Area, Network}
-use Rattle.demands.specs.Demand.{DemandHolds, findings-in, all-lists}
-use Rattle.demands.proofs.AllLists.{numbers-back, all-same}
+use Rattle.recheck.proofs.FourLaws.{fours-numbers}
+use Rattle.demands.specs.Demand.{DemandHolds, all-lists}
+use Rattle.demands.proofs.AllLists.{all-same}
 
 -- what the sheet of a whole timetable and its division hold
 module _ (n : Network) (good : network-refusal n ≡ 0) (m : Timetable) (w : Whole n m) where
@@ -48,7 +49,7 @@ module _ (n : Network) (good : network-refusal n ≡ 0) (m : Timetable) (w : Who
   whole-listed = (
     list-formed (eqb (length sheet) 8192) (network-refusal n) (good-sheet n (listed n) sheet)
         (eq-eqb (length sheet) 8192 (g .size)) good (T-true (good-sheet n (listed n) sheet) (g .fine)),
-    numbers-back (findings n (decode-sheet sheet)) ∙ ap (findings n) (whole-back n good m w),
+    fours-numbers (findings n (decode-sheet sheet)) ∙ ap (findings n) (whole-back n good m w),
   )
 
   reads : (a : ℕ) → T (area-number a) → decode-sheet (sheet-at (divided n sheet) a) ≡ divide (area-of n) m a

@@ -10,3 +10,4 @@ pub mod HistoryCases
 pub mod Balances
 pub mod FilesHold
 pub mod TurningHolds
+pub mod RechecksHold

@@ -1,17 +1,15 @@
 -- The lists that the calls form. They rise: the sheet of an area and the sheets of two hold whole timetables, whose
 -- findings rise, and the lists of areas and pairs are kept from those. A pair's list is the same with areas and sheets
 -- exchanged: where it is formed the areas differ (findings TurnLaws), else nothing of it is read. Assumes nothing.
-use Prim.Native.Nat.{ℕ, _*_}
-use mathlib.Core.Path.{_≡_, refl, sym, _∙_, ap, ap₂}
+use Prim.Native.Nat.{ℕ}
+use mathlib.Core.Path.{_≡_, sym, _∙_, ap, ap₂}
 use mathlib.Core.Bool.{Bool, true, false, not, _&&_, _||_}
-use mathlib.Core.List.{List, [], _∷_, map, flatMap}
-use native.Mathlib.Omega.{arith}
+use mathlib.Core.List.{List, map}
 use lib.Dec.{T, eqb, eqb→eq}
 use lib.ListN.{length}
 use borrow.Author.Tests.{eqb-true, eq-eqb}
-use Rattle.base.specs.Lists.{each-two, keep, below}
+use Rattle.base.specs.Lists.{each-two, below}
 use Rattle.base.proofs.Tests.{by-value, true-T, and-l, and-r}
-use Rattle.base.proofs.Sorted.{two-keep, two-map}
 use Rattle.railway.specs.Ranges.{area-ok}
 use Rattle.network.specs.Networks.{network-refusal, listed, area-of}
 use Rattle.timetable.specs.Machine.{Timetable}
@@ -21,36 +19,24 @@ use Rattle.timetable.specs.Findings.{Spanning, spanning, picked, findings, insi
 use Rattle.timetable.proofs.RefusalLaws.{call-passed}
 use Rattle.timetable.specs.Outputs.{refused, output, output-after}
 use Rattle.theory.proofs.Rising.{findings-rise}
+use Rattle.theory.proofs.Rechecked.{picked-rises}
 use Rattle.sheet.specs.Sheets.{decode-sheet, good-sheet}
 use Rattle.machine.proofs.ByteEdits.{whole-of}
 use Rattle.findings.specs.Lists.{sheet-list, area-list, two-parts, two-list, list-early, good-part, two-areas, sheet-list-refusal, area-list-refusal, two-list-refusal}
 use Rattle.findings.proofs.ListCalls.{early-fine}
 use Rattle.findings.proofs.TurnLaws.{two-list-turned, two-refusal-turned}
+use Rattle.recheck.proofs.FourLaws.{fours-numbers, numbers-length}
 use Rattle.demands.specs.Types.{Station, Area, Network, Finding}
 use Rattle.demands.specs.Lists.{Rises, ListsRise, PairsAreUnordered}
-use Rattle.demands.proofs.AllLists.{numbers-back}
 use Rattle.demands.proofs.Gathered.{own-good, part-whole, gather-whole}
 
 -- rising
 
--- four numbers a finding
-numbers-four : (fs : List Finding) → length (numbers-of fs) ≡ 4 * length fs
-unfolding numbers-of flatMap
-numbers-four [] = refl
-numbers-four (f ∷ fs) = omega (arith, numbers-four fs)
-
 -- the numbers of a rising list
 rises : (fs : List Finding) → T (each-two (λ f g. below (numbers f) (numbers g)) fs) → Rises (numbers-of fs)
-rises fs t = record { by-four = rw (numbers-back fs) (numbers-four fs); rising = rw (numbers-back fs) t }
+rises fs t = record { by-four = rw (fours-numbers fs) (numbers-length fs); rising = rw (fours-numbers fs) t }
 
 -- what is kept from a rising list rises
-picked-rises : (p : Spanning → Bool) (xs : List Spanning) → T (each-two (λ f g. below (numbers f) (numbers g)) (map (λ x. x .found) xs))
-    → T (each-two (λ f g. below (numbers f) (numbers g)) (picked p xs))
-unfolding picked
-picked-rises p xs t =
-    let f : Finding → Finding → Bool = λ f g. below (numbers f) (numbers g) in
-    rw (two-map f (λ x. x .found) (keep p xs)) (two-keep (λ x y. f (x .found) (y .found)) p xs (rw (two-map f (λ x. x .found) xs) at t))
-
 findings-in-part : (n : Network) → network-refusal n ≡ 0 → (m : Timetable) → Whole n m → (p : Spanning → Bool)
     → T (each-two (λ f g. below (numbers f) (numbers g)) (picked p (spanning n m)))
 unfolding findings
@@ -64,14 +50,21 @@ whole-rises n sheet r =
     (findings-rise n (p .1) (decode-sheet sheet)
     (whole-of n (p .1) sheet (eqb-true (length sheet) 8192 (p .0)) (true-T (good-sheet n (listed n) sheet) (p .2))))
 
+-- what is found from an area's sheet
+pub area-found : (n : Network) → network-refusal n ≡ 0 → (sheet : List ℕ) (a : Area) → eqb (length sheet) 8192 ≡ true → good-part n a sheet ≡ true
+    → T (each-two (λ f g. below (numbers f) (numbers g)) (group-findings n (area-of n) (decode-sheet sheet) (a .0)))
+unfolding group-findings good-part
+area-found n good sheet a p q =
+    findings-in-part n good (decode-sheet sheet)
+    (part-whole n good (a .0) sheet (eqb-true (length sheet) 8192 p) (true-T (good-part n a sheet) q)) (inside (area-of n) (a .0))
+
 area-rises : (n : Network) (sheet : List ℕ) (a : Area) → area-list-refusal n sheet a ≡ 0 → Rises (area-list n sheet a)
-unfolding area-list-refusal area-list group-findings good-part
+unfolding area-list-refusal area-list
 area-rises n sheet a r =
     let p = call-passed (eqb (length sheet) 8192) (list-early n (area-ok a)) (good-part n a sheet) 0 r in
     let good : network-refusal n ≡ 0 = early-fine n (area-ok a) (p .1) .1 in
     rises (group-findings n (area-of n) (decode-sheet sheet) (a .0))
-    (findings-in-part n good (decode-sheet sheet)
-    (part-whole n good (a .0) sheet (eqb-true (length sheet) 8192 (p .0)) (true-T (good-part n a sheet) (p .2))) (inside (area-of n) (a .0)))
+    (area-found n good sheet a (p .0) (p .2))
 
 pair-rises : (n : Network) (first second : List ℕ) (a b : Area) → two-list-refusal n first second a b ≡ 0 → Rises (two-list n first second a b)
 unfolding two-list-refusal two-list pair-list pair-findings two-parts good-part

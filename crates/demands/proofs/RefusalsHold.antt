@@ -34,6 +34,7 @@ use Rattle.machine.specs.Calls.{sheet-refusal, sheet-answer, sheet-after, named
 use Rattle.page_edits.specs.between.PageEdits.{place-of, pair-refusal, pair-answer, pair-after, frames-answer, frames-after}
 use Rattle.machine.proofs.EditCalls.{sheet-answers, sheet-bytes, division-answers, division-bytes, sheet-is, sheet-not, division-is, division-not}
 use Rattle.findings.specs.Lists.{sheet-list, area-list, two-list, sheet-list-refusal, area-list-refusal, two-list-refusal}
+use Rattle.recheck.specs.Rechecks.{recheck-refusal, recheck-list, area-recheck-refusal, area-recheck-list}
 use Rattle.network_writing.specs.Writing.{write-network, network-written}
 use Rattle.edit_writing.specs.Writing.{edits-bytes, write-edit, edit-written, write-edits, edits-written}
 use Rattle.timetable.specs.Machine.{edit-refusal}
@@ -167,6 +168,8 @@ refusals-leave-all = record {
   sheet-findings = λ n sheet out. output-refused (sheet-list-refusal n sheet) (sheet-list n sheet) out;
   area-findings = λ n sheet a out. output-refused (area-list-refusal n sheet a) (area-list n sheet a) out;
   pair-findings = λ n first second a b out. output-refused (two-list-refusal n first second a b) (two-list n first second a b) out;
+  sheet-recheck = λ n e sheet list out. output-refused (recheck-refusal n e sheet list) (recheck-list n e sheet list) out;
+  area-recheck = λ n e a sheet list out. output-refused (area-recheck-refusal n e a sheet list) (area-recheck-list n e a sheet list) out;
   timetable-reading = λ n file sheet. read-refused (read-outcome n file sheet) sheet;
   inspect-reading = λ file sheet. inspect-refused (inspect-outcome file sheet) sheet;
   timetable-writing = λ n sheet buffer. output-refused (whole-refusal n sheet) (timetable-bytes n sheet) buffer;

@@ -20,21 +20,13 @@ use Rattle.network.specs.Networks.{network-refusal, area-of}
 use Rattle.timetable.specs.Machine.{Timetable, answer, after}
 use Rattle.timetable.specs.Groups.{six, names-group, divide}
 use Rattle.timetable.specs.Good.{Whole}
-use Rattle.timetable.specs.Findings.{finding, numbers, findings}
+use Rattle.timetable.specs.Findings.{finding, numbers, findings, findings-in}
 use Rattle.theory.specs.Reordering.{along, Reordering}
 use Rattle.theory.specs.Statements.{times-listed}
 use Rattle.sheet.specs.Sheets.{encode-sheet, sheet-at, divided, divide-refusal, after-divide, merge-refusal, after-merge}
 use Rattle.machine.specs.Calls.{division-answer, division-after}
 use Rattle.findings.specs.Lists.{sheet-list, area-list, two-list, two-areas, sheet-list-refusal, area-list-refusal, two-list-refusal}
 use Rattle.demands.specs.Types.{Area, Edit, Network, Finding}
-
--- "Each is four numbers": a list as the calls write it, read again four by four
-unfoldable pub findings-in : List ℕ → List Finding
-findings-in [] = []
-findings-in (s ∷ []) = []
-findings-in (s ∷ r ∷ []) = []
-findings-in (s ∷ r ∷ a ∷ []) = []
-findings-in (s ∷ r ∷ a ∷ b ∷ rest) = finding (record { 0 = s }) r a b ∷ findings-in rest
 
 abbrev pub area : ℕ → Area
 area a = record { 0 = a }
@@ -97,5 +89,5 @@ DemandHolds = (n : Network) → network-refusal n ≡ 0 → (m : Timetable) → 
 
 -- The key ring of this module: `unfolding opened` opens every definition above.
 unfoldable pub opened : Unit {0}
-unfolding findings-in area-lists pair-lists all-lists
+unfolding area-lists pair-lists all-lists
 opened = tt

@@ -9,3 +9,4 @@ pub mod Histories
 pub mod Balance
 pub mod Files
 pub mod Turning
+pub mod Rechecks

@@ -7,11 +7,10 @@ use mathlib.Core.List.{List}
 use lib.Dec.{T}
 use lib.ListN.{length}
 use Rattle.base.specs.Lists.{each-two, below}
-use Rattle.timetable.specs.Findings.{numbers}
+use Rattle.timetable.specs.Findings.{numbers, findings-in}
 use Rattle.timetable.specs.Outputs.{output, output-after}
 use Rattle.findings.specs.Lists.{sheet-list, area-list, two-list, sheet-list-refusal, area-list-refusal, two-list-refusal}
 use Rattle.demands.specs.Types.{Area, Network}
-use Rattle.demands.specs.Demand.{findings-in}
 
 -- a list of numbers is a list of findings, four numbers each, strictly rising
 pub record Rises (l : List ℕ) : Type 0 where

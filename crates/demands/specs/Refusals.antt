@@ -23,6 +23,7 @@ use Rattle.inspect_lines.specs.Parts.{input-answer, input-after, part-refusal, 
 use Rattle.sheet.specs.Sheets.{divide-refusal, after-divide, merge-refusal, after-merge}
 use Rattle.machine.specs.Calls.{sheet-answer, sheet-after, division-answer, division-after}
 use Rattle.findings.specs.Lists.{sheet-list, area-list, two-list, sheet-list-refusal, area-list-refusal, two-list-refusal}
+use Rattle.recheck.specs.Rechecks.{recheck-refusal, recheck-list, area-recheck-refusal, area-recheck-list}
 use Rattle.network_writing.specs.Writing.{write-network, network-written}
 use Rattle.edit_writing.specs.Writing.{write-edit, edit-written, write-edits, edits-written}
 use Rattle.timetable_writing.specs.Writing.{write-timetable, timetable-written}
@@ -58,6 +59,12 @@ pub record RefusalsLeaveAll : Type 0 where
   pub pair-findings : (n : Network) (first second : List ℕ) (a b : Area) (out : List ℕ)
       → ¬ (output (two-list-refusal n first second a b) (two-list n first second a b) out .number ≡ 0)
       → output-after (two-list-refusal n first second a b) (two-list n first second a b) out ≡ out
+  -- a list updated after an edit, 13 too
+  pub sheet-recheck : (n : Network) (e : Edit) (sheet list out : List ℕ) → ¬ (output (recheck-refusal n e sheet list) (recheck-list n e sheet list) out .number ≡ 0)
+      → output-after (recheck-refusal n e sheet list) (recheck-list n e sheet list) out ≡ out
+  pub area-recheck : (n : Network) (e : Edit) (a : Area) (sheet list out : List ℕ)
+      → ¬ (output (area-recheck-refusal n e a sheet list) (area-recheck-list n e a sheet list) out .number ≡ 0)
+      → output-after (area-recheck-refusal n e a sheet list) (area-recheck-list n e a sheet list) out ≡ out
   -- files, 13 too
   pub timetable-reading : (n : Network) (file sheet : List ℕ) → ¬ (formats.number (read-answer n file sheet) ≡ 0) → read-after n file sheet ≡ sheet
   pub inspect-reading : (file sheet : List ℕ) → ¬ (inspect-answer file sheet .refusal ≡ 0) → inspect-after file sheet ≡ sheet

@@ -16,7 +16,7 @@ use Rattle.network.specs.Networks.{stations-of, listed, area-of, network-refusa
 use Rattle.timetable.specs.Machine.{Meaning, local, throughout, meaning, known, sound, edit-refusal}
 use Rattle.timetable.specs.Refusals.{or-else, early, call-refusal}
 use Rattle.timetable.specs.Groups.{six, reaches, names, names-group, in-group}
-use Rattle.timetable.proofs.RefusalLaws.{or-first, or-later, or-passed, early-network, early-both, early-passed, call-short, call-early}
+use Rattle.timetable.proofs.RefusalLaws.{or-first, or-later, or-passed, call-short, call-early, early-not, early-only}
 use Rattle.actions.specs.between.Shapes.{touches}
 use Rattle.actions.specs.Early.{fits-network, unknown-refusal, early-refusal}
 use Rattle.actions.proofs.EarlyLaws.{Early, early-facts}
@@ -88,19 +88,13 @@ module _ (n : Network) (e : Edit) (early : Early n e) where
 
 -- an edit that nothing refuses under a good network is refused early as its network is
 module _ (n : Network) (e : Edit) where
-  pub early-not : ¬ (early (edit-refusal e) 0 (unknown-refusal n e) ≡ 0) → ¬ (early-refusal n e ≡ 0)
+  pub refused-early : ¬ (early (edit-refusal e) 0 (unknown-refusal n e) ≡ 0) → ¬ (early-refusal n e ≡ 0)
   unfolding early-refusal
-  early-not h z =
-      let x = early-passed (edit-refusal e) (network-refusal n) (unknown-refusal n e) z in
-      h (early-both (edit-refusal e) 0 (unknown-refusal n e) (x .0) refl ∙ x .2)
+  refused-early = early-not (edit-refusal e) (network-refusal n) (unknown-refusal n e)
 
   early-network-only : early (edit-refusal e) 0 (unknown-refusal n e) ≡ 0 → early-refusal n e ≡ network-refusal n
   unfolding early-refusal
-  early-network-only h =
-      let x = early-passed (edit-refusal e) 0 (unknown-refusal n e) h in
-      by-value (eqb (network-refusal n) 0)
-      (λ t. let z = eqb-true (network-refusal n) 0 t in early-both (edit-refusal e) (network-refusal n) (unknown-refusal n e) (x .0) z ∙ x .2 ∙ sym z)
-      (λ t. early-network (edit-refusal e) (network-refusal n) (unknown-refusal n e) (x .0) (eqb-false (network-refusal n) 0 t))
+  early-network-only = early-only (edit-refusal e) (network-refusal n) (unknown-refusal n e)
 
   -- so a call is refused as its network and its sheets are, where what is asked of them is what the call asks
   call-under : (fits good pass : Bool) → fits ≡ true → early (edit-refusal e) 0 (unknown-refusal n e) ≡ 0 → (early-refusal n e ≡ 0 → pass ≡ good)

@@ -1,4 +1,5 @@
 pub mod ListsBuilt
+pub mod RedoneBuilt
 pub mod JointLaws
 pub mod TurnLaws
 pub mod BoundLaws

@@ -17,11 +17,11 @@ use Rattle.timetable.specs.Visits.{ins, outs, comes, leaves, with-in, with-out}
 use Rattle.timetable.specs.Tables.{Entry, Table}
 use Rattle.timetable.specs.Machine.{Timetable}
 use Rattle.timetable.specs.Rules.{breaks-1, breaks-2, breaks-3, met, breaks-5, breaks-6, out-answered, in-answered, breaks-9, breaks-10, breaks-11, out-line}
-use Rattle.timetable.specs.Findings.{finding, numbers, numbers-of, Spanning, Rule, one, by-one, by-two, by-rank, by-out, by-in, of-out, of-in, of-facing, unused, rules, found-by, found-by-all, at-station, spanning, picked, findings, inside, group-findings, between, pair-findings}
+use Rattle.timetable.specs.Findings.{finding, numbers, numbers-of, is-far, Spanning, Rule, one, by-one, by-two, by-rank, by-out, by-in, of-out, of-in, of-facing, unused, rules, found-by, found-by-all, at-station, spanning, picked, findings, inside, group-findings, between, pair-findings}
 use Rattle.findings.specs.Types.{Station, Area, Inward, Outward, Visit, Relation, Network}
 use Rattle.scope.specs.declared.Scope.{Scope}
 use Rattle.rule_tests.specs.between.Tests.{beside, clash, out-broken, in-broken, far-broken, own-broken, broken, second-of}
-use Rattle.builder.specs.between.Builder.{rule-count, told, is-far, against, unmet-numbers, facing, step, walk, rule-numbers, numbers-from, station-numbers, all-numbers}
+use Rattle.builder.specs.between.Builder.{rule-count, told, against, unmet-numbers, facing, step, walk, rule-numbers, numbers-from, station-numbers, all-numbers}
 use Rattle.scope.specs.Scopes.{takes}
 use Rattle.builder.proofs.BuildLaws.{rules-counted}
 
@@ -39,16 +39,17 @@ map-append f (x ∷ xs) ys = ap (λ zs. f x ∷ zs) (map-append f xs ys)
 
 -- all of a list, or nothing of it
 
-abbrev gate : Bool → List ℕ → List ℕ
-gate b xs = if b then xs else []
+module _ {A : Type 0} where
+  abbrev pub gate : Bool → List A → List A
+  gate b xs = if b then xs else []
 
-gate-none : (b : Bool) → gate b [] ≡ []
-gate-none true = refl
-gate-none false = refl
+  pub gate-none : (b : Bool) → gate b [] ≡ []
+  gate-none true = refl
+  gate-none false = refl
 
-gate-append : (b : Bool) (xs ys : List ℕ) → gate b xs ++ gate b ys ≡ gate b (xs ++ ys)
-gate-append true xs ys = refl
-gate-append false xs ys = refl
+  pub gate-append : (b : Bool) (xs ys : List A) → gate b xs ++ gate b ys ≡ gate b (xs ++ ys)
+  gate-append true xs ys = refl
+  gate-append false xs ys = refl
 
 nothing-flat : {A : Type 0} (es : List A) → flatMap {B = ℕ} (λ e. []) es ≡ []
 unfolding flatMap
@@ -92,24 +93,24 @@ told-in f s rule x y v = go (v .inward)
 -- the numbers of the findings that pass a test of station and far station
 
 module _ (p : Station → Station → Bool) where
-  abbrev passes : Spanning → Bool
+  abbrev pub passes : Spanning → Bool
   passes x = p (x .found .station) (x .far)
 
-  unfoldable shown : List Spanning → List ℕ
+  unfoldable pub shown : List Spanning → List ℕ
   shown xs = numbers-of (picked passes xs)
 
-  shown-none : shown [] ≡ []
+  pub shown-none : shown [] ≡ []
   unfolding shown picked numbers-of keep flatMap
   shown-none = refl
 
-  shown-append : (xs ys : List Spanning) → shown (xs ++ ys) ≡ shown xs ++ shown ys
+  pub shown-append : (xs ys : List Spanning) → shown (xs ++ ys) ≡ shown xs ++ shown ys
   unfolding shown picked numbers-of
   shown-append xs ys =
       ap (λ (zs : List Spanning). flatMap numbers (map (λ x. x .found) zs)) (keep-append passes xs ys)
       ∙ ap (flatMap numbers) (map-append (λ (x : Spanning). x .found) (keep passes xs) (keep passes ys))
       ∙ flat-append numbers (map (λ x. x .found) (keep passes xs)) (map (λ x. x .found) (keep passes ys))
 
-  shown-flat : {A : Type 0} (f : A → List Spanning) (xs : List A) → shown (flatMap f xs) ≡ flatMap (λ x. shown (f x)) xs
+  pub shown-flat : {A : Type 0} (f : A → List Spanning) (xs : List A) → shown (flatMap f xs) ≡ flatMap (λ x. shown (f x)) xs
   unfolding flatMap
   shown-flat f [] = shown-none
   shown-flat f (x ∷ xs) = shown-append (f x) (flatMap f xs) ∙ ap (λ (zs : List ℕ). shown (f x) ++ zs) (shown-flat f xs)
@@ -262,7 +263,7 @@ module _ (n : Network) (scope : Scope) (m : Timetable) (here : Table) (s : Stati
 
   -- each of some rules, numbered from k on: what the builder puts under its number is what it finds
   infixr 20 _next_
-  data Each : ℕ → List Rule → Type 0 where
+  pub data Each : ℕ → List Rule → Type 0 where
     over : {k : ℕ} → Each k []
     _next_ : {k : ℕ} {r : Rule} {rs : List Rule} → shown taken (found-by m s here k r) ≡ rule-numbers n scope m here s k → Each (suc k) rs → Each k (r ∷ rs)
 
@@ -274,7 +275,7 @@ module _ (n : Network) (scope : Scope) (m : Timetable) (here : Table) (s : Stati
       ∙ ap₂ (λ (x y : List ℕ). x ++ y) h (each-shown (suc k) rs hs ∙ ap (λ (j : ℕ). numbers-from n scope m here s j (length rs)) (sym (add-one k)))
 
   -- THE RULES, one line each
-  rules-shown : Each 1 (rules n s here)
+  pub rules-shown : Each 1 (rules n s here)
   unfolding rules found-by rule-numbers is-far step beside own-broken broken second-of far-broken out-broken in-broken against clash
   rules-shown =
       own-one 1 (λ t. breaks-1 (t .visit)) unused (λ t us. refl)
@@ -303,9 +304,14 @@ module _ (n : Network) (scope : Scope) (m : Timetable) where
 
 -- the lists
 
+-- the whole list takes every finding
+pub whole-picked : (n : Network) (m : Timetable) → findings n m ≡ picked (passes (takes n Scope.Whole)) (spanning n m)
+unfolding findings picked takes
+whole-picked n m = ap (map (λ (x : Spanning). x .found)) (sym (keep-every (λ (x : Spanning). true) (spanning n m) (every-true (spanning n m))))
+
 pub whole-numbers : (n : Network) (m : Timetable) → numbers-of (findings n m) ≡ all-numbers n Scope.Whole m
-unfolding findings shown picked takes
-whole-numbers n m = ap (λ (xs : List Spanning). numbers-of (map (λ x. x .found) xs)) (sym (keep-every (λ (x : Spanning). true) (spanning n m) (every-true (spanning n m)))) ∙ shown-all n Scope.Whole m
+unfolding shown
+whole-numbers n m = ap numbers-of (whole-picked n m) ∙ shown-all n Scope.Whole m
 
 pub area-numbers : (n : Network) (m : Timetable) (a : Area) → numbers-of (group-findings n (area-of n) m (a .0)) ≡ all-numbers n (Scope.Within a) m
 unfolding group-findings inside shown takes

@@ -9,7 +9,7 @@ use lib.Dec.{T}
 use lib.ListN.{length, length-append}
 use Rattle.base.specs.Choice.{if_then_else_}
 use Rattle.base.specs.Lists.{any, every, keep, first, each-two}
-use Rattle.base.proofs.Tests.{T-true, true-T, every-head, every-tail, every-cons, every-both, every-keep}
+use Rattle.base.proofs.Tests.{T-true, true-T, every-head, every-tail, every-cons, every-both, every-keep, kept-passes}
 use Rattle.base.proofs.Sorted.{two-head, two-tail, two-cons}
 
 module _ {A : Type 0} where
@@ -36,16 +36,6 @@ module _ {A : Type 0} where
       every-cons (λ x. r x y) x xs (every-head (r x) y [] (every-rear (r x) xs (y ∷ []) (two-head r x (xs ++ (y ∷ [])) t)))
       (two-last r xs y (two-tail r x (xs ++ (y ∷ [])) t))
 
-  -- what is kept passes
-  pub kept-passes : (f : A → Bool) (xs : List A) → T (every f (keep f xs))
-  unfolding every keep
-  kept-passes f [] = tt
-  kept-passes f (x ∷ xs) = go (f x) refl (kept-passes f xs)
-    where
-      go : (b : Bool) → f x ≡ b → T (every f (keep f xs)) → T (every f (if b then x ∷ keep f xs else keep f xs))
-      go true e t = every-cons f x (keep f xs) (true-T (f x) e) t
-      go false e t = t
-
 -- what is kept of what is kept, where the one test is within the other
 pub keep-keep : {A : Type 0} (p q : A → Bool) → ((x : A) → T (p x) → T (q x)) → (xs : List A) → keep p (keep q xs) ≡ keep p xs
 unfolding keep
@@ -58,11 +48,6 @@ keep-keep p q h (x ∷ xs) = go (q x) refl (p x) refl (keep-keep p q h xs)
     go true e false f ih = rw f ih
     go false e true f ih = absurd (subst T e (h x (true-T (p x) f)))
     go false e false f ih = ih
-
-pub flatMap-same : {A B : Type 0} (f g : A → List B) (p : A → Bool) → ((x : A) → T (p x) → f x ≡ g x) → (xs : List A) → T (every p xs) → flatMap f xs ≡ flatMap g xs
-unfolding flatMap
-flatMap-same f g p h [] t = refl
-flatMap-same f g p h (x ∷ xs) t = ap₂ _++_ (h x (every-head p x xs t)) (flatMap-same f g p h xs (every-tail p x xs t))
 
 -- lists of at most w elements each
 pub flatMap-length : {A B : Type 0} (f : A → List B) (w : ℕ) (p : A → Bool) → ((x : A) → T (p x) → length (f x) ≤ w) → (xs : List A) → T (every p xs)

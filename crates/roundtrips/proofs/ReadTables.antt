@@ -8,7 +8,7 @@ use native.Mathlib.Omega.{arith}
 use lib.Dec.{T, leb, not-T, eqb→eq, lt→ltb}
 use lib.ListN.{length-map}
 use Rattle.base.specs.Lists.{every, keep, is, below}
-use Rattle.base.proofs.Tests.{not-T-false, and-l, and-r, both, parts, every-head, every-tail, every-weaker, every-both, every-keep, every-mapped}
+use Rattle.base.proofs.Tests.{not-T-false, and-l, and-r, both, parts, every-head, every-tail, every-weaker, every-both, every-keep, kept-passes, every-mapped}
 use Rattle.base.proofs.Counts.{keep-none}
 use Rattle.base.proofs.Sorted.{smaller, two-map, two-weaker, two-keep, below-cases}
 use Rattle.railway.specs.Ranges.{train-ok, track-ok, minute-ok}
@@ -22,7 +22,7 @@ use Rattle.timetable.specs.Good.{Whole, links-good, values-good, visit-good, en
 use Rattle.timetable.specs.TimetableFile.{StationVisit, visits-at, relations-at}
 use Rattle.timetable.proofs.TableLaws.{number, GoodVisits, GoodRelations, table-fits}
 use Rattle.roundtrips.specs.Types.{Station, Track, Relation, StationRelation, StationRow, Network}
-use Rattle.roundtrips.proofs.ListLaws.{kept-passes, kept-both}
+use Rattle.roundtrips.proofs.ListLaws.{kept-both}
 use Rattle.roundtrips.proofs.VisitWalks.{visit-ok}
 use Rattle.roundtrips.proofs.OrderLaws.{before, visit-key, relation-key}
 use Rattle.roundtrips.proofs.TimetableWalks.{VisitsIn, RelationsIn}

@@ -10,13 +10,13 @@ use lib.Dec.{T, ltb, leb, eqb, not-T, leb→le, le→leb, eqb→eq, ltb→lt, lt
 use borrow.Author.Tests.{eqb-true, eqb-false, ltb-true, ltb-false}
 use Rattle.base.specs.Choice.{if_then_else_}
 use Rattle.base.specs.Lists.{any, every, keep, each-two}
-use Rattle.base.proofs.Tests.{true-T, not-T-false, by-value, and-l, and-r, or-cases, every-head, every-tail, every-weaker, every-flatMap}
+use Rattle.base.proofs.Tests.{true-T, not-T-false, by-value, and-l, and-r, or-cases, every-head, every-tail, every-weaker, every-flatMap, flatMap-same}
 use Rattle.base.proofs.Counts.{keep-append, keep-none, keep-every}
 use Rattle.base.proofs.Sorted.{smaller, two-head, two-tail, two-keep, two-append, below-smaller, below-cases}
 use Rattle.railway.specs.Ranges.{same-station}
 use Rattle.network.proofs.NetworkLaws.{station-number}
 use Rattle.roundtrips.specs.Types.{Station}
-use Rattle.roundtrips.proofs.ListLaws.{kept-both, keep-keep, flatMap-same, none-any}
+use Rattle.roundtrips.proofs.ListLaws.{kept-both, keep-keep, none-any}
 use Rattle.roundtrips.proofs.OrderLaws.{before}
 use Rattle.roundtrips.proofs.EnterLaws.{station-same, at}
 

@@ -1,1 +1,2 @@
 pub mod Scopes
+pub mod Redone

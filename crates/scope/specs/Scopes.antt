@@ -1,6 +1,6 @@
 -- Which findings a list takes, by the station of a finding and its far station: those of a whole timetable, of an area,
 -- of two areas. They are the tests `inside` and `between` of timetable/specs/Findings.antt (crate findings,
--- proofs/ListLaws.antt). Assumes nothing.
+-- proofs/ListsBuilt.antt). Assumes nothing.
 use mathlib.Core.Bool.{Bool, true, _&&_, _||_}
 use Rattle.network.specs.Networks.{area-of}
 use Rattle.railway.specs.declared.sorts.Station.{Station}

@@ -8,6 +8,8 @@ use network::Network;
 use railway::sorts::Area;
 use railway::sorts::Station;
 
+pub mod redone; // which findings an edit has redone
+
 pub enum Scope {
     // All of them.
     Whole,

@@ -19,6 +19,7 @@ use Rattle.timetable_writing.specs.Writing.{write-timetable, timetable-written}
 use Rattle.projection.specs.Calls.{project-answer, project-after}
 use Rattle.replies.specs.Replies.{plain, placed, of-reply-in, of-reply, of-outcome, by-file, told, left}
 use Rattle.edit_replies.specs.Replies.{named-under, one-reply, one-left, sheet-one-reply, sheet-one-left}
+use Rattle.edit_replies.specs.Rechecks as rechecks
 use Rattle.strakewhip.specs.Types.{Area, NetworkForm, Reply}
 
 abbrev pub is-sheet : List ℕ → Bool
@@ -129,6 +130,22 @@ module _ (network first second : List ℕ) (a b : ℕ) (out : List ℕ) where
       left (is-sheet first && is-sheet second) (read-network network) out
       (λ n. output-after (two-list-refusal n first second one other) (two-list n first second one other) out)
 
+-- a list of findings after one edit
+
+module _ (network sheet edit : List ℕ) (list out : List ℕ) where
+  unfoldable pub recheck-told : Reply
+  recheck-told = told (is-sheet sheet) (read-network network) (λ n. rechecks.recheck-reply n sheet edit list out)
+
+  unfoldable pub recheck-left : List ℕ
+  recheck-left = left (is-sheet sheet) (read-network network) out (λ n. rechecks.recheck-left n sheet edit list out)
+
+module _ (network sheet edit : List ℕ) (a : ℕ) (list out : List ℕ) where
+  unfoldable pub recheck-area-told : Reply
+  recheck-area-told = told (is-sheet sheet) (read-network network) (λ n. rechecks.area-reply n sheet edit (record { 0 = a }) list out)
+
+  unfoldable pub recheck-area-left : List ℕ
+  recheck-area-left = left (is-sheet sheet) (read-network network) out (λ n. rechecks.area-left n sheet edit (record { 0 = a }) list out)
+
 -- timetable files
 
 module _ (network timetable sheet : List ℕ) where
@@ -157,5 +174,5 @@ module _ (network sheet : List ℕ) (s t a : ℕ) (out : List ℤ) where
 -- The key ring of this module: `unfolding opened` opens every definition above.
 unfoldable pub opened : Unit {0}
 unfolding network-reply names-reply turn-told turn-left edit-reply edit-left sheet-edit-reply sheet-edit-left run-reply run-left answers-left divide-reply divide-left merge-reply merge-left findings-reply
-    findings-left area-reply area-left pair-reply pair-left read-reply read-left write-reply write-left project-reply project-left
+    findings-left area-reply area-left pair-reply pair-left recheck-told recheck-left recheck-area-told recheck-area-left read-reply read-left write-reply write-left project-reply project-left
 opened = tt

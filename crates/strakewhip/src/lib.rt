@@ -6,6 +6,7 @@ mod turns; // a network file of an earlier form turned
 mod changes; // an edit, and a list of edits
 mod sheets; // dividing and merging
 mod lists; // findings
+mod rechecks; // a list of findings after one edit
 mod tables; // timetable files
 mod journey; // the projection
 mod count; // the tally

@@ -17,3 +17,5 @@ pub mod Demand
 pub mod ClosuresAlone
 pub mod StandingAlone
 pub mod FreightAlike
+pub mod ListsTogether
+pub mod Rechecked

@@ -155,23 +155,25 @@ out-listed : (n : Network) (s : Station) (o : Outward) → T (out-good n s o) �
 unfolding out-good
 out-listed n s o t = search parts
 
--- the links of a good visit lead to listed stations
-entry-leads : (n : Network) (s : Station) (e : Entry) → T (entry-good n s e) → T (leads (listed n) e)
-unfolding leads entry-good
-entry-leads n s e t =
-    let good : GoodVisit n s (e .visit) = visit-facts n s (e .visit) (search parts) in
-    both (leads-in (listed n) e) (leads-out (listed n) e)
-    (every-weaker (in-good n s) (λ i. listed n (i .station)) (in-listed n s) (ins (e .visit)) (good .inward))
-    (every-weaker (out-good n s) (λ o. listed n (o .station)) (out-listed n s) (outs (e .visit)) (good .outward))
+-- where the good links of a station lead to stations that pass a test, those of its good visits do
+module _ (n : Network) (s : Station) (h : Station → Bool) (in-leads : (i : Inward) → T (in-good n s i) → T (h (i .station)))
+    (out-leads : (o : Outward) → T (out-good n s o) → T (h (o .station))) where
+  entry-leads : (e : Entry) → T (entry-good n s e) → T (leads h e)
+  unfolding leads entry-good
+  entry-leads e t =
+      let good : GoodVisit n s (e .visit) = visit-facts n s (e .visit) (search parts) in
+      both (leads-in h e) (leads-out h e)
+      (every-weaker (in-good n s) (λ i. h (i .station)) in-leads (ins (e .visit)) (good .inward))
+      (every-weaker (out-good n s) (λ o. h (o .station)) out-leads (outs (e .visit)) (good .outward))
 
-table-leads : (n : Network) (s : Station) (tab : Table) → T (table-good n s tab) → T (every (leads (listed n)) (tab .visits))
-table-leads n s tab t = every-weaker (entry-good n s) (leads (listed n)) (entry-leads n s) (tab .visits) (table-facts n s tab t .visits .each)
+  pub table-leads : (tab : Table) → T (table-good n s tab) → T (every (leads h) (tab .visits))
+  table-leads tab t = every-weaker (entry-good n s) (leads h) entry-leads (tab .visits) (table-facts n s tab t .visits .each)
 
 pub placed : (n : Network) (m : Timetable) → Whole n m → T (every (spans (listed n)) (spanning n m))
 unfolding spanning at-station
 placed n m w =
     every-flatMap (spans (listed n)) _ (listed n)
     (λ s t.
-    every-rule (spans (listed n)) (listed n) m s (m s) (table-leads n s (m s) (w .good s t))
+    every-rule (spans (listed n)) (listed n) m s (m s) (table-leads n s (listed n) (in-listed n s) (out-listed n s) (m s) (w .good s t))
     (λ k a c. both (listed n s) (listed n s) t t) (λ p u k a c. both (listed n s) (listed n p) t u) 1 (rules n s (m s)))
     (stations-of n) (stations-listed n)

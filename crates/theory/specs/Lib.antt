@@ -5,3 +5,4 @@ pub mod Statements
 pub mod Closures
 pub mod Standing
 pub mod Freight
+pub mod Rechecks

@@ -1,13 +1,13 @@
 -- Which refusal each test of the code brings, and what an accepted call has passed. By the values of the tests. Assumes
 -- nothing.
 use Prim.Native.Nat.{ℕ}
-use mathlib.Core.Path.{_≡_, refl, sym}
+use mathlib.Core.Path.{_≡_, refl, sym, _∙_}
 use mathlib.Core.Bool.{Bool, true, false, not, _||_}
 use native.Mathlib.Omega.{arith}
 use lib.Dec.{eqb}
 use borrow.Author.Tests.{ne-eqb, eqb-true, eqb-false}
 use Rattle.base.specs.Choice.{if_then_else_, _if_else_}
-use Rattle.base.proofs.Tests.{T-true, rest-passed, held}
+use Rattle.base.proofs.Tests.{T-true, by-value, rest-passed, held}
 use Rattle.timetable.specs.Refusals.{or-else, early, call-refusal}
 
 pub or-first : (k later : ℕ) → ¬ (k ≡ 0) → or-else k later ≡ k
@@ -76,6 +76,20 @@ module _ (own network both : ℕ) where
           let x = or-passed own (or-else network both) h in
           let y = or-passed network both (x .1) in
           (x .0, y .0, y .1)
+
+-- beside what a good network would have refused
+module _ (own network both : ℕ) where
+  -- that is refused under any
+  pub early-not : ¬ (early own 0 both ≡ 0) → ¬ (early own network both ≡ 0)
+  early-not h z = let x = early-passed own network both z in h (early-both own 0 both (x .0) refl ∙ x .2)
+
+  -- where there is no such refusal, it is the network that refuses
+  pub early-only : early own 0 both ≡ 0 → early own network both ≡ network
+  early-only h =
+      let x = early-passed own 0 both h in
+      by-value (eqb network 0)
+      (λ t. let z = eqb-true network 0 t in early-both own network both (x .0) z ∙ x .2 ∙ sym z)
+      (λ t. early-network own network both (x .0) (eqb-false network 0 t))
 
 module _ (fits : Bool) (k : ℕ) (good : Bool) (late : ℕ) where
   pub call-short : fits ≡ false → call-refusal fits k good late ≡ 5

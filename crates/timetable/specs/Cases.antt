@@ -49,6 +49,8 @@ use Rattle.timetable.specs.Good.{table-good}
 use Rattle.timetable.specs.Rules as Rules
 use Rattle.timetable.specs.Findings as Findings
 use Rattle.timetable.specs.Findings.{findings, numbers-of, own-list, pair-list}
+use Rattle.timetable.specs.Recheck as Recheck
+use Rattle.timetable.specs.Recheck.{updated-numbers, list-rises}
 use Rattle.timetable.specs.Projection as Projection
 use Rattle.timetable.specs.Projection.{projection}
 use Rattle.timetable.specs.Count as Count
@@ -210,8 +212,15 @@ unfoldable pub told : ℕ → ℕ → Answer
 told r c = record { refusal = r; removed = c }
 
 -- what the edits make of an empty timetable
+unfoldable pub run-in : Network → List Edit → Timetable
+run-in n es = run (after n) es nothing-placed
+
 unfoldable pub run-of : List Edit → Timetable
-run-of es = run (after net) es nothing-placed
+run-of es = run-in net es
+
+-- an area's list, from its part of the divided timetable
+unfoldable pub area-part : Network → ℕ → Timetable → List Finding
+area-part n a m = own-list n (area-of n) (divide (area-of n) m) a
 
 -- the edits of the listing
 unfoldable pub listed-edits : List Edit
@@ -252,6 +261,14 @@ pub data Case : Type 0 where
   -- the findings of an area, of a pair of areas, formed from their parts of the divided timetable, as numbers
   area-has : Network → Timetable → ℕ → List ℕ → Case
   pair-has : Network → Timetable → ℕ → ℕ → List ℕ → Case
+  -- after the edits the whole list is the first; one edit more, and it is updated to the second; the same of an area's
+  rechecks : Network → List Edit → Edit → List ℕ → List ℕ → Case
+  rechecks-area : Network → List Edit → Edit → ℕ → List ℕ → List ℕ → Case
+  -- a list of someone else is updated to the last; the same with an area's findings
+  rechecks-other : Network → List Edit → Edit → List ℕ → List ℕ → Case
+  rechecks-other-area : Network → List Edit → Edit → ℕ → List ℕ → List ℕ → Case
+  -- the list rises, or not
+  list-is : List ℕ → Bool → Case
   -- the rows of a projection: station, arrival, departure, 1 if early, minutes
   projected : Timetable → ℕ → ℕ → ℕ → List ℕ → Case
   -- raising the tally by an edit and its answer: the refusal, and the tally after
@@ -309,7 +326,7 @@ passes (turning bs out ks left) =
 passes (edits-file bs ks) = same ks (outcome-numbers placed-edits (read-edits bs))
 passes (shift-file bs ks) = same ks (outcome-numbers shift-numbers (read-shift bs))
 passes (timetable-file n bs ks) = same ks (outcome-numbers (timetable-numbers n) (read-timetable n bs))
-passes (found n es f b) = Bool·beq b (lists f (findings n (run (after n) es nothing-placed)))
+passes (found n es f b) = Bool·beq b (lists f (findings n (run-in n es)))
 passes (stands n m f b) = Bool·beq b (lists f (findings n m))
 passes (related es rs) = same (flatMap key (run-of es (st 1) .relations)) (flatMap key rs)
 passes (answered n es ks) = same ks (answer-numbers (answers (after n) (answer n) es nothing-placed))
@@ -318,8 +335,15 @@ passes (ordered rs b) = Bool·beq b (each-before rs)
 passes (network-is n k) = eqb k (network-refusal n)
 passes (naming n e gs) = same gs (keep (names-group n (area-of n) e) (1 ∷ 2 ∷ 3 ∷ 4 ∷ 5 ∷ 6 ∷ []))
 passes (table-is tab b) = Bool·beq b (table-good net (st 1) tab)
-passes (area-has n m a ks) = same ks (numbers-of (own-list n (area-of n) (divide (area-of n) m) a))
+passes (area-has n m a ks) = same ks (numbers-of (area-part n a m))
 passes (pair-has n m a b ks) = same ks (numbers-of (pair-list n (area-of n) (divide (area-of n) m) (a, b)))
+passes (rechecks n es e ks later) =
+    same ks (numbers-of (findings n (run-in n es))) && same later (updated-numbers n e ks (findings n (after n e (run-in n es))))
+passes (rechecks-area n es e a ks later) =
+    same ks (numbers-of (area-part n a (run-in n es))) && same later (updated-numbers n e ks (area-part n a (after n e (run-in n es))))
+passes (rechecks-other n es e ks later) = same later (updated-numbers n e ks (findings n (after n e (run-in n es))))
+passes (rechecks-other-area n es e a ks later) = same later (updated-numbers n e ks (area-part n a (after n e (run-in n es))))
+passes (list-is ks b) = Bool·beq b (list-rises ks)
 passes (projected m t s a ks) = same ks (row-numbers (projection m (tr t) (st s) a))
 passes (tallied y e a ks) = same ks (raise-refusal y a ∷ tally-line (raise y e a))
 passes (printed es ls) = same (flatMap (λ l. l) (listing net es)) (flatMap (λ l. l) ls)
@@ -332,9 +356,9 @@ failing k (c ∷ cs) = if passes c then failing (suc k) cs else k ∷ failing (s
 -- The key ring of this module and of all that it computes with.
 unfoldable pub opened : Unit {0}
 unfolding st tr ln at plan place prepend append delete-first delete-last arrives departs relate unrelate delete-train four two pair station timed-line line network closure closed-lines closed windows
-    timed with-capacity net branch leaving inbound crowd connections visiting by to tabled standing bare counted told run-of listed-edits
+    timed with-capacity net branch leaving inbound crowd connections visiting by to tabled standing bare counted told run-in run-of area-part listed-edits
     outcome-numbers placed-edits shift-numbers reads-as reads-refused lists answer-numbers signed row-numbers each-before along reply-numbers passes failing
     Lists.opened Runs.opened Numbers.opened Relations.opened Edits.opened Networks.opened
     Refusals.opened Formats.opened NetworkFile.opened Outputs.opened Turning.opened EditsFile.opened TimetableFile.opened Pieces.opened
-    Visits.opened Tables.opened Machine.opened Groups.opened Good.opened Rules.opened Findings.opened Projection.opened Count.opened Listing.opened
+    Visits.opened Tables.opened Machine.opened Groups.opened Good.opened Rules.opened Findings.opened Recheck.opened Projection.opened Count.opened Listing.opened
 opened = tt

@@ -17,7 +17,7 @@ use Rattle.timetable.specs.Cases.{four, two, pair, station, line, networ
 use Rattle.timetable.specs.Cases.{visiting, by, to, tabled, standing, bare, counted, told}
 use Rattle.timetable.specs.Cases.{Case, bytes, unread, found, stands, related, answered, answered-on, ordered, network-is, naming, table-is}
 use Rattle.timetable.specs.Cases.{network-file, turning, edits-file, shift-file, timetable-file}
-use Rattle.timetable.specs.Cases.{area-has, pair-has, projected, tallied, printed, failing, run-of, listed-edits}
+use Rattle.timetable.specs.Cases.{area-has, pair-has, rechecks, rechecks-area, rechecks-other, rechecks-other-area, list-is, projected, tallied, printed, failing, run-of, listed-edits}
 
 -- document 01, "Examples on the edges" and "A run of the program `shift`"
 pub document : List Case
@@ -606,9 +606,50 @@ freight =
     ∷ turning (bytes-of net-numbers) (replicate 99 0) (3 ∷ (first-line + 5) ∷ []) (replicate 99 0)
     ∷ []
 
+-- document 02, W5
+pub recheck : List Case
+recheck =
+    -- an arrival moved at station 2: the finding arises at station 1, which a line joins to it, and is cleared there
+    rechecks net (leaving 7 102 12) (Amend (plan 2 7 1 120 120)) [] (1 ∷ 9 ∷ 7 ∷ 0 ∷ [])
+    ∷ rechecks net (leaving 7 102 12 ++ (Amend (plan 2 7 1 120 120) ∷ [])) (Amend (plan 2 7 1 114 114)) (1 ∷ 9 ∷ 7 ∷ 0 ∷ []) []
+    -- s and p: the edit is of station 2, its finding at station 1, where all rules are redone
+    ∷ rechecks net (place 1 7 1 100 102 ∷ relate (Connection 5 (two 7 9)) ∷ []) (append (plan 2 7 1 115 115) 1 1 12)
+    (1 ∷ 4 ∷ 1 ∷ 0 ∷ []) (1 ∷ 4 ∷ 1 ∷ 0 ∷ 1 ∷ 9 ∷ 7 ∷ 0 ∷ [])
+    ∷ rechecks-other net (place 1 7 1 100 102 ∷ relate (Connection 5 (two 7 9)) ∷ []) (append (plan 2 7 1 115 115) 1 1 12)
+    (1 ∷ 2 ∷ 7 ∷ 8 ∷ 2 ∷ 1 ∷ 7 ∷ 0 ∷ []) (1 ∷ 4 ∷ 1 ∷ 0 ∷ 1 ∷ 9 ∷ 7 ∷ 0 ∷ [])
+    -- at the joined station rules 7 to 10 alone are redone: rule 11 is kept where the list has it, and not found anew
+    ∷ rechecks (closed (closure 1 90 105 ∷ [])) (leaving 7 102 12) (Amend (plan 2 7 1 120 120)) (1 ∷ 11 ∷ 7 ∷ 1 ∷ []) (1 ∷ 9 ∷ 7 ∷ 0 ∷ 1 ∷ 11 ∷ 7 ∷ 1 ∷ [])
+    ∷ rechecks-other (closed (closure 1 90 105 ∷ [])) (leaving 7 102 12) (Amend (plan 2 7 1 120 120)) [] (1 ∷ 9 ∷ 7 ∷ 0 ∷ [])
+    -- a list of someone else: all of it goes at the named station, 7 to 10 at the joined one, nothing elsewhere
+    ∷ rechecks-other branch [] (place 1 7 1 100 102)
+    (0 ∷ 7 ∷ 1 ∷ 1 ∷ 1 ∷ 2 ∷ 8 ∷ 9 ∷ 1 ∷ 99 ∷ 1 ∷ 1 ∷ 2 ∷ 6 ∷ 5 ∷ 0 ∷ 2 ∷ 7 ∷ 5 ∷ 0 ∷ 2 ∷ 10 ∷ 5 ∷ 6 ∷ 2 ∷ 11 ∷ 5 ∷ 1 ∷ 3 ∷ 7 ∷ 5 ∷ 0 ∷ 300 ∷ 10 ∷ 1 ∷ 1 ∷ [])
+    (0 ∷ 7 ∷ 1 ∷ 1 ∷ 2 ∷ 6 ∷ 5 ∷ 0 ∷ 2 ∷ 11 ∷ 5 ∷ 1 ∷ 3 ∷ 7 ∷ 5 ∷ 0 ∷ 300 ∷ 10 ∷ 1 ∷ 1 ∷ [])
+    -- stations 1 and 3 are joined to station 2 by lines that run one way alone
+    ∷ rechecks-other branch [] (place 2 7 1 100 102) (1 ∷ 7 ∷ 5 ∷ 0 ∷ 3 ∷ 8 ∷ 5 ∷ 0 ∷ 3 ∷ 11 ∷ 5 ∷ 1 ∷ []) (3 ∷ 11 ∷ 5 ∷ 1 ∷ [])
+    -- the redone ones come between and behind those that stay
+    ∷ rechecks-other net (leaving 7 102 12) (Amend (plan 2 7 1 120 119)) (1 ∷ 3 ∷ 8 ∷ 9 ∷ 1 ∷ 11 ∷ 8 ∷ 1 ∷ [])
+    (1 ∷ 3 ∷ 8 ∷ 9 ∷ 1 ∷ 9 ∷ 7 ∷ 0 ∷ 1 ∷ 11 ∷ 8 ∷ 1 ∷ 2 ∷ 1 ∷ 7 ∷ 0 ∷ [])
+    -- "delete train redoing all": the whole list goes, also of stations that there are not
+    ∷ rechecks net (leaving 7 102 9 ++ leaving 8 202 9) (delete-train 8) (1 ∷ 5 ∷ 7 ∷ 0 ∷ 1 ∷ 5 ∷ 8 ∷ 0 ∷ []) (1 ∷ 5 ∷ 7 ∷ 0 ∷ [])
+    ∷ rechecks-other net (leaving 7 102 9) (delete-train 8) (2 ∷ 3 ∷ 8 ∷ 9 ∷ 300 ∷ 1 ∷ 1 ∷ 0 ∷ []) (1 ∷ 5 ∷ 7 ∷ 0 ∷ [])
+    -- an area without a named station: its list is the same, and nothing is redone at the named station, nor across
+    ∷ rechecks-area branch (place 2 9 1 100 100 ∷ append (plan 3 9 1 120 120) 2 4 12 ∷ []) (place 1 7 1 100 102) 2 (2 ∷ 9 ∷ 9 ∷ 0 ∷ []) (2 ∷ 9 ∷ 9 ∷ 0 ∷ [])
+    ∷ rechecks-other-area branch (place 2 9 1 100 100 ∷ append (plan 3 9 1 120 120) 2 4 12 ∷ []) (place 1 7 1 102 100) 2 (1 ∷ 5 ∷ 5 ∷ 0 ∷ 3 ∷ 9 ∷ 1 ∷ 0 ∷ [])
+    (2 ∷ 9 ∷ 9 ∷ 0 ∷ 3 ∷ 9 ∷ 1 ∷ 0 ∷ [])
+    ∷ rechecks-area net (leaving 7 102 12) (Amend (plan 2 7 1 120 120)) 1 [] []
+    -- "3 unless it rises": strictly, by all four numbers, in whole findings
+    ∷ list-is [] true
+    ∷ list-is (1 ∷ 2 ∷ 3 ∷ 4 ∷ 1 ∷ 2 ∷ 3 ∷ 5 ∷ []) true
+    ∷ list-is (1 ∷ 2 ∷ 3 ∷ 4 ∷ 2 ∷ 1 ∷ 1 ∷ 1 ∷ []) true
+    ∷ list-is (1 ∷ 2 ∷ 3 ∷ 4 ∷ 1 ∷ 2 ∷ 3 ∷ 4 ∷ []) false
+    ∷ list-is (1 ∷ 2 ∷ 3 ∷ 4 ∷ 1 ∷ 2 ∷ 3 ∷ 3 ∷ []) false
+    ∷ list-is (1 ∷ 1 ∷ 1 ∷ 1 ∷ 3 ∷ 1 ∷ 1 ∷ 1 ∷ 2 ∷ 1 ∷ 1 ∷ 1 ∷ []) false
+    ∷ list-is (1 ∷ 2 ∷ 3 ∷ 4 ∷ 5 ∷ []) false
+    ∷ []
+
 pub table : List Case
-unfolding document ranges edits rules relations others files closures standing-trains freight
-table = document ++ (ranges ++ (edits ++ (rules ++ (relations ++ (others ++ (files ++ (closures ++ (standing-trains ++ freight))))))))
+unfolding document ranges edits rules relations others files closures standing-trains freight recheck
+table = document ++ (ranges ++ (edits ++ (rules ++ (relations ++ (others ++ (files ++ (closures ++ (standing-trains ++ (freight ++ recheck)))))))))
 
 pub examples-hold : failing 1 table ≡ []
 unfolding table Cases.opened

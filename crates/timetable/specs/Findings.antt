@@ -3,7 +3,7 @@
 use Prim.Native.Nat.{ℕ, suc, _+_}
 use mathlib.Core.Bool.{Bool, not, _&&_, _||_}
 use mathlib.Core.List.{List, [], _∷_, _++_, map, flatMap}
-use lib.Dec.{eqb}
+use lib.Dec.{eqb, leb}
 use Rattle.base.specs.Choice.{if_then_else_}
 use Rattle.base.specs.Lists.{keep}
 use Rattle.network.specs.Networks.{stations-of}
@@ -25,10 +25,22 @@ numbers f = f .station .0 ∷ f .rule ∷ f .first ∷ f .second ∷ []
 unfoldable pub numbers-of : List Finding → List ℕ
 numbers-of fs = flatMap numbers fs
 
+-- and back: the findings of numbers, four each
+unfoldable pub findings-in : List ℕ → List Finding
+findings-in [] = []
+findings-in (s ∷ []) = []
+findings-in (s ∷ rule ∷ []) = []
+findings-in (s ∷ rule ∷ a ∷ []) = []
+findings-in (s ∷ rule ∷ a ∷ b ∷ xs) = finding (record { 0 = s }) rule a b ∷ findings-in xs
+
 -- a finding with the far station that it speaks of; s itself in rules 1 to 6 and 11
 pub record Spanning : Type 0 where
   pub far : Station
   pub found : Finding
+
+-- rules 7 to 10: of a far station too
+unfoldable pub is-far : ℕ → Bool
+is-far rule = leb 7 rule && leb rule 10
 
 -- the finding where the rule is broken
 unfoldable pub one : Bool → Station → Finding → List Spanning
@@ -145,6 +157,6 @@ pair-list n γ d gh = pair-findings n γ (gather γ (λ x. eqb x (gh .0) || eqb 
 
 -- The key ring of this module: `unfolding opened` opens every definition above.
 unfoldable pub opened : Unit {0}
-unfolding flatMap finding numbers-of one by-one by-two by-rank by-out by-in rules found-by found-by-all at-station spanning picked findings inside group-findings
+unfolding flatMap finding numbers-of findings-in is-far one by-one by-two by-rank by-out by-in rules found-by found-by-all at-station spanning picked findings inside group-findings
     between pair-findings own-list pair-list
 opened = tt

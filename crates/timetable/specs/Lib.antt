@@ -14,6 +14,7 @@ pub mod TimetableFile
 pub mod InspectFile
 pub mod Rules
 pub mod Findings
+pub mod Recheck
 pub mod Projection
 pub mod Count
 pub mod Listing

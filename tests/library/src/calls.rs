@@ -191,6 +191,43 @@ impl Report {
         reply
     }
 
+    pub fn recheck(&mut self, network: &[u8], sheet: &[u8], edit: &[u8], list: &[u16], out: &mut [u16]) -> Reply {
+        let (mut own, mut expected) = (out.to_vec(), out.to_vec());
+        let (n, s, e, l, o) = (network, sheet, edit, list, &mut *out);
+        let reply = unsafe {
+            let (from, many, to, room) = (l.as_ptr(), l.len(), o.as_mut_ptr(), o.len());
+            let (e, bytes) = (e.as_ptr(), e.len());
+            raw::strakewhip_recheck(n.as_ptr(), n.len(), s.as_ptr(), s.len(), e, bytes, from, many, to, room)
+        };
+        let wrapped = strakewhip::recheck(network, sheet, edit, list, &mut own).map(|length| (0, length));
+        self.replies("recheck", reply, model::recheck(network, sheet, edit, list, &mut expected), wrapped);
+        self.buffers("recheck", out, &own, &expected);
+        reply
+    }
+
+    pub fn recheck_area(
+        &mut self,
+        network: &[u8],
+        sheet: &[u8],
+        edit: &[u8],
+        area: u8,
+        list: &[u16],
+        out: &mut [u16],
+    ) -> Reply {
+        let (mut own, mut expected) = (out.to_vec(), out.to_vec());
+        let (n, s, e, l, o) = (network, sheet, edit, list, &mut *out);
+        let reply = unsafe {
+            let (from, many, to, room) = (l.as_ptr(), l.len(), o.as_mut_ptr(), o.len());
+            let (e, bytes) = (e.as_ptr(), e.len());
+            raw::strakewhip_recheck_area(n.as_ptr(), n.len(), s.as_ptr(), s.len(), e, bytes, area, from, many, to, room)
+        };
+        let wrapped = strakewhip::recheck_area(network, sheet, edit, area, list, &mut own).map(|length| (0, length));
+        let due = model::recheck_area(network, sheet, edit, area, list, &mut expected);
+        self.replies("recheck_area", reply, due, wrapped);
+        self.buffers("recheck_area", out, &own, &expected);
+        reply
+    }
+
     pub fn read(&mut self, network: &[u8], timetable: &[u8], sheet: &mut [u8]) {
         let (mut own, mut expected) = (sheet.to_vec(), sheet.to_vec());
         let (n, t, s) = (network, timetable, &mut *sheet);

@@ -19,6 +19,8 @@ const CALLS: &[(&str, &[&[(u8, u8)]], &[u8])] = &[
     ("findings", &[NETWORK], &[5, 6, 13]),
     ("area_findings", &[NETWORK], &[5, 3, 6, 13]),
     ("pair_findings", &[NETWORK], &[5, 3, 6, 13]),
+    ("recheck", &[NETWORK, EDIT], &[5, 7, 6, 3, 13]),
+    ("recheck_area", &[NETWORK, EDIT], &[5, 3, 7, 6, 13]),
     ("read", &[NETWORK, TIMETABLE], &[5]),
     ("write", &[NETWORK], &[5, 6, 13]),
     ("project", &[NETWORK], &[5, 3, 7, 6, 9, 13]),

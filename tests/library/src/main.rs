@@ -9,6 +9,7 @@ mod files;
 mod model;
 mod orders;
 mod random;
+mod rechecks;
 mod sheets;
 mod suites;
 mod turns;
@@ -36,6 +37,7 @@ fn main() {
         suites::damaged_sheets(&mut report, &mut r, &railway);
         suites::damaged_files(&mut report, &mut r, &railway);
         suites::crowded(&mut report, &mut r, &railway);
+        rechecks::rechecked(&mut report, &mut r, &railway);
         turns::turned(&mut report, &mut r, &railway);
         orders::reordered(&mut report, &mut r, &railway);
     }

@@ -9,6 +9,7 @@ use reference::network::{self, Form, Network};
 use reference::number::FileRefusal;
 use reference::projection;
 use reference::railway::{Area, Station, Timetable, Train, LAST_MINUTE};
+use reference::recheck::{self, Entry};
 use reference::tally::Tally;
 use reference::timetable;
 use std::collections::{BTreeMap, BTreeSet};
@@ -63,16 +64,8 @@ pub fn named(network: &Network, edit: &Edit) -> BTreeSet<u32> {
     if machine::refusal(network, &Timetable::default(), edit) == UNKNOWN {
         return BTreeSet::new();
     }
-    let stations = match edit {
-        Edit::Place(plan) | Edit::Amend(plan) => vec![plan.station],
-        Edit::Prepend(plan, extension) | Edit::Append(plan, extension) => vec![plan.station, extension.neighbour],
-        Edit::DeleteFirst { station, neighbour, .. } | Edit::DeleteLast { station, neighbour, .. } => {
-            vec![*station, *neighbour]
-        }
-        Edit::ReportArrival { station, .. } | Edit::ReportDeparture { station, .. } => vec![*station],
-        Edit::AddRelation { station, .. } | Edit::RemoveRelation { station, .. } => vec![*station],
-        Edit::DeleteTrain { .. } => network.stations.keys().copied().collect(),
-    };
+    let all = || network.stations.keys().copied().collect();
+    let stations: Vec<Station> = edit.stations().unwrap_or_else(all);
     stations.into_iter().map(|station| network.area_of(station).0).collect()
 }
 
@@ -244,6 +237,45 @@ pub fn pair_findings(network: &[u8], first: &[u8], second: &[u8], one: u8, other
         unless((1..=6).contains(&one) && (1..=6).contains(&other) && one != other, 3)?;
         let both = joined(&area_of(&network, first, one)?, &area_of(&network, second, other)?);
         written(&numbers_of(&findings::of_pair(&network, &both, Area(one.into()), Area(other.into()))), out)
+    };
+    either(run())
+}
+
+/// A lent list: "3 unless it rises", its length a multiple of four.
+fn list_of(list: &[u16]) -> Result<Vec<Entry>, Reply> {
+    unless(list.len() % 4 == 0, 3)?;
+    let entries: Vec<Entry> = fours(list).iter().map(|four| four.map(u32::from)).collect();
+    unless(recheck::rises(&entries), 3)?;
+    Ok(entries)
+}
+
+fn written_entries(entries: &[Entry], out: &mut [u16]) -> Result<Reply, Reply> {
+    written(&entries.concat().iter().map(|number| *number as u16).collect::<Vec<u16>>(), out)
+}
+
+/// W5. The list is looked at last.
+pub fn recheck(network: &[u8], sheet: &[u8], edit: &[u8], list: &[u16], out: &mut [u16]) -> Reply {
+    let mut run = || {
+        unless(sheet.len() == SHEET, 5)?;
+        let network = placed(NETWORK, network_of(network))?;
+        let edit = placed(OTHER, edit_of(edit))?;
+        known(&network, &edit)?;
+        let found = findings::central(&network, &whole_of(&network, sheet)?);
+        written_entries(&recheck::updated(&network, &edit, &list_of(list)?, &found), out)
+    };
+    either(run())
+}
+
+pub fn recheck_area(network: &[u8], sheet: &[u8], edit: &[u8], area: u8, list: &[u16], out: &mut [u16]) -> Reply {
+    let mut run = || {
+        unless(sheet.len() == SHEET, 5)?;
+        let network = placed(NETWORK, network_of(network))?;
+        let edit = placed(OTHER, edit_of(edit))?;
+        unless((1..=6).contains(&area), 3)?;
+        known(&network, &edit)?;
+        let own = area_of(&network, sheet, area)?;
+        let found = findings::of_area(&network, &own, Area(area.into()));
+        written_entries(&recheck::updated(&network, &edit, &list_of(list)?, &found), out)
     };
     either(run())
 }

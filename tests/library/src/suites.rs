@@ -349,6 +349,20 @@ fn full_timetable(r: &mut Random) -> Vec<u8> {
     bytes_of(&numbers)
 }
 
+/// A long list, updated at one station and redone whole: more than a draft has room for.
+fn long_rechecks(report: &mut Report, network: &[u8], sheet: &[u8]) {
+    let list = whole_list(report, network, sheet).concat();
+    for edit in [&[7, 3, 9980, 2000][..], &[11, 1]] {
+        let edit = bytes_of(edit);
+        let needed = report.recheck(network, sheet, &edit, &list, &mut []).length;
+        assert_eq!(needed, list.len(), "{}: the same sheet", report.place);
+        for length in [needed - 1, needed, needed + 1] {
+            report.recheck(network, sheet, &edit, &list, &mut vec![7; length]);
+        }
+    }
+    report.meets("a list that a draft of 8,192 numbers has no room for", list.len() > 8192);
+}
+
 /// A railway with all its stations full: its files have the most bytes that any have, and no station takes more.
 pub fn fullest(report: &mut Report, r: &mut Random) {
     report.place = String::from("the fullest railway");
@@ -368,6 +382,7 @@ pub fn fullest(report: &mut Report, r: &mut Random) {
     report.findings(&network, &sheet, &mut vec![7; MOST_FINDINGS]);
     assert_eq!(whole_list(report, &network, &sheet), shared(report, &network, &division), "{}", report.place);
     report.project(&network, &sheet, (16, 9999, 2879), &mut [7; MOST_ROWS]);
+    long_rechecks(report, &network, &sheet);
     for edit in [&[1, 3, 7, 1, 100, 101][..], &[9, 3, 2, 5, 2, 7, 8], &[9, 3, 1, 5, 2, 7, 8], &[11, 9999]] {
         report.edit(&network, &bytes_of(edit), &mut division.clone());
         report.edit_sheet(&network, &bytes_of(edit), &mut sheet.clone());

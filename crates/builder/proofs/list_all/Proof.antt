@@ -1,72 +1,31 @@
--- `builder::list_all` meets its contract. The loop's invariant: what is left to put is what the stations from
--- row i on list. Assumes nothing.
-use native.Mathlib.Omega.{arith}
+-- `builder::list_all` meets its contract: what is redone where all is, is the whole list. Assumes nothing.
 use borrow.Author.Needs.{needs}
-use Prim.Native.Nat.{_*_, _-_, _≤_}
-use mathlib.Core.Path.{_≡_, refl}
-use mathlib.Core.List.{flatMap}
+use mathlib.Core.Path.{_∙_, ap}
 use denote.Ref.{now}
-use lib.ListN.{length, length-map, take, drop}
-use Rattle.network.specs.Networks.{blank-station}
 use Rattle.rule_tests.specs.between.Tests.{held}
-use Rattle.builder.specs.between.Builder.{station-numbers}
-use Rattle.builder.specs.between.Builder.{list-most, station-most}
+use Rattle.scope.specs.declared.redone.Marks.{Marks}
+use Rattle.builder.specs.between.Builder.{list-most, redone-numbers}
 use Rattle.timetable.proofs.BuffersFilled.{puts-as}
-use Rattle.builder.proofs.FindingsPut.{Left, left-start, left-on, left-end}
-use Rattle.builder.proofs.BuildLaws.{rows-next, rows-over, stations-are}
+use Rattle.builder.proofs.BuildLaws.{all-redone-is}
 use Rattle.builder.proofs.list_all.Statement.{statement}
 use Rattle.builder.proofs.list_all.Tie as tie
 
-abbrev Inv-loop : tie.InvT-loop
-Inv-loop out₀ sheet n scope rows k to₀ i₀ out to i = (i ≤ k) × (to ≤ station-most * i) × (length out ≡ length out₀) × Left 0 (flatMap (λ r. station-numbers n scope (held sheet) (r .station)) (take k rows)) out₀ to (flatMap (λ r. station-numbers n scope (held sheet) (r .station)) (drop i (take k rows))) out
+everywhere-requires : tie.Need-everywhere-requires
+everywhere-requires c κs = search needs
 
-abbrev μ-loop : tie.MeasureT-loop
-μ-loop out₀ sheet n scope rows k to₀ i₀ out to i = k - i
+list-redone-requires : tie.Need-list-redone-requires
+list-redone-requires c κs = search needs
 
-in-use-requires : tie.Need-in-use-requires Inv-loop μ-loop
-in-use-requires c κs = search needs
+same-length : tie.Need-same-length
+same-length c = search needs
 
-loop-holds : tie.Need-loop-holds Inv-loop μ-loop
-loop-holds c = let s = c .before .before .before .before .args in (omega arith, omega arith, refl, left-start 0 (flatMap (λ r. station-numbers (s .n) (s .scope) (held (now (s .sheet))) (r .station)) (take (c .in-use .result) (s .n .stations))) (now (s .out)))
-
-mul-row : tie.Need-mul-row Inv-loop μ-loop
-mul-row c = omega arith
-
-array-copy-out-row : tie.Need-array-copy-out-row Inv-loop μ-loop
-array-copy-out-row c = omega arith
-
-list-station-requires : tie.Need-list-station-requires Inv-loop μ-loop
-list-station-requires c κs = omega (arith, c .before .before .before .before .in-use .ensures)
-
-add-i : tie.Need-add-i Inv-loop μ-loop
-add-i c = omega arith
-
-loop-less : tie.Need-loop-less Inv-loop μ-loop
-loop-less c = omega arith
-
-loop-again : tie.Need-loop-again Inv-loop μ-loop
-loop-again c =
-    let s = c .before .before .before .before .before .before .before .before .before .before .before .args in
-    let l = c .before .before .before .before .before .before .loop in
-    let k = c .before .before .before .before .before .before .before .in-use in
-    let many : length (s .n .stations) ≡ 16 = simp length-map at (c .before .before .before .before .before .before .before .before .before .before .before .good .1 .1 .0 .1 .1 .1 .0 .1 .0 .1) in
-    let next = rows-next (λ r. station-numbers (s .n) (s .scope) (held (now (s .sheet))) (r .station)) (s .n .stations) (k .result) (omega (arith, k .ensures)) (l .i) blank-station (c .before .before .before .before .before .loop-test .taken) in
-    (omega arith, omega (arith, c .before .before .list-station .ensures .2), omega (arith, c .before .before .list-station .kept .0), left-on 0 _ (now (s .out)) (l .to) (c .before .before .list-station .result) station-most _ _ _ (l .out) _ next (l .inv .3) (c .before .before .list-station .ensures))
-
-same-length : tie.Need-same-length Inv-loop μ-loop
-same-length c = omega arith
-
-returns : tie.Need-returns Inv-loop μ-loop
+returns : tie.Need-returns
 returns c =
-    let s = c .before .before .before .before .before .before .args in
-    let l = c .before .loop in
-    let k = c .before .before .in-use in
-    let many : length (s .n .stations) ≡ 16 = simp length-map at (c .before .before .before .before .before .before .good .1 .1 .0 .1 .1 .1 .0 .1 .0 .1) in
-    puts-as 0 (l .to) _ _ (now (s .out)) (l .out) list-most (stations-are (s .n) (s .scope) (held (now (s .sheet))) (k .result) many (k .ensures))
-    (left-end 0 _ (now (s .out)) (l .to) list-most _ (l .out) (rows-over (λ r. station-numbers (s .n) (s .scope) (held (now (s .sheet))) (r .station)) (s .n .stations) (k .result) (omega (arith, k .ensures)) (l .i) (c .loop-test .left)) (l .inv .3) (omega (arith, k .ensures)))
+    let s = c .before .before .before .before .before .before .before .args in
+    let w = c .before .before .list-redone in
+    let marks = c .before .before .before .everywhere in
+    let all = ap (λ (x : Marks). redone-numbers (s .n) (s .scope) x (held (now (s .sheet)))) (marks .ensures) ∙ all-redone-is (s .n) (s .scope) (held (now (s .sheet))) in
+    puts-as 0 (w .result) _ _ (now (s .out)) _ list-most all (w .ensures)
 
 pub list-all-spec : {M : Type 1} → statement M
-list-all-spec =
-    tie.close
-    (tie.spec Inv-loop μ-loop in-use-requires loop-holds mul-row array-copy-out-row list-station-requires add-i
-    loop-less loop-again same-length returns)
+list-all-spec = tie.close (tie.spec everywhere-requires list-redone-requires same-length returns)

@@ -1,20 +1,23 @@
 -- What the functions that build a list put into the lent buffer: the numbers of its findings, station by station, rule
--- by rule. findings/proofs/ListsBuilt.antt says that these are the lists of document 01. `here` is the table of s, m
--- the timetable that the sheet holds. Assumes nothing.
+-- by rule. findings/proofs/ListsBuilt.antt says that these are the lists of document 01, RedoneBuilt.antt that what is
+-- redone is what the lists have there. `here` is the table of s, m the timetable that the sheet holds. Assumes nothing.
 use Prim.Native.Nat.{ℕ, zero, suc, _+_, _*_, _-_, _/_}
-use mathlib.Core.Bool.{Bool, not, _&&_, _||_}
+use mathlib.Core.Bool.{Bool, not, _||_}
 use mathlib.Core.List.{List, [], _∷_, _++_, flatMap}
-use lib.Dec.{eqb, leb}
-use Rattle.base.specs.Choice.{if_then_else_}
+use lib.Dec.{eqb}
+use Rattle.base.specs.Choice.{if_then_else_, _if_else_}
 use Rattle.network.specs.Networks.{stations-of}
 use Rattle.timetable.specs.Visits.{outs}
 use Rattle.timetable.specs.Tables.{Entry, Table}
 use Rattle.timetable.specs.Machine.{Timetable}
 use Rattle.timetable.specs.Rules.{met}
+use Rattle.timetable.specs.Findings.{is-far}
 use Rattle.rule_tests.specs.between.Tests.{clash, broken, second-of}
 use Rattle.builder.specs.Types.{Station, Relation, Network}
 use Rattle.scope.specs.declared.Scope.{Scope}
+use Rattle.scope.specs.declared.redone.Marks.{Marks}
 use Rattle.scope.specs.Scopes.{takes}
+use Rattle.scope.specs.Redone.{level}
 
 -- how many numbers are put at most: the rules are counted here, and all bounds are computed from that
 
@@ -46,10 +49,6 @@ findings-most = list-most / 4
 -- the four numbers of a finding, where it is found
 unfoldable pub told : Bool → Station → ℕ → ℕ → ℕ → List ℕ
 told found s rule a b = if found then s .0 ∷ rule ∷ a ∷ b ∷ [] else []
-
--- rules 7 to 10: of a far station too
-unfoldable pub is-far : ℕ → Bool
-is-far rule = leb 7 rule && leb rule 10
 
 -- rules 2, 3 and 10: of two trains
 unfoldable pub against : Network → Table → Station → ℕ → Entry → List Entry → List ℕ
@@ -95,7 +94,22 @@ module _ (n : Network) (scope : Scope) (m : Timetable) where
   unfoldable pub all-numbers : List ℕ
   all-numbers = flatMap station-numbers (stations-of n)
 
+-- what is redone at a station of this level: its first rule, and how many
+unfoldable pub first-rule : ℕ → ℕ
+first-rule k = 7 if eqb k 1 else 1
+
+unfoldable pub rules-redone : ℕ → ℕ
+rules-redone k = rule-count if eqb k 2 else 4 if eqb k 1 else 0
+
+module _ (n : Network) (scope : Scope) (marks : Marks) (m : Timetable) where
+  unfoldable pub redone-station : Station → List ℕ
+  redone-station s = numbers-from n scope m (m s) s (first-rule (level marks (s .0))) (rules-redone (level marks (s .0)))
+
+  -- what is redone at all stations
+  unfoldable pub redone-numbers : List ℕ
+  redone-numbers = flatMap redone-station (stations-of n)
+
 -- The key ring of this module: `unfolding opened` opens every definition above.
 unfoldable pub opened : Unit {0}
-unfolding told is-far against unmet-numbers facing step walk rule-numbers numbers-from station-numbers all-numbers
+unfolding told against unmet-numbers facing step walk rule-numbers numbers-from station-numbers all-numbers first-rule rules-redone redone-station redone-numbers
 opened = tt

@@ -4,7 +4,7 @@ use mathlib.Core.Path.{_≡_, sym, _∙_}
 use native.Mathlib.Omega.{arith}
 use denote.Ref.{now}
 use Rattle.machine.proofs.EditCalls.{division-not}
-use Rattle.edit_calls.proofs.CallTests.{early-not, division-short, division-early, division-late, division-made}
+use Rattle.edit_calls.proofs.CallTests.{refused-early, division-short, division-early, division-late, division-made}
 use borrow.Author.Needs.{needs}
 use Rattle.edit_calls.proofs.calls.edit_division.Statement.{statement}
 use Rattle.edit_calls.proofs.calls.edit_division.Tie as tie
@@ -33,7 +33,7 @@ returns-2 c =
     let s = c .before .before .before .before .before .before .args in
     let r = c .before .early-refusal in
     let under = c .before .before .before .refusal-under .ensures in
-    let bad : ¬ (r .result ≡ 0) = λ z. early-not (s .n) (s .e) (λ y. c .before .before .if2 .taken (under ∙ y)) (sym (r .ensures) ∙ z) in
+    let bad : ¬ (r .result ≡ 0) = λ z. refused-early (s .n) (s .e) (λ y. c .before .before .if2 .taken (under ∙ y)) (sym (r .ensures) ∙ z) in
     let x = division-not (s .n) (s .e) (now (s .division)) (r .result) (division-early (s .n) (s .e) (now (s .division)) (c .before .before .before .before .if1 .left) (r .result) (r .ensures) bad) bad in
     (c .refused2 .ensures ∙ sym (x .0), sym (x .1))
 

@@ -4,7 +4,7 @@ use mathlib.Core.Path.{_≡_, sym, _∙_}
 use native.Mathlib.Omega.{arith}
 use denote.Ref.{now}
 use Rattle.machine.proofs.EditCalls.{sheet-not}
-use Rattle.edit_calls.proofs.CallTests.{early-not, sheet-short, sheet-early, sheet-late, sheet-made}
+use Rattle.edit_calls.proofs.CallTests.{refused-early, sheet-short, sheet-early, sheet-late, sheet-made}
 use borrow.Author.Needs.{needs}
 use Rattle.edit_calls.proofs.calls.edit_sheet.Statement.{statement}
 use Rattle.edit_calls.proofs.calls.edit_sheet.Tie as tie
@@ -33,7 +33,7 @@ returns-2 c =
     let s = c .before .before .before .before .before .before .args in
     let r = c .before .early-refusal in
     let under = c .before .before .before .refusal-under .ensures in
-    let bad : ¬ (r .result ≡ 0) = λ z. early-not (s .n) (s .e) (λ y. c .before .before .if2 .taken (under ∙ y)) (sym (r .ensures) ∙ z) in
+    let bad : ¬ (r .result ≡ 0) = λ z. refused-early (s .n) (s .e) (λ y. c .before .before .if2 .taken (under ∙ y)) (sym (r .ensures) ∙ z) in
     let x = sheet-not (s .n) (s .e) (now (s .sheet)) (r .result) (sheet-early (s .n) (s .e) (now (s .sheet)) (c .before .before .before .before .if1 .left) (r .result) (r .ensures) bad) bad in
     (c .refused2 .ensures ∙ sym (x .0), sym (x .1))
 

@@ -1,8 +1,8 @@
--- `builder::is_far` meets its contract: each return rewrites with the test that led there. Assumes nothing.
+-- `scope::redone::is_far` meets its contract: each return rewrites with the test that led there. Assumes nothing.
 use borrow.Author.Tests.{le-leb, lt-leb}
-use Rattle.builder.specs.between.Builder.{is-far}
-use Rattle.builder.proofs.is_far.Statement.{statement}
-use Rattle.builder.proofs.is_far.Tie as tie
+use Rattle.timetable.specs.Findings.{is-far}
+use Rattle.scope.proofs.redone.is_far.Statement.{statement}
+use Rattle.scope.proofs.redone.is_far.Tie as tie
 
 returns : tie.Need-returns
 unfolding is-far
