@@ -1,11 +1,10 @@
 -- The step's part by RecordsPut, its count by the part's length; on the page of a table the laws of ChangeLaws. Assumes
 -- nothing.
-use mathlib.Core.Path.{sym, refl}
+use mathlib.Core.Path.{_≡_, sym, refl}
 use native.Mathlib.Omega.{arith}
 use lib.ListN.{length, take, drop, length-drop}
 use lib.Seq.{length-take-le}
 use Prim.Native.Nat.{_≤_}
-use mathlib.Core.Path.{_≡_}
 use Rattle.page.specs.Insertions.{place, size, lent, StepsAlone, VisitsPut, RelationsPut}
 use Rattle.page.proofs.RecordsPut.{put-done}
 use Rattle.page.proofs.ChangeLaws.{Fitting, add-visit-page, moved-visit-page, add-relation-page, moved-relation-page}
