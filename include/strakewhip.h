@@ -5,8 +5,10 @@
  * freight trains, which are those numbered 5000 and up; before them stand number, first station, second station and
  * kind, behind them the capacity. The file ends with its closures (W1): their count (0..32), then line (1..32), start
  * (0..2879) and end (1..2880) of each, rising by line and start; a line is closed from its start up to but not
- * including its end. A sheet is 8,192 bytes and a division 49,152, six sheets by area: the sheet of area a begins at
- * byte 8192 * (a - 1). Bytes that are all zero are an empty sheet or division.
+ * including its end. Behind the track of an edit 1, 2, 3 or 6 and of a timetable's visit stands the stop mark (W6), 1
+ * for a request stop, else 0. Files of edits and of timetables that have no marks are in the earlier form, document
+ * 01's, which calls of their own read. A sheet is 8,192 bytes and a division 49,152, six sheets by area: the sheet of
+ * area a begins at byte 8192 * (a - 1). Bytes that are all zero are an empty sheet or division.
  *
  * A lent slice is a pointer and its length in ELEMENTS, not in bytes. The pointer is never NULL, also where the length
  * is 0, and it is aligned for its type. A slice that is written overlaps no other slice of the same call; slices that
@@ -50,7 +52,7 @@ extern "C" {
 #define STRAKEWHIP_MOST_FINDINGS 369024
 #define STRAKEWHIP_MOST_ROWS 64
 #define STRAKEWHIP_MOST_ANSWERS 2000
-#define STRAKEWHIP_MOST_TIMETABLE 7395
+#define STRAKEWHIP_MOST_TIMETABLE 7779
 #define STRAKEWHIP_MOST_NETWORK 500
 
 typedef struct {
@@ -93,6 +95,12 @@ strakewhip_reply strakewhip_edit_sheet(const uint8_t *network, size_t network_le
 strakewhip_reply strakewhip_run(const uint8_t *network, size_t network_length, const uint8_t *edits,
                                 size_t edits_length, uint8_t *division, size_t division_length, uint8_t *answers,
                                 size_t answers_length);
+
+/* The same of a file in the earlier form: its edits have no mark, and carry 0. An amendment among them sets it.
+ * Refuses: as `strakewhip_run`, with the place in the earlier file. */
+strakewhip_reply strakewhip_run_early(const uint8_t *network, size_t network_length, const uint8_t *edits,
+                                      size_t edits_length, uint8_t *division, size_t division_length, uint8_t *answers,
+                                      size_t answers_length);
 
 /* Each station's entries into its area's sheet. Refuses: 5 (sheet, division); the network's file; 6. */
 strakewhip_reply strakewhip_divide(const uint8_t *network, size_t network_length, const uint8_t *sheet,
@@ -138,7 +146,13 @@ strakewhip_reply strakewhip_recheck_area(const uint8_t *network, size_t network_
 strakewhip_reply strakewhip_read(const uint8_t *network, size_t network_length, const uint8_t *timetable,
                                  size_t timetable_length, uint8_t *sheet, size_t sheet_length);
 
-/* A sheet as a timetable's file. Refuses: 5 (the sheet); the network's file; 6; 13. `length`: bytes. */
+/* The same of a file in the earlier form: its visits have no mark, and get 0. Refuses: as `strakewhip_read`, with the
+ * place in the earlier file. */
+strakewhip_reply strakewhip_read_early(const uint8_t *network, size_t network_length, const uint8_t *timetable,
+                                       size_t timetable_length, uint8_t *sheet, size_t sheet_length);
+
+/* A sheet as a timetable's file, in the newest form. Refuses: 5 (the sheet); the network's file; 6; 13. `length`:
+ * bytes. */
 strakewhip_reply strakewhip_write(const uint8_t *network, size_t network_length, const uint8_t *sheet,
                                   size_t sheet_length, uint8_t *out, size_t out_length);
 

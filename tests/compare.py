@@ -24,7 +24,8 @@ import tempfile
 import time
 
 from damage import damage, sweep
-from drafts import END, LINE, MANY, TIME, Draft, closures_at, encode, lines_at, parse
+from drafts import (
+    END, LINE, MANY, MARKED, TIME, Draft, closures_at, edit_size, encode, lines_at, parse, timetable_in, visit_size)
 from encode import Damaged, decode
 from orders import areas_named, reordered
 from timetables import make_inspect
@@ -52,7 +53,7 @@ LISTING_PRINTS = b"E 1 0 0\nE 2 0 0\nE 3 8 0\nE 4 0 0\nF 1 4 1 0\nF 1 9 7 0\nT 2
 OPEN = "2, 1 1 2, 2 2 2, 3, 1, 1 1 2 3 10 10 1, "  # its closures follow
 NETWORK = OPEN + "0, "
 # Train 7 occupies line 1 from 102 up to 114.
-JOURNEY = "2, 1 1 7 1 100 102, 3 2 7 1 114 115 1 1 12"
+JOURNEY = "2, 1 1 7 1 0 100 102, 3 2 7 1 0 114 115 1 1 12"
 JOURNEY_PRINTS = b"E 1 0 0\nE 2 0 0\nT 2 0 0\nA 2 0 2 0\n"
 CLOSED_PRINTS = b"E 1 0 0\nE 2 0 0\nF 1 11 7 1\nT 2 0 1\nA 2 0 2 0\n"
 
@@ -63,7 +64,7 @@ def timed(passenger, freight):
 
 
 def journey(train, run):
-    return f"2, 1 1 {train} 1 100 102, 3 2 {train} 1 {102 + run} 120 1 1 {run}"
+    return f"2, 1 1 {train} 1 0 100 102, 3 2 {train} 1 0 {102 + run} 120 1 1 {run}"
 
 
 def too_fast(train):
@@ -71,12 +72,36 @@ def too_fast(train):
 
 
 # Trains 4999 and 5000 leave station 1 on line 1, the second when the first is through, both with a run of 12.
-BOTH_SORTS = "2, 1 4999 1 90 0 100 0 0 2 1 12, 1 5000 2 90 0 112 0 0 2 1 12, 0"
+BOTH_SORTS = "2, 1 4999 1 0 90 0 100 0 0 2 1 12, 1 5000 2 0 90 0 112 0 0 2 1 12, 0"
 # What is printed where rule 5 finds the one or the other.
 BOTH_PRINT = {train: b"F 1 5 %d 0\nF 1 7 4999 0\nF 1 7 5000 0\nD 1 1 5 %d 0\nP 1 2 1 7 4999 0\nP 1 2 1 7 5000 0\n"
                      b"T 2 0 3\nJ 1 4999 1 95 100 5\nJ 1 5000 1 95 112 5\nW 1\n" % (train, train) for train in (4999, 5000)}
 
-# Name, program, bytes, and what they print or none. The letters are document 01's examples, W1 to W3 document 02's.
+# Three stations in a row.
+ROW = "3, 1 1 2, 2 2 2, 3 2 2, 3, 2, 1 1 2 3 10 10 1, 2 2 3 3 10 10 1, 0, "
+
+
+def row(mark, relation, more="", count=5):
+    """Train 7 runs from station 1 to 3 and is at station 2 for one minute, with this mark; train 8 stands there."""
+    return numbers(f"{ROW}{count}, 1 1 7 1 0 100 102, 3 2 7 1 {mark} 114 114 1 1 12, 3 3 7 1 0 126 127 2 2 12, "
+                   f"1 2 8 2 0 110 120, 9 2 {relation}, {more}")
+
+
+def row_prints(met, count=5, refused=0):
+    """With the answer to the last edit."""
+    answers = [f"E {edit} {refused if edit == count else 0} 0" for edit in range(1, count + 1)]
+    found = [] if met else ["F 2 4 1 0"]
+    ends = [f"T 4 1 {len(found)}", f"A {count - (refused > 0)} {int(refused > 0)} 4 0"]
+    return "".join(line + "\n" for line in answers + found + ends).encode()
+
+
+def halts(mark, arrival):
+    """Train 7 leaves station 1 at 98 and is at station 2, with this mark, when it says; it is expected there at 110."""
+    return numbers(f"{ROW}3, 1 7 1 0 98 1 98 1 0 2 1 12, 2 7 1 {mark} {arrival} 0 {arrival} 0 1 1 3 2 12, "
+                   "3 7 1 0 140 0 140 0 2 2 0, 0")
+
+
+# Name, program, bytes, and what they print or none. The letters are document 01's examples, W1 to W6 document 02's.
 FIXED = [
     ("the listing", "shift", LISTING, LISTING_PRINTS),
     ("(b)", "shift", b"\x80\0", b"R 2 0\n"),
@@ -85,46 +110,46 @@ FIXED = [
     ("no bytes of a timetable", "inspect", b"", b"R 1 0\n"),
     ("no edits", "shift", numbers(NETWORK + "0"), b"T 0 0 0\nA 0 0 0 0\n"),
     ("no visits", "inspect", numbers(NETWORK + "0, 0"), b"T 0 0 0\nW 1\n"),
-    ("(c) found", "shift", numbers(NETWORK + "2, 1 1 7 1 100 102, 1 1 8 1 102 104"),
+    ("(c) found", "shift", numbers(NETWORK + "2, 1 1 7 1 0 100 102, 1 1 8 1 0 102 104"),
      b"E 1 0 0\nE 2 0 0\nF 1 2 7 8\nT 2 0 1\nA 2 0 2 0\n"),
-    ("(c) not found", "shift", numbers(NETWORK + "2, 1 1 7 1 100 102, 1 1 8 1 103 104"),
+    ("(c) not found", "shift", numbers(NETWORK + "2, 1 1 7 1 0 100 102, 1 1 8 1 0 103 104"),
      b"E 1 0 0\nE 2 0 0\nT 2 0 0\nA 2 0 2 0\n"),
-    ("(d) found", "inspect", numbers(NETWORK + "2, 1 7 1 100 0 102 0 0 2 1 12, 1 8 2 100 0 104 0 0 2 1 12, 0"), None),
-    ("(d) not found", "inspect", numbers(NETWORK + "2, 1 7 1 100 0 102 0 0 2 1 12, 1 8 2 100 0 105 0 0 2 1 12, 0"), None),
-    ("(e) met", "shift", numbers(NETWORK + "3, 1 1 7 1 100 110, 1 1 8 2 105 112, 9 1 1 5 2 7 8"),
+    ("(d) found", "inspect", numbers(NETWORK + "2, 1 7 1 0 100 0 102 0 0 2 1 12, 1 8 2 0 100 0 104 0 0 2 1 12, 0"), None),
+    ("(d) not found", "inspect", numbers(NETWORK + "2, 1 7 1 0 100 0 102 0 0 2 1 12, 1 8 2 0 100 0 105 0 0 2 1 12, 0"), None),
+    ("(e) met", "shift", numbers(NETWORK + "3, 1 1 7 1 0 100 110, 1 1 8 2 0 105 112, 9 1 1 5 2 7 8"),
      b"E 1 0 0\nE 2 0 0\nE 3 0 0\nT 2 1 0\nA 3 0 2 0\n"),
-    ("(e) unmet", "shift", numbers(NETWORK + "3, 1 1 7 1 100 110, 1 1 8 2 106 112, 9 1 1 5 2 7 8"),
+    ("(e) unmet", "shift", numbers(NETWORK + "3, 1 1 7 1 0 100 110, 1 1 8 2 0 106 112, 9 1 1 5 2 7 8"),
      b"E 1 0 0\nE 2 0 0\nE 3 0 0\nF 1 4 1 0\nT 2 1 1\nA 3 0 2 0\n"),
-    ("(f) met, and (g)", "shift", numbers(NETWORK + "3, 1 1 7 1 100 104, 9 1 3 4 2 7 7, 11 9"),
+    ("(f) met, and (g)", "shift", numbers(NETWORK + "3, 1 1 7 1 0 100 104, 9 1 3 4 2 7 7, 11 9"),
      b"E 1 0 0\nE 2 0 0\nE 3 0 0\nT 1 1 0\nA 3 0 1 0\n"),
-    ("(f) unmet, and (g)", "shift", numbers(NETWORK + "3, 1 1 7 1 100 103, 9 1 3 4 2 7 7, 11 9"),
+    ("(f) unmet, and (g)", "shift", numbers(NETWORK + "3, 1 1 7 1 0 100 103, 9 1 3 4 2 7 7, 11 9"),
      b"E 1 0 0\nE 2 0 0\nE 3 0 0\nF 1 4 1 0\nT 1 1 1\nA 3 0 1 0\n"),
     ("(h)", "shift", numbers(NETWORK + "3, 9 1 1 5 3 7 8 9, 9 1 1 5 2 7 8, 11 9"),
      b"E 1 0 0\nE 2 0 0\nE 3 0 0\nF 1 4 1 0\nT 0 1 1\nA 3 0 0 0\n"),
-    ("(i) found", "inspect", numbers(NETWORK + "2, 1 7 1 90 0 100 0 0 2 1 12, 1 8 2 90 0 111 0 0 2 1 12, 0"), None),
-    ("(i) not found", "inspect", numbers(NETWORK + "2, 1 7 1 90 0 100 0 0 2 1 12, 1 8 2 90 0 112 0 0 2 1 12, 0"), None),
+    ("(i) found", "inspect", numbers(NETWORK + "2, 1 7 1 0 90 0 100 0 0 2 1 12, 1 8 2 0 90 0 111 0 0 2 1 12, 0"), None),
+    ("(i) not found", "inspect", numbers(NETWORK + "2, 1 7 1 0 90 0 100 0 0 2 1 12, 1 8 2 0 90 0 112 0 0 2 1 12, 0"), None),
     ("(j) found", "inspect",
-     numbers(NETWORK + "3, 1 7 1 90 0 100 0 0 2 1 12, 1 8 2 100 0 120 0 2 1 0, 2 8 1 70 0 80 0 0 1 1 10, 0"), None),
+     numbers(NETWORK + "3, 1 7 1 0 90 0 100 0 0 2 1 12, 1 8 2 0 100 0 120 0 2 1 0, 2 8 1 0 70 0 80 0 0 1 1 10, 0"), None),
     ("(j) not found", "inspect",
-     numbers(NETWORK + "3, 1 7 1 90 0 100 0 0 2 1 12, 1 8 2 99 0 120 0 2 1 0, 2 8 1 70 0 80 0 0 1 1 10, 0"), None),
-    ("(k)", "shift", numbers(NETWORK + "25, " + ", ".join(f"1 1 {train} 1 {9 * train} {9 * train}" for train in range(1, 26))),
+     numbers(NETWORK + "3, 1 7 1 0 90 0 100 0 0 2 1 12, 1 8 2 0 99 0 120 0 2 1 0, 2 8 1 0 70 0 80 0 0 1 1 10, 0"), None),
+    ("(k)", "shift", numbers(NETWORK + "25, " + ", ".join(f"1 1 {train} 1 0 {9 * train} {9 * train}" for train in range(1, 26))),
      b"".join(b"E %d 0 0\n" % edit for edit in range(1, 25)) + b"E 25 12 0\nT 24 0 0\nA 24 1 24 0\n"),
     ("W1 closed up to a departure", "shift", numbers(OPEN + "1, 1 90 102, " + JOURNEY), JOURNEY_PRINTS),
     ("W1 closed a minute longer", "shift", numbers(OPEN + "1, 1 90 103, " + JOURNEY), CLOSED_PRINTS),
     ("W1 closed from departure + run on", "shift", numbers(OPEN + "1, 1 114 120, " + JOURNEY), JOURNEY_PRINTS),
     ("W1 closed a minute earlier", "shift", numbers(OPEN + "1, 1 113 120, " + JOURNEY), CLOSED_PRINTS),
     ("W1 three closures", "shift", numbers(OPEN + "3, 1 90 103, 1 100 120, 1 113 114, " + JOURNEY), CLOSED_PRINTS),
-    ("W1 closed inside", "inspect", numbers(OPEN + "1, 1 105 106, 1, 1 7 1 90 0 102 0 0 2 1 12, 0"),
+    ("W1 closed inside", "inspect", numbers(OPEN + "1, 1 105 106, 1, 1 7 1 0 90 0 102 0 0 2 1 12, 0"),
      b"F 1 7 7 0\nF 1 11 7 1\nD 1 1 11 7 1\nP 1 2 1 7 7 0\nT 1 0 2\nJ 1 7 1 95 102 5\nW 1\n"),
-    ("W1 departed", "inspect", numbers(OPEN + "1, 1 105 106, 1, 1 7 1 90 1 102 1 0 2 1 12, 0"),
+    ("W1 departed", "inspect", numbers(OPEN + "1, 1 105 106, 1, 1 7 1 0 90 1 102 1 0 2 1 12, 0"),
      b"F 1 7 7 0\nP 1 2 1 7 7 0\nT 1 0 1\nJ 1 7 1 90 102 0\nW 1\n"),
-    ("W2 found", "shift", numbers(NETWORK + "3, 1 1 7 1 100 102, 1 1 8 1 102 104, 7 1 7 100"),
+    ("W2 found", "shift", numbers(NETWORK + "3, 1 1 7 1 0 100 102, 1 1 8 1 0 102 104, 7 1 7 100"),
      b"E 1 0 0\nE 2 0 0\nE 3 0 0\nF 1 2 7 8\nT 2 0 1\nA 3 0 2 0\n"),
-    ("W2 not found", "shift", numbers(NETWORK + "3, 1 1 7 1 100 102, 1 1 8 1 103 104, 7 1 7 100"),
+    ("W2 not found", "shift", numbers(NETWORK + "3, 1 1 7 1 0 100 102, 1 1 8 1 0 103 104, 7 1 7 100"),
      b"E 1 0 0\nE 2 0 0\nE 3 0 0\nT 2 0 0\nA 3 0 2 0\n"),
-    ("W2 departed", "shift", numbers(NETWORK + "4, 1 1 7 1 100 102, 1 1 8 1 102 104, 7 1 7 100, 8 1 7 102"),
+    ("W2 departed", "shift", numbers(NETWORK + "4, 1 1 7 1 0 100 102, 1 1 8 1 0 102 104, 7 1 7 100, 8 1 7 102"),
      b"E 1 0 0\nE 2 0 0\nE 3 0 0\nE 4 0 0\nT 2 0 0\nA 4 0 2 0\n"),
-    ("W2 the larger train stands", "shift", numbers(NETWORK + "3, 1 1 8 1 100 102, 1 1 7 1 102 104, 7 1 8 100"),
+    ("W2 the larger train stands", "shift", numbers(NETWORK + "3, 1 1 8 1 0 100 102, 1 1 7 1 0 102 104, 7 1 8 100"),
      b"E 1 0 0\nE 2 0 0\nE 3 0 0\nF 1 2 7 8\nT 2 0 1\nA 3 0 2 0\n"),
     ("W3 4999 above the lesser time", "shift", numbers(timed(10, 13) + journey(4999, 12)), JOURNEY_PRINTS),
     ("W3 5000 below the greater time", "shift", numbers(timed(10, 13) + journey(5000, 12)), too_fast(5000)),
@@ -140,6 +165,35 @@ FIXED = [
     ("W3 no freight time", "inspect", numbers(timed(240, 0) + "0, 0"), b"R 3 15\n"),
     # A line's capacity is where the earlier form has the count of closures.
     ("W3 the listing in the earlier form", "shift", LISTING[:14] + LISTING[15:], b"R 3 15\n"),
+    ("W6 a connection at a request stop", "shift", row(1, "1 0 2 7 8"), row_prints(True)),
+    ("W6 a connection with a train that passes", "shift", row(0, "1 0 2 7 8"), row_prints(False)),
+    ("W6 a connection of a minute", "shift", row(1, "1 1 2 7 8"), row_prints(False)),
+    ("W6 a disconnection at a request stop", "shift", row(1, "2 5 2 7 8"), row_prints(False)),
+    ("W6 a disconnection with a train that passes", "shift", row(0, "2 5 2 7 8"), row_prints(True)),
+    ("W6 a dependency at a request stop", "shift", row(1, "3 0 2 7 7"), row_prints(True)),
+    ("W6 a dependency of a train that passes", "shift", row(0, "3 0 2 7 7"), row_prints(False)),
+    ("W6 the mark amended", "shift", row(0, "1 0 2 7 8", "6 2 7 1 1 114 114", 6), row_prints(True, 6)),
+    ("W6 the mark amended away", "shift", row(1, "1 0 2 7 8", "6 2 7 1 0 114 114", 6), row_prints(False, 6)),
+    ("W6 the mark amended after the arrival", "shift", row(0, "1 0 2 7 8", "7 2 7 114, 6 2 7 1 1 114 114", 7),
+     row_prints(True, 7)),
+    ("W6 the mark amended after the departure", "shift",
+     row(1, "1 0 2 7 8", "7 2 7 114, 8 2 7 114, 6 2 7 1 0 114 114", 8), row_prints(False, 8)),
+    ("W6 the mark and the track amended", "shift", row(1, "1 0 2 7 8", "7 2 7 114, 6 2 7 2 0 114 114", 7),
+     row_prints(True, 7, 11)),
+    ("W6 reports keep the mark", "shift", row(1, "1 0 2 7 8", "7 2 7 114, 8 2 7 114", 7), row_prints(True, 7)),
+    ("W6 a request stop waits", "inspect", halts(1, 115),
+     b"F 1 9 7 0\nF 2 9 7 0\nD 2 2 9 7 0\nP 1 2 1 9 7 0\nT 3 0 2\nJ 1 7 1 98 98 0\nJ 1 7 2 110 115 -5\n"
+     b"J 1 7 3 127 140 -13\nJ 2 7 2 120 120 5\nJ 2 7 3 132 140 -8\nJ 3 7 3 145 146 5\nW 1\n"),
+    ("W6 a train passes", "inspect", halts(0, 115),
+     b"F 1 9 7 0\nF 2 9 7 0\nD 2 2 9 7 0\nP 1 2 1 9 7 0\nT 3 0 2\nJ 1 7 1 98 98 0\nJ 1 7 2 110 110 -5\n"
+     b"J 1 7 3 122 140 -18\nJ 2 7 2 120 120 5\nJ 2 7 3 132 140 -8\nJ 3 7 3 145 146 5\nW 1\n"),
+    ("W6 a late request stop", "inspect", halts(1, 105),
+     b"F 1 9 7 0\nF 2 9 7 0\nD 2 2 9 7 0\nP 1 2 1 9 7 0\nT 3 0 2\nJ 1 7 1 98 98 0\nJ 1 7 2 110 110 5\n"
+     b"J 1 7 3 122 140 -18\nJ 2 7 2 110 110 5\nJ 2 7 3 122 140 -18\nJ 3 7 3 145 146 5\nW 1\n"),
+    ("W6 a mark of 2", "shift", row(2, "1 0 2 7 8"), b"R 3 39\n"),
+    ("W6 a mark of 2 in a timetable", "inspect", halts(2, 115), b"R 3 43\n"),
+    # The first arrival is where the newest form has a mark.
+    ("W6 the listing without its first mark", "shift", LISTING[:22] + LISTING[23:], b"R 3 22\n"),
 ]
 
 # The same, and how many bytes come at a time; the last ones are too long for a file by a byte, and as long as may be.
@@ -266,6 +320,8 @@ CLOSURES = (
 )
 # The sorts of trains, in the order of a line's two least running times.
 SORTS = ("passenger", "freight")
+# The kinds of relations.
+KINDS = ("connection", "disconnection", "dependency")
 # All that a run has to reach. Rules 7 and 8 never occur in `shift`: from an empty timetable every link stays answered.
 TO_REACH = (
     [f"shift R {refusal}" for refusal in range(1, 6)]
@@ -274,6 +330,8 @@ TO_REACH = (
     + ["shift 32 closures", "inspect 32 closures"]
     + [f"shift E {refusal}" for refusal in (0, 7, 8, 9, 10, 11, 12)]
     + [f"shift edit {kind} answer {refusal}" for kind in ANSWERS for refusal in ANSWERS[kind]]
+    + [f"shift edit {kind} with mark {mark} accepted" for kind in MARKED for mark in (0, 1)]
+    + ["shift R 3 at a stop mark", "inspect R 3 at a stop mark"]
     + [f"shift F rule {rule}" for rule in (1, 2, 3, 4, 5, 6, 9, 10, 11)]
     + ["shift 2 or more removed", "shift 16 removed", "shift 1000 edits"]
     + [f"inspect R {refusal}" for refusal in (1, 2, 3, 4, 5, 7, 12)]
@@ -281,6 +339,9 @@ TO_REACH = (
     + [f"inspect P rule {rule}" for rule in RULES_ACROSS]
     + ["inspect the smaller train stands", "inspect the larger train stands"]
     + [f"inspect a {sort} train {how} between the times" for sort in SORTS for how in ("found", "not found")]
+    + ["inspect a request stop", "inspect a mark on a visit that stops anyway"]
+    + [f"inspect a {kind} {how} at a request stop" for kind in KINDS for how in ("met", "unmet")]
+    + [f"inspect a projection {how} a request stop" for how in ("waits at", "leaves at once from")]
     + ["inspect 16 rows", "inspect early", "inspect late", "inspect beyond the last minute", "inspect written again"]
     + ["inspect 384 visits", "inspect 96 relations"]
 )
@@ -329,18 +390,44 @@ def time_mark(data, refusal, place):
     return f"R 3 at the {SORTS[field - 4]} time" if rank < before[count_at] and field in (4, 5) else None
 
 
-def visits_in(numbers):
-    """The visits of a file of `inspect`, as (station, train): (arrived, departed, out-link or none)."""
-    at = closures_at(numbers)
-    at += 3 * numbers[at] + 1
-    visits = {}
-    for _ in range(numbers[at]):
-        station, train, _, _, arrived, _, departed, before = numbers[at + 1:at + 9]
-        at += 9 if before else 8
-        link = numbers[at + 1:at + 4] if numbers[at + 1] else None
-        visits[station, train] = arrived, departed, link
-        at += 3 if link else 1
-    return visits
+def stop_mark(program, data, refusal, place):
+    """Whether a stop mark is refused with 3 at a place of a file."""
+    before = numbers_before(data, place)
+    at = closures_at(before)
+    if refusal != 3 or at is None or at >= len(before):
+        return None
+    at += 3 * before[at] + 2  # the first entry behind the count of edits or visits
+    while at < len(before):
+        edit = before[at] if program == "shift" else None
+        if edit is None or edit in MARKED:
+            if at + (3 if edit is None else 4) == len(before):
+                return "R 3 at a stop mark"
+        try:
+            at += visit_size(before, at) if edit is None else edit_size(before, at)
+        except IndexError:
+            return None
+    return None
+
+
+def request_stops(visits, relations, unmet):
+    """What marks did: `unmet` has the relations that rule 4 finds, by station and rank."""
+    marks = set()
+    for visit in visits.values():
+        if visit.mark:
+            marks.add("a request stop" if visit.on_request else "a mark on a visit that stops anyway")
+    for station, ranked in relations.items():
+        for rank, (kind, trains) in enumerate(ranked, 1):
+            there = [visits.get((station, train)) for train in trains]
+            if all(there) and any(visit.on_request for visit in there):
+                marks.add(f"a {KINDS[kind - 1]} {'unmet' if (station, rank) in unmet else 'met'} at a request stop")
+    return marks
+
+
+def projected(visit, arrival, departure):
+    """What a row of a projection says of a request stop, or none."""
+    if not visit.on_request or visit.departed:
+        return None
+    return f"a projection {'waits at' if departure > arrival else 'leaves at once from'} a request stop"
 
 
 def between_times(numbers, visits, fast):
@@ -348,7 +435,8 @@ def between_times(numbers, visits, fast):
     lines = range(lines_at(numbers) + 1, closures_at(numbers), 7)
     times = {numbers[at]: numbers[at + 4:at + 6] for at in lines}
     marks = set()
-    for key, (_, _, link) in visits.items():
+    for key, visit in visits.items():
+        link = visit.after
         if link and min(times[link[1]]) <= link[2] < max(times[link[1]]):
             judge = max if key in fast else min  # a train that is found goes by the greater time
             sort = SORTS[times[link[1]].index(judge(times[link[1]]))]
@@ -360,9 +448,9 @@ def reached(program, data, output, edits):
     """What a file reached, by the reference's output; each counts once in a file."""
     marks = set()
     rows = collections.Counter()
-    visits, fast = {}, set()
+    visits, relations, fast, unmet = {}, {}, set(), set()
     if program == "inspect" and not output.startswith(b"R"):
-        visits = visits_in(decode(data))
+        visits, relations = timetable_in(decode(data))
     for line in output.decode().splitlines():
         letter, *rest = line.split()
         rest = list(map(int, rest))
@@ -370,10 +458,14 @@ def reached(program, data, output, edits):
             marks.add(f"R {rest[0]}")
             marks.add(closure_mark(data, *rest))
             marks.add(time_mark(data, *rest))
+            marks.add(stop_mark(program, data, *rest))
         elif letter == "E":
             marks.add(f"E {rest[1]}")
             if edits is not None:
-                marks.add(f"edit {edits[rest[0] - 1][0]} answer {rest[1]}")
+                edit = edits[rest[0] - 1]
+                marks.add(f"edit {edit[0]} answer {rest[1]}")
+                if edit[0] in MARKED and rest[1] == 0:
+                    marks.add(f"edit {edit[0]} with mark {edit[4]} accepted")
             if rest[2] >= 2:
                 marks.add("2 or more removed")
             if rest[2] == 16:
@@ -384,8 +476,11 @@ def reached(program, data, output, edits):
             marks.add(f"{letter} rule {rest[-3]}")
             if letter == "F" and rest[1] == 2 and program == "inspect":
                 for train, which in zip(rest[2:], ("smaller", "larger")):
-                    if visits[rest[0], train][:2] == (1, 0):
+                    visit = visits[rest[0], train]
+                    if visit.arrived and not visit.departed:
                         marks.add(f"the {which} train stands")
+            if letter == "F" and rest[1] == 4:
+                unmet.add((rest[0], rest[2]))
             if letter == "F" and rest[1] == 5:
                 fast.add((rest[0], rest[2]))
         elif letter == "T":
@@ -398,6 +493,7 @@ def reached(program, data, output, edits):
                 marks.add("96 relations")
         elif letter == "J":
             rows[tuple(rest[:2])] += 1
+            marks.add(projected(visits[rest[2], rest[1]], rest[3], rest[4]))
             if rest[5]:
                 marks.add("late" if rest[5] > 0 else "early")
             if rest[3] > 2879:
@@ -407,7 +503,7 @@ def reached(program, data, output, edits):
     if 16 in rows.values():
         marks.add("16 rows")
     if visits:
-        marks |= between_times(decode(data), visits, fast)
+        marks |= between_times(decode(data), visits, fast) | request_stops(visits, relations, unmet)
     return {f"{program} {mark}" for mark in marks if mark}
 
 

@@ -10,7 +10,7 @@ from traffic import Shift, Visit
 def damage(r, good, index):
     """A damaged file from a good one: its bytes and the output that it must give, or none where that is left open."""
     ways = [truncated, surplus, longer_spelling, third_byte, out_of_range, out_of_order, trains_out_of_order, bad_ends,
-            bad_time, changed_bytes, two_faults, oversize, ends_and_more, bad_closure, bad_window, window_and_more,
+            bad_time, bad_mark, changed_bytes, two_faults, oversize, ends_and_more, bad_closure, bad_window, window_and_more,
             unlisted_closure, closure_and_more]
     if isinstance(good, Inspect):
         ways += [unknown, out_of_order, unknown, over_limit, limit_and_unknown, relation_at_unlisted]
@@ -165,6 +165,17 @@ def bad_time(r, good):
     elif what == 2:
         draft = changed(draft, {passenger + 1: r.choice([0, 241])})
     return fault_in(r, draft, index, r.choice([0, 241, 241, r.randint(241, 2097151)]))
+
+
+def bad_mark(r, good):
+    """A stop mark above 1, at times behind a track out of range, which comes first."""
+    draft = good.draft
+    if not draft.marks:
+        return out_of_range(r, good)
+    index = r.choice(draft.marks)
+    if r.random() < 0.2:
+        return fault_in(r, changed(draft, {index: 2}), index - 1, r.choice([0, 9]))
+    return fault_in(r, draft, index, r.choice([2, 2, 2, 3, 128, 2097151]))
 
 
 def closed(good, closures):
@@ -358,7 +369,7 @@ def crowded(r, good, station, extra):
         train = r.randint(1, 9999)
         if train not in here:
             here.add(train)
-            visits[station, train] = Visit(1, 100, 100)
+            visits[station, train] = Visit(1, r.randint(0, 1), 100, 100)
     return visits
 
 
@@ -416,7 +427,7 @@ def relation_at_unlisted(r, good):
         return unknown(r, good)
     station = r.choice(unlisted)
     if r.random() < 0.3:
-        visits = {**good.visits, (station, 7): Visit(1, 100, 102)}
+        visits = {**good.visits, (station, 7): Visit(1, r.randint(0, 1), 100, 102)}
         draft = remade(good, visits, [])
         return draft.bytes(), must(7, draft.place(entry_of(draft, station, 1)[0]))
     lower = [at for at in good.network.stations if at < station]
@@ -436,16 +447,17 @@ def rich_files():
         [(1, 0, 100), (1, 100, 131), (1, 130, 2880), (5, 5, 6), (32, 2879, 2880)])
     four, three, two = (1, 5, (7, 8, 130, 9999)), (2, 150, (7, 8, 9)), (3, 0, (300, 7))
     edits = [
-        (1, 2, 7, 1, 100, 130), (3, 3, 7, 8, 142, 150, 2, 1, 12), (2, 16, 7, 1, 0, 5, 2, 5, 131), (6, 3, 7, 2, 142, 2879),
+        (1, 2, 7, 1, 1, 100, 130), (3, 3, 7, 8, 0, 142, 150, 2, 1, 12), (2, 16, 7, 1, 1, 0, 5, 2, 5, 131),
+        (6, 3, 7, 2, 1, 142, 2879),
         (7, 2, 7, 99), (8, 2, 7, 131), (9, 2, four), (9, 3, three), (9, 3, two), (10, 3, three), (5, 3, 7, 2), (4, 16, 7, 2),
-        (1, 16, 5000, 1, 20, 25), (3, 2, 5000, 2, 32, 40, 16, 5, 7), (11, 7),
+        (1, 16, 5000, 1, 0, 20, 25), (3, 2, 5000, 2, 0, 32, 40, 16, 5, 7), (11, 7),
     ]
     visits = {
-        (2, 7): Visit(1, 100, 130, (16, 5), (3, 1, 12), 1, 0),
-        (2, 300): Visit(2, 90, 2879, None, (3, 1, 240), 0, 0),
-        (3, 7): Visit(8, 142, 142, (2, 1), None, 1, 1),
-        (16, 7): Visit(1, 0, 5, None, (2, 5, 131)),
-        (16, 5000): Visit(1, 20, 25, None, (2, 5, 7)),
+        (2, 7): Visit(1, 1, 130, 130, (16, 5), (3, 1, 12), 1, 0),
+        (2, 300): Visit(2, 0, 90, 2879, None, (3, 1, 240), 0, 0),
+        (3, 7): Visit(8, 1, 142, 142, (2, 1), None, 1, 1),
+        (16, 7): Visit(1, 0, 0, 5, None, (2, 5, 131)),
+        (16, 5000): Visit(1, 0, 20, 25, None, (2, 5, 7)),
     }
     relations = {2: [four, three, (2, 150, (7, 8, 10))], 3: [two, (3, 0, (300, 8))], 16: [three]}
     return {"shift": Shift(network, edits), "inspect": Inspect(network, visits, relations)}

@@ -12,9 +12,9 @@ LAST_MINUTE = 2879
 
 # The ranges of the documents, by what a number is; END is a closure's, MANY that of lines and of closures.
 STATION, AREA, TRAIN, LINE, TRACK = (1, 16), (1, 6), (1, 9999), (1, 32), (1, 8)
-TIME, INTERVAL, RUN, STATUS = (0, LAST_MINUTE), (0, 240), (1, 240), (0, 1)
+TIME, INTERVAL, RUN, STATUS, MARK = (0, LAST_MINUTE), (0, 240), (1, 240), (0, 1), (0, 1)
 END, MANY = (1, LAST_MINUTE + 1), (0, 32)
-PLAN = (STATION, TRAIN, TRACK, TIME, TIME)
+PLAN = (STATION, TRAIN, TRACK, MARK, TIME, TIME)
 FIELDS = {
     1: PLAN,
     2: PLAN + (STATION, LINE, RUN),
@@ -26,6 +26,8 @@ FIELDS = {
     8: (STATION, TRAIN, TIME),
     11: (TRAIN,),
 }
+# The edits that carry a track, and so a stop mark behind it.
+MARKED = [kind for kind, fields in FIELDS.items() if TRACK in fields]
 
 
 def clamp(value, bounds):
@@ -41,6 +43,7 @@ class Draft:
         self.groups = []  # lists of entries that have to rise; an entry is the list of its key's indices
         self.lines = []  # index of a line's first number
         self.closures = []  # index of a closure's first number
+        self.marks = []  # index of a stop mark
         self.visits = []  # (index of the first number, index of the track, of the in-link, of the out-link)
         self.relations = []  # (index of the first number, indices of the trains, whether they rise)
         self.network_end = 0  # the index behind the network
@@ -120,6 +123,8 @@ class Draft:
                 self.put(edit[1], STATION)
                 self.put_relation(edit[2])
             else:
+                if edit[0] in MARKED:
+                    self.marks.append(len(self.values) + 3)
                 for value, bounds in zip(edit[1:], FIELDS[edit[0]], strict=True):
                     self.put(value, bounds)
 
@@ -131,6 +136,7 @@ class Draft:
             key = [self.put(station, STATION), self.put(train, TRAIN)]
             entries.append(key)
             track = self.put(visit.track, TRACK)
+            self.marks.append(self.put(visit.mark, MARK))
             self.put(visit.arrival, TIME)
             self.put(visit.arrived, STATUS)
             self.put(visit.departure, TIME)
@@ -236,3 +242,51 @@ def closures_at(numbers):
     """The same of the closures' count."""
     lines = lines_at(numbers)
     return lines + 1 + 7 * numbers[lines] if lines is not None and lines < len(numbers) else None
+
+
+def visit_size(numbers, at):
+    """How many numbers the visit at an index of a file has."""
+    after = 10 if numbers[at + 8] else 9
+    return after + (3 if numbers[at + after] else 1)
+
+
+def edit_size(numbers, at):
+    """The same of an edit."""
+    return 5 + numbers[at + 4] if numbers[at] in (9, 10) else 1 + len(FIELDS[numbers[at]])
+
+
+class Said:
+    """A visit of a file of `inspect`; a link is its numbers, or none."""
+
+    def __init__(self, numbers):
+        self.track, self.mark, self.arrival, self.arrived, self.departure, self.departed = numbers[:6]
+        self.before, self.after = (numbers[6:8], numbers[8:]) if numbers[6] else (None, numbers[7:])
+        self.after = self.after if self.after[0] else None
+
+    @property
+    def stops(self):
+        """Whether it stops without a mark."""
+        return self.departure > self.arrival or not self.before or not self.after
+
+    @property
+    def on_request(self):
+        """Whether only its mark makes it stop."""
+        return self.mark == 1 and not self.stops
+
+
+def timetable_in(numbers):
+    """The visits of a file of `inspect` by station and train, and its relations by station: kind and trains."""
+    at = closures_at(numbers)
+    at += 3 * numbers[at] + 1
+    visits, relations = {}, {}
+    count, at = numbers[at], at + 1
+    for _ in range(count):
+        size = visit_size(numbers, at)
+        visits[tuple(numbers[at:at + 2])] = Said(numbers[at + 2:at + size])
+        at += size
+    count, at = numbers[at], at + 1
+    for _ in range(count):
+        station, kind, _, trains = numbers[at:at + 4]
+        relations.setdefault(station, []).append((kind, numbers[at + 4:at + 4 + trains]))
+        at += 4 + trains
+    return visits, relations

@@ -10,7 +10,7 @@ import xml.etree.ElementTree as tree
 from collections import Counter
 from pathlib import Path
 
-from drafts import closures_at, parse
+from drafts import closures_at, parse, timetable_in
 
 TOOLS = Path(__file__).resolve().parent.parent / "tools"
 SVG = "{http://www.w3.org/2000/svg}"
@@ -26,6 +26,12 @@ def closed_lines(name):
     numbers = parse((TOOLS / name).read_text())
     at = closures_at(numbers)
     return Counter(str(line) for line in numbers[at + 1:at + 1 + 3 * numbers[at]:3])
+
+
+def marked(name):
+    """The station and train of each visit of a sample that has a stop mark."""
+    visits, _ = timetable_in(parse((TOOLS / name).read_text()))
+    return {(str(station), str(train)) for (station, train), visit in visits.items() if visit.mark}
 
 
 def drawn(name, said):
@@ -52,7 +58,14 @@ def faults(inspect):
     visits = {(row[1], row[2]) for row in rows if row[0] == "J"}
     if {(words[4], words[1]) for words in told if words[0] == "Train" and words[2] == "at"} != visits:
         yield "the visits drawn aren't those of the timetable"
+    requests = {(words[4], words[1]) for words in told if words[0] == "Train" and "request" in words}
+    rings = [one for one in root.iter(SVG + "circle") if (one.get("fill"), one.get("r")) == ("white", "3.6")]
+    # One ring for each, and one that tells what it means.
+    if not requests or requests != marked("day.txt") or len(rings) != len(requests) + 1:
+        yield f"the request stops drawn aren't those of the timetable: {requests}"
     words = {text.text for text in root.iter(SVG + "text")}
+    if "request stop" not in words:
+        yield "the request stops aren't explained"
     if not {train for _, train in visits} <= words:
         yield "a train has no number"
     closed = closed_lines("day.txt")

@@ -4,8 +4,9 @@
 Usage: tests/mutants.py [WORD ...]    only the mistakes whose name has one of the words
 
 The copy is built in a temporary folder. A mistake is found if compare.py reports a difference to the second implementation.
-No program turns an old network file or updates a list of findings: of a mistake there (TURNED, RECHECKED) the library's
-comparison has to report a difference of those calls, for which target/staticlib/libstrakewhip.a has to be built.
+No program turns an old network file, updates a list of findings or reads the earlier form: of a mistake there (TURNED,
+RECHECKED, EARLIER) the library's comparison has to report a difference of those calls, for which
+target/staticlib/libstrakewhip.a has to be built.
 """
 
 import os
@@ -33,8 +34,8 @@ MUTANTS = [
     ("equal ends", "network.rs", "first == second ||", ""),
     ("second end unlisted", "network.rs", "|| !self.network.lists(second)", ""),
     ("first end unlisted", "network.rs", "|| !self.network.lists(first)", ""),
-    ("ends and closures first", "programs.rs", "let edits = edits::read(&mut reader)?;",
-     "part.test_whole()?; let edits = edits::read(&mut reader)?;"),
+    ("ends and closures first", "programs.rs", "let edits = edits::read(&mut reader, Form::Newest)?;",
+     "part.test_whole()?; let edits = edits::read(&mut reader, Form::Newest)?;"),
     ("station 17", "network.rs", "let number = reader.within(1..=16)?", "let number = reader.within(1..=17)?"),
     ("headway 31", "network.rs", "1..=30", "1..=31"),
     ("capacity 10", "network.rs", "1..=9)", "1..=10)"),
@@ -298,6 +299,55 @@ MUTANTS = [
     ("16383 bytes", "programs.rs", "16_384", "16_383"),
     ("16385 bytes", "programs.rs", "16_384", "16_385"),
     ("written anew without running time", "timetable.rs", "put(link.run as u32);", "put(0);"),
+    ("mark 2", "edits.rs", "reader.within(0..=1)?", "reader.within(0..=2)?"),
+    ("no mark 1", "edits.rs", "reader.within(0..=1)?", "reader.within(0..=0)?"),
+    ("mark before the track", "edits.rs", "track: read_track(reader)?,\n        mark: read_mark(reader, form)?,",
+     "mark: read_mark(reader, form)?,\n        track: read_track(reader)?,"),
+    ("mark behind the arrival", "edits.rs", "mark: read_mark(reader, form)?,\n        arrival: read_time(reader)?,",
+     "arrival: read_time(reader)?,\n        mark: read_mark(reader, form)?,"),
+    ("a visit's mark before the track", "timetable.rs",
+     "track: read_track(reader)?,\n                mark: read_mark(reader, form)?,",
+     "mark: read_mark(reader, form)?,\n                track: read_track(reader)?,"),
+    ("a visit's mark is read as 0", "timetable.rs", "mark: read_mark(reader, form)?,",
+     "mark: read_mark(reader, form)? && reader.place() == 0,"),
+    ("written without marks", "timetable.rs", "put(u32::from(visit.mark));", ""),
+    ("written with mark 0", "timetable.rs", "put(u32::from(visit.mark));", "put(0);"),
+    ("the programs read the earlier form of edits", "programs.rs", "edits::read(&mut reader, Form::Newest)",
+     "edits::read(&mut reader, Form::Earlier)"),
+    ("the programs read the earlier form of timetables", "programs.rs", "TimetablePart::read(&mut reader, Form::Newest)",
+     "TimetablePart::read(&mut reader, Form::Earlier)"),
+    ("placed without a mark", "machine.rs", "mark: plan.mark,", "mark: false,"),
+    ("prepended without a mark", "machine.rs", "Visit { out_link, ..placed(plan) }",
+     "Visit { out_link, mark: false, ..placed(plan) }"),
+    ("appended without a mark", "machine.rs", "Visit { in_link, ..placed(plan) }",
+     "Visit { in_link, mark: false, ..placed(plan) }"),
+    ("prepend marks the neighbour", "machine.rs", "visit.in_link = Some(InLink { previous: plan.station, line: *line });",
+     "visit.in_link = Some(InLink { previous: plan.station, line: *line });\n                visit.mark = plan.mark;"),
+    ("append marks the neighbour", "machine.rs", "visit.out_link = Some(OutLink { next: plan.station, line: *line, run: *run });",
+     "visit.out_link = Some(OutLink { next: plan.station, line: *line, run: *run });\n                visit.mark = plan.mark;"),
+    ("amend keeps the mark", "machine.rs", "visit.mark = plan.mark;", ""),
+    ("amend never clears the mark", "machine.rs", "visit.mark = plan.mark;", "visit.mark |= plan.mark;"),
+    ("amend keeps the mark of what arrived", "machine.rs", "visit.mark = plan.mark;",
+     "if visit.arrival.pending() { visit.mark = plan.mark; }"),
+    ("amend the mark with 11", "machine.rs", "arrival_altered || track_altered",
+     "(visit.arrival.occurred && visit.mark != plan.mark) || arrival_altered || track_altered"),
+    ("an arrival clears the mark", "machine.rs", "|visit| visit.arrival = Event::occurred_at(*time)",
+     "|visit| {\n visit.arrival = Event::occurred_at(*time);\n visit.mark = false; }"),
+    ("a departure clears the mark", "machine.rs", "|visit| visit.departure = Event::occurred_at(*time)",
+     "|visit| {\n visit.departure = Event::occurred_at(*time);\n visit.mark = false; }"),
+    ("stops without the mark", "railway.rs", "self.stops_unmarked() || self.mark", "self.stops_unmarked()"),
+    ("stops by the mark alone", "railway.rs", "self.stops_unmarked() || self.mark", "self.mark"),
+    ("a mark on a stop lifts it", "railway.rs", "self.stops_unmarked() || self.mark", "self.stops_unmarked() != self.mark"),
+    ("a mark stops what is pending", "railway.rs", "|| self.mark", "|| (self.mark && self.arrival.pending())"),
+    ("connections without the mark", "findings.rs", ".all(Visit::stops)", ".all(Visit::stops_unmarked)"),
+    ("disconnections without the mark", "findings.rs", "!(one.stops() && other.stops())",
+     "!(one.stops_unmarked() && other.stops_unmarked())"),
+    ("arrivers without the mark", "findings.rs", "arriver.stops()", "arriver.stops_unmarked()"),
+    ("departers without the mark", "findings.rs", "departer.stops()", "departer.stops_unmarked()"),
+    ("a minute at a request stop", "projection.rs", ".max(arrival)\n", ".max(arrival + 1)\n"),
+    ("a request stop as planned", "projection.rs", "visit.departure.time.max(arrival)\n", "visit.departure.time\n"),
+    ("a request stop does not wait", "projection.rs", "visit.departure.time.max(arrival)\n", "arrival\n"),
+    ("no minute at a marked stop", "projection.rs", "if visit.stops_unmarked()", "if visit.stops_unmarked() && !visit.mark"),
     # Wrong only in some orders: the comparison of reorderings has to find these, with the mistake on both sides.
     ("REORDERED limit of the whole", "machine.rs", "let full = |station| timetable.visits_at(station).len() >= VISITS_AT_STATION;",
      "let full = |station| timetable.visits_at(station).len() >= VISITS_AT_STATION || timetable.visits.len() >= 8;"),
@@ -335,10 +385,21 @@ MUTANTS = [
     ("RECHECKED without what is redone", "recheck.rs", "elsewhere.chain(redone)", "elsewhere.chain(redone.take(0))"),
     ("RECHECKED with what is stale", "recheck.rs", "filter(|entry| !stale(network, edit, entry))", "filter(|_| true)"),
     ("RECHECKED from a list with an entry twice", "recheck.rs", "two[0] < two[1]", "two[0] <= two[1]"),
+    # Wrong only in reading the earlier form.
+    ("EARLIER read as the newest", "edits.rs", "Form::Earlier => Ok(false)",
+     "Form::Earlier => Ok(reader.within(0..=1)?.value == 1)"),
+    ("EARLIER read with mark 1", "edits.rs", "Form::Earlier => Ok(false)", "Form::Earlier => Ok(true)"),
+    ("EARLIER edits read as the newest", "edits.rs", "mark: read_mark(reader, form)?",
+     "mark: read_mark(reader, if form == Form::Earlier { Form::Newest } else { form })?"),
+    ("EARLIER timetables read as the newest", "timetable.rs", "mark: read_mark(reader, form)?",
+     "mark: read_mark(reader, if form == Form::Earlier { Form::Newest } else { form })?"),
+    ("EARLIER visits refused in the new file", "timetable.rs", "place: station.place, station: Station(station.value), train",
+     "place: station.place + usize::from(form == Form::Earlier) * visits.len(), station: Station(station.value), train"),
 ]
 
 # The calls of the library that differ where a program cannot show it.
-OF_THE_LIBRARY = {"TURNED": ("turn",), "RECHECKED": ("recheck", "recheck_area")}
+OF_THE_LIBRARY = {"TURNED": ("turn",), "RECHECKED": ("recheck", "recheck_area"),
+                  "EARLIER": ("run_early", "read_early")}
 
 
 def by_programs(name, folder, built):

@@ -11,7 +11,7 @@ def areas_named(network, edit, refusal):
         return {area for area, _ in network.stations.values()}
     stations = {edit[1]}
     if edit[0] in (2, 3):
-        stations.add(edit[6])
+        stations.add(edit[7])
     if edit[0] in (4, 5):
         stations.add(edit[3])
     return {network.stations[station][0] for station in stations}

@@ -41,7 +41,7 @@ def make_journeys(r, network, picture, count, ring):
             if sum(key[0] == at for key in picture.visits) >= 24 or (at, train) in picture.visits:
                 break
             departure = picture.stay(arrival)
-            visit = picture.visits[at, train] = Visit(picture.track_known(at), arrival, departure)
+            visit = picture.visits[at, train] = Visit(picture.track_known(at), picture.mark(), arrival, departure)
             if len(stations) > 1:
                 visit.before = (stations[-2], line)
                 picture.visits[stations[-2], train].after = (at, line, run)
@@ -133,7 +133,7 @@ def make_full(r):
         absent = [train for train in picture.trains if train not in here]
         for train in r.sample(absent, 24 - len(here)):
             arrival = picture.time()
-            picture.visits[at, train] = Visit(picture.track_known(at), arrival, picture.stay(arrival))
+            picture.visits[at, train] = Visit(picture.track_known(at), picture.mark(), arrival, picture.stay(arrival))
         while len(picture.relations[at]) < 6:
             picture.relations[at].add(picture.relation(at))
     network.closures = make_closures(r, network, occupied(picture))

@@ -11,8 +11,8 @@ from drafts import (
 class Visit:
     """A visit in the generator's picture; before is (station, line) or none, after (station, line, run) or none."""
 
-    def __init__(self, track, arrival, departure, before=None, after=None, arrived=0, departed=0):
-        self.track, self.arrival, self.departure = track, arrival, departure
+    def __init__(self, track, mark, arrival, departure, before=None, after=None, arrived=0, departed=0):
+        self.track, self.mark, self.arrival, self.departure = track, mark, arrival, departure
         self.before, self.after = before, after
         self.arrived, self.departed = arrived, departed
 
@@ -45,6 +45,10 @@ class Picture:
         tracks = self.network.stations.get(station, (1, 8))[1]
         return clamp(self.r.choice([1, 1, self.r.randint(1, tracks)]) if self.r.random() < 0.97 else tracks + 1, TRACK)
 
+    def mark(self):
+        """A stop mark; mostly it says nothing that the times and links don't say."""
+        return int(self.r.random() < 0.4)
+
     def stay(self, arrival):
         return clamp(arrival + self.r.choice([0, 0, 1, 2, 2, 4, 10, -1 if self.r.random() < 0.3 else 1]), TIME)
 
@@ -72,7 +76,7 @@ class Picture:
     def place(self):
         station = self.station()
         arrival = self.time()
-        return (1, station, self.r.choice(self.trains), self.track(station), arrival, self.stay(arrival))
+        return (1, station, self.r.choice(self.trains), self.track(station), self.mark(), arrival, self.stay(arrival))
 
     def append(self):
         ends = [key for key, visit in self.visits.items() if not visit.after and self.network.out_of(key[0])]
@@ -85,7 +89,7 @@ class Picture:
         run = self.run(line)
         arrival = clamp(self.visits[at, train].departure + run, TIME)
         arrival = arrival if self.r.random() < 0.7 else self.near(arrival)
-        return (3, to, train, self.track(to), arrival, self.stay(arrival), at, line, run)
+        return (3, to, train, self.track(to), self.mark(), arrival, self.stay(arrival), at, line, run)
 
     def prepend(self):
         starts = [key for key, visit in self.visits.items() if not visit.before and self.network.into(key[0])]
@@ -99,7 +103,7 @@ class Picture:
         departure = clamp(self.visits[at, train].arrival - run, TIME)
         departure = departure if self.r.random() < 0.7 else self.near(departure)
         arrival = clamp(departure - self.r.choice([0, 1, 3]), TIME)
-        return (2, start, train, self.track(start), arrival, departure, at, line, run)
+        return (2, start, train, self.track(start), self.mark(), arrival, departure, at, line, run)
 
     def extend_linked(self):
         """An extension at a visit that has its link already."""
@@ -113,7 +117,7 @@ class Picture:
         fresh = [way for way in ways if (way[1], train) not in self.visits]
         line, far = self.r.choice(fresh or ways)
         arrival = self.near(visit.departure)
-        return (kind, far, train, self.track(far), arrival, self.stay(arrival), at, line, self.run(line))
+        return (kind, far, train, self.track(far), self.mark(), arrival, self.stay(arrival), at, line, self.run(line))
 
     def extend_missing(self):
         """An extension of a train that does not visit the neighbour."""
@@ -123,7 +127,7 @@ class Picture:
         arrival = self.time()
         kind, at, far = self.r.choice([(3, to, start), (2, start, to)])
         train = self.r.choice(self.trains)
-        return (kind, at, train, self.track(at), arrival, self.stay(arrival), far, line, self.run(line))
+        return (kind, at, train, self.track(at), self.mark(), arrival, self.stay(arrival), far, line, self.run(line))
 
     def extend_full(self):
         """An extension to a full station, of a train that visits the neighbour or not, linked there or not."""
@@ -138,7 +142,7 @@ class Picture:
         linked = [train for train in there if (self.visits[far, train].after if kind == 3 else self.visits[far, train].before)]
         train = self.r.choice(self.r.choice([trains, there or trains, linked or there or trains]))
         arrival = self.time()
-        return (kind, at, train, self.track(at), arrival, self.stay(arrival), far, line, self.run(line))
+        return (kind, at, train, self.track(at), self.mark(), arrival, self.stay(arrival), far, line, self.run(line))
 
     def delete_end(self):
         ends = [(4, key, visit.after[0]) for key, visit in self.visits.items() if visit.after and not visit.before]
@@ -170,7 +174,7 @@ class Picture:
         arrival = visit.arrival if self.r.random() < 0.6 else self.near(visit.arrival)
         departure = visit.departure if self.r.random() < 0.3 else self.stay(arrival)
         track = visit.track if self.r.random() < 0.7 else self.track(at)
-        return (6, at, train, track, arrival, departure)
+        return (6, at, train, track, self.mark(), arrival, departure)
 
     def report(self):
         if not self.visits:
@@ -257,9 +261,9 @@ class Picture:
         if kind in (1, 2, 3):
             if here or edit[3] > self.network.stations[at][1] or sum(key[0] == at for key in self.visits) >= 24:
                 return
-            visit = Visit(*edit[3:6])
+            visit = Visit(*edit[3:7])
             if kind > 1:
-                far, line, run = edit[6:]
+                far, line, run = edit[7:]
                 other = self.visits.get((far, train))
                 way = (line, far, at) if kind == 3 else (line, at, far)
                 if not other or way not in self.network.ways or (other.after if kind == 3 else other.before):
@@ -280,9 +284,9 @@ class Picture:
             del self.visits[at, train]
             self.leave(at, train)
         elif kind == 6 and here:
-            altered = here.arrived and (here.arrival, here.track) != (edit[4], edit[3])
-            if not altered and not (here.departed and here.departure != edit[5]):
-                here.track, here.arrival, here.departure = edit[3:6]
+            altered = here.arrived and (here.arrival, here.track) != (edit[5], edit[3])
+            if not altered and not (here.departed and here.departure != edit[6]):
+                here.track, here.mark, here.arrival, here.departure = edit[3:7]
         elif kind == 7 and here:
             here.arrival, here.arrived = edit[3], 1
         elif kind == 8 and here:
@@ -371,9 +375,9 @@ def journey_of_all(r):
     lines = {rank: (path[rank - 1], path[rank], 3, 5, 6, 1) for rank in range(1, 16)}
     network = Network(network.stations, network.headway, lines)
     train = r.randint(1, 9999)
-    edits = [(1, path[0], train, 1, 0, 1)]
+    edits = [(1, path[0], train, 1, 0, 0, 1)]
     for rank in range(1, 16):
-        edits.append((3, path[rank], train, 1, 6 * rank, 6 * rank + 1, path[rank - 1], rank, 5))
+        edits.append((3, path[rank], train, 1, r.randint(0, 1), 6 * rank, 6 * rank + 1, path[rank - 1], rank, 5))
     if r.random() < 0.8:
         edits.append((11, train))
     return with_closures(r, network, edits)
@@ -389,17 +393,17 @@ def full_station(r):
     trains = make_trains(r, 32)
     r.shuffle(trains)
     inside, outside = trains[:24], trains[24:]
-    edits = [(1, full, train, 1, 9 * rank, 9 * rank) for rank, train in enumerate(inside[:r.choice([23, 24, 24])])]
+    edits = [(1, full, train, 1, rank % 2, 9 * rank, 9 * rank) for rank, train in enumerate(inside[:r.choice([23, 24, 24])])]
     for train in outside[:-1]:
         # At the neighbour alone, or linked with the third station one way or the other.
-        edits.append((1, near, train, 1, 100, 110))
-        linked = r.choice([(), (3, third, train, 1, 120, 121, near, 2, 5), (2, third, train, 1, 80, 81, near, 2, 5)])
+        edits.append((1, near, train, 1, 0, 100, 110))
+        linked = r.choice([(), (3, third, train, 1, 0, 120, 121, near, 2, 5), (2, third, train, 1, 1, 80, 81, near, 2, 5)])
         edits += [linked] if linked else []
     tries = []
     for train in r.sample(trains, 8) + outside:
         track = r.choice([1, 1, 1, tracks + 1])
-        tries.append((r.choice([2, 3]), full, train, track, 90, 91, near, r.choice([1, 1, 1, 1, 2]), 9))
-        tries.append((1, full, train, track, 90, 91))
+        tries.append((r.choice([2, 3]), full, train, track, 1, 90, 91, near, r.choice([1, 1, 1, 1, 2]), 9))
+        tries.append((1, full, train, track, 0, 90, 91))
     tries += [(11, r.choice(trains)) for _ in range(r.choice([0, 0, 2]))]
     r.shuffle(tries)
     return with_closures(r, network, edits + tries)

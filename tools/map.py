@@ -6,8 +6,8 @@
 
 Stations go down, as far apart as their least running time, each with its tracks; time goes across. The longest way over
 the lines comes first, then each branch, from the station where it leaves. A train is solid where its times have
-occurred, dashed where they are pending. A hatched band between two stations is a closure of the line that it names. A
-mark with a rule's number is a finding; pointing at anything tells about it.
+occurred, dashed where they are pending, and has a ring where it stops on request. A hatched band between two stations
+is a closure of the line that it names. A mark with a rule's number is a finding; pointing at anything tells about it.
 """
 
 import argparse
@@ -72,7 +72,9 @@ class Link(NamedTuple):
 
 
 class Visit(NamedTuple):
+    """On request where it has a stop mark."""
     track: int
+    on_request: bool
     arrival: Moment
     departure: Moment
     before: Link | None
@@ -149,14 +151,14 @@ def row(numbers, count):
 
 
 def read_visit(numbers):
-    station, train, track, arrival, arrived, departure, departed = row(numbers, 7)
+    station, train, track, mark, arrival, arrived, departure, departed = row(numbers, 8)
     previous = take(numbers)
     before = Link(previous, take(numbers)) if previous else None
     following = take(numbers)
     after = Link(following, take(numbers)) if following else None
     run = take(numbers) if following else 0
     moments = Moment(arrival, arrived == 1), Moment(departure, departed == 1)
-    return (station, train), Visit(track, *moments, before, after, run)
+    return (station, train), Visit(track, mark == 1, *moments, before, after, run)
 
 
 def read_relation(numbers):
@@ -445,7 +447,8 @@ def finding_words(day, finding, areas):
 def visit_words(key, visit):
     station, train = key
     times = f"arrives {moment_words(visit.arrival)}, departs {moment_words(visit.departure)}"
-    return f"Train {train} at station {station}, track {visit.track}: {times}"
+    request = ", request stop" if visit.on_request else ""
+    return f"Train {train} at station {station}, track {visit.track}{request}: {times}"
 
 
 def run_words(day, run):
@@ -792,14 +795,21 @@ def comes_unanswered(day, key):
     return previous is None or previous.after != Link(key[0], visit.before.line)
 
 
+def ring(x, y, **attributes):
+    """The sign of a request stop."""
+    return tag("circle", cx=float(x), cy=float(y), r=3.6, fill="white", stroke_width=1.5, **attributes)
+
+
 def draw_visit(plan, key, now):
     """A visit in each walk with its station: the stay on its track, thin where the train has no link in that walk;
-    a dot where the train begins or ends."""
+    a ring where it stops on request, a dot where the train begins or ends."""
     visit, linked, parts = plan.day.visits[key], plan.walks_by(key), []
     words, share = visit_words(key, visit), done(visit.arrival, visit.departure, now)
     for at in plan.walks_at(key[0]):
         ends = plan.stay(key, at)
         parts.append(draw_piece(words, ends, share, 1.7 if at in linked else 0.8))
+        if visit.on_request and at in linked:
+            parts.append(told(words, ring(*between(*ends, 0.5))))
         dots = [end for end, link in zip(ends, (visit.before, visit.after)) if not link and at in linked]
         parts += [told(words, tag("circle", cx=float(x), cy=float(y), r=2.6, stroke="none")) for x, y in dots]
     if visit.before and comes_unanswered(plan.day, key):
@@ -929,7 +939,7 @@ def draw_now(plan, now):
     return [told(f"The latest report: {clock(now)}", *parts, **NOW)]
 
 
-def draw_legend(y, width, now, walks, closed):
+def draw_legend(y, width, now, walks, closed, on_request):
     """What the signs mean, in rows of a width, and the height of the last row."""
     line = {"stroke": INK, "stroke_width": 1.7}
     items = [(stroke((0, -4), (30, -4), **line), 36, "occurred"),
@@ -937,8 +947,10 @@ def draw_legend(y, width, now, walks, closed):
              (tag("polyline", points="0,-12 8,-4 22,-4 30,4", fill="none", **line), 36, "run, stay on a track, run")]
     if walks > 1:
         items.append((stroke((0, -4), (20, -4), stroke=INK, stroke_width=0.8), 26, "thin: it runs in another part"))
-    items += [(tag("circle", cx=4, cy=-4, r=2.6, fill=INK), 14, "train begins or ends"),
-              (sign(8, -4, 3), 22, "finding by rule 1 to 6 or 11"),
+    items.append((tag("circle", cx=4, cy=-4, r=2.6, fill=INK), 14, "train begins or ends"))
+    if on_request:
+        items.append((stroke((0, -4), (16, -4), **line) + ring(8, -4, stroke=INK), 22, "request stop"))
+    items += [(sign(8, -4, 3), 22, "finding by rule 1 to 6 or 11"),
               (sign(8, -4, 9), 22, "by rule 7 to 10, of two stations")]
     if closed:
         items.append((band((0, -12), (26, 4)), 32, "line closed"))
@@ -978,7 +990,8 @@ def draw(day, found, areas, scale):
     span = f"{clock(plan.begin)} to {clock(plan.end)}{' (+1: the next day)' if plan.end >= 1440 else ''}"
     parts.append(text(10, 26, f"Running map, {span}; trains: {trains}", 15, font_weight="bold"))
     width = plan.right + RIGHT
-    legend, foot = draw_legend(plan.bottom + 8, width, now, len(plan.walks), bool(closed))
+    on_request = any(visit.on_request for visit in day.visits.values())
+    legend, foot = draw_legend(plan.bottom + 8, width, now, len(plan.walks), bool(closed), on_request)
     parts += legend + draw_list(plan, found, areas, foot + 36)
     height = foot + 56 + 20 * len(found)
     return tag("svg", tag("style", ".train:hover g { stroke-width: 3.4 }"),

@@ -55,7 +55,7 @@ impl Held {
         let mut division = vec![0; DIVISION];
         library::divide(&railway.network, &sheet, &mut division).expect("the sheet is good");
         let ((s, t), v) = railway.held.visits.iter().next().expect("there is a visit");
-        let plan = [s.0, t.0, v.track.0, v.arrival.time as u32, v.departure.time as u32];
+        let plan = [s.0, t.0, v.track.0, u32::from(v.mark), v.arrival.time as u32, v.departure.time as u32];
         let mut list = vec![0; MOST_FINDINGS];
         let length = library::findings(&railway.network, &sheet, &mut list).expect("the sheet is good");
         list.truncate(length);
@@ -140,7 +140,7 @@ pub fn reference<'a>(call: &str, railway: &'a Railway) -> Option<Turn<'a>> {
     let known = &railway.known;
     let held = &railway.held;
     let ((s, t), v) = held.visits.iter().next()?;
-    let plan = [s.0, t.0, v.track.0, v.arrival.time as u32, v.departure.time as u32];
+    let plan = [s.0, t.0, v.track.0, u32::from(v.mark), v.arrival.time as u32, v.departure.time as u32];
     let one = |numbers: &[u32]| read_edits(&edit_bytes(&[&[1], numbers].concat())).remove(0);
     let changing = |numbers: &[u32]| {
         let edit = one(numbers);

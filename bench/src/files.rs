@@ -1,6 +1,6 @@
 //! The files that are measured: networks, edits and timetables of four sizes, made by a rule and not by chance.
 
-use reference::edits::{self, Edit};
+use reference::edits::{self, Edit, Form};
 use reference::machine;
 use reference::network::{Network, NetworkPart};
 use reference::number::{self, Reader};
@@ -85,11 +85,12 @@ pub fn read_network(file: &[u8]) -> Network {
 }
 
 pub fn read_edits(file: &[u8]) -> Vec<Edit> {
-    edits::read(&mut Reader::new(file)).expect("edits of this module are good")
+    edits::read(&mut Reader::new(file), Form::Newest).expect("edits of this module are good")
 }
 
 pub fn read_timetable(known: &Network, file: &[u8]) -> Timetable {
-    let part = timetable::TimetablePart::read(&mut Reader::new(file)).expect("a timetable of this module is good");
+    let part = timetable::TimetablePart::read(&mut Reader::new(file), Form::Newest);
+    let part = part.expect("a timetable of this module is good");
     part.under(known).expect("it fits its network")
 }
 
@@ -118,11 +119,11 @@ impl Size {
         numbers
     }
 
-    /// The k-th visit of a train, as an edit has it: its station, train, track, arrival and departure.
-    fn visit(&self, t: u32, k: u32) -> [u32; 5] {
+    /// The k-th visit of a train, as an edit has it: its station, train, track, mark (none), arrival and departure.
+    fn visit(&self, t: u32, k: u32) -> [u32; 6] {
         let first = if self.together { 0 } else { t };
         let at = 100 + t * self.spacing + 7 * k;
-        [(first + k) % self.stations + 1, t, t % self.tracks + 1, at, at + 2]
+        [(first + k) % self.stations + 1, t, t % self.tracks + 1, 0, at, at + 2]
     }
 
     /// Each train once round the ring; then the relations of each station; then amendments that leave what they find.
@@ -155,7 +156,9 @@ impl Size {
         let (network, edits) = if self.trains == 0 {
             (
                 bytes(&[2, 1, 1, 2, 2, 2, 1, 3, 1, 1, 1, 2, 3, 10, 10, 1, 0]),
-                bytes(&[4, 1, 1, 7, 1, 100, 102, 3, 2, 7, 1, 115, 115, 1, 1, 12, 1, 1, 7, 1, 100, 102, 9, 1, 1, 5, 2, 7, 9]),
+                bytes(&[
+                    4, 1, 1, 7, 1, 0, 100, 102, 3, 2, 7, 1, 0, 115, 115, 1, 1, 12, 1, 1, 7, 1, 0, 100, 102, 9, 1, 1, 5, 2, 7, 9,
+                ]),
             )
         } else {
             (bytes(&self.network()), bytes(&self.edits()))

@@ -16,7 +16,7 @@ const RECORD: usize = 16;
 const THERE: u32 = 23;
 
 fn placing(train: u32) -> Vec<u8> {
-    edit_bytes(&[1, 1, train, train % 8 + 1, 100 + 50 * train, 102 + 50 * train])
+    edit_bytes(&[1, 1, train, train % 8 + 1, 0, 100 + 50 * train, 102 + 50 * train])
 }
 
 /// The train that is put in, and how many visits stand behind it; `there` is one of those that are there.

@@ -14,9 +14,9 @@ def edited(who, edit, division):
 def main():
     division, sheet = bytearray(library.DIVISION), bytearray(library.SHEET)
     # Train 7 waits at station 1; train 9 comes to station 2; train 7 goes on to it, across both rooms.
-    across = bytes([3, 2, 7, 1, 115, 115, 1, 1, 12])
-    edited("the first room locks", bytes([1, 1, 7, 1, 100, 102]), division)
-    edited("the second room locks", bytes([1, 2, 9, 1, 110, 111]), division)
+    across = bytes([3, 2, 7, 1, 0, 115, 115, 1, 1, 12])
+    edited("the first room locks", bytes([1, 1, 7, 1, 0, 100, 102]), division)
+    edited("the second room locks", bytes([1, 2, 9, 1, 0, 110, 111]), division)
     edited("together they lock", across, division)
     try:
         library.edit(NETWORK, across, division)

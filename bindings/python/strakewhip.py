@@ -4,10 +4,11 @@ include/strakewhip.h has them in C.
 
 A network, an edit, a list of edits and a timetable are the bytes of their files. In a network's, each line has two
 least running times, that of passenger trains and then that of freight trains, numbered 5000 and up; it ends with the
-count of its closures and the closures. A sheet is a bytearray of SHEET bytes, a division one of DIVISION bytes, six
-sheets by area; all zeros are an empty one. A refusal raises Refused, and leaves every lent buffer as it was; each
-function names its refusals in the order in which they are tested. "The network" among them stands for 1, 2 or 3, then
-14, then 4 of the network's file, with its place.
+count of its closures and the closures. Behind a track stands the stop mark of its edit or visit, 1 for a request stop,
+else 0; files of edits and of timetables without marks, the earlier form, have functions of their own. A sheet is a
+bytearray of SHEET bytes, a division one of DIVISION bytes, six sheets by area; all zeros are an empty one. A refusal
+raises Refused, and leaves every lent buffer as it was; each function names its refusals in the order in which they are
+tested. "The network" among them stands for 1, 2 or 3, then 14, then 4 of the network's file, with its place.
 
 The shared object is that of STRAKEWHIP_SO, or else where tools/library.sh puts it.
 """
@@ -21,7 +22,7 @@ DIVISION = 6 * SHEET
 MOST_FINDINGS = 369024
 MOST_ROWS = 64
 MOST_ANSWERS = 2000
-MOST_TIMETABLE = 7395
+MOST_TIMETABLE = 7779
 MOST_NETWORK = 500
 # The earlier form of a network's file: one least running time a line, and closures (document 02, W1).
 ONE_TIME = 1
@@ -77,6 +78,7 @@ CALLS = {
     "strakewhip_edit": _IN + _IN + _IN,
     "strakewhip_edit_sheet": _IN + _IN + _IN,
     "strakewhip_run": _IN + _IN + _IN + _IN,
+    "strakewhip_run_early": _IN + _IN + _IN + _IN,
     "strakewhip_divide": _IN + _IN + _IN,
     "strakewhip_merge": _IN + _IN + _IN,
     "strakewhip_findings": _IN + _IN + _NUMBERS,
@@ -85,6 +87,7 @@ CALLS = {
     "strakewhip_recheck": _IN + _IN + _IN + _NUMBERS + _NUMBERS,
     "strakewhip_recheck_area": _IN + _IN + _IN + (_U8,) + _NUMBERS + _NUMBERS,
     "strakewhip_read": _IN + _IN + _IN,
+    "strakewhip_read_early": _IN + _IN + _IN,
     "strakewhip_write": _IN + _IN + _IN,
     "strakewhip_project": _IN + _IN + (_U8, _U16, _U16) + _ROWS,
     "strakewhip_raise": _IN + (_U8, _U8) + _COUNTS,
@@ -152,11 +155,20 @@ def edit_sheet(network, edit, sheet):
     return _call("strakewhip_edit_sheet", *_lent(network), *_lent(edit), *_own(sheet)).removed
 
 
+def _answers(call, network, edits, division):
+    answers = bytearray(MOST_ANSWERS)
+    length = _call(call, *_lent(network), *_lent(edits), *_own(division), *_own(answers)).length
+    return list(zip(answers[0:length:2], answers[1:length:2]))
+
+
 def run(network, edits, division):
     """The edits of a file, one by one: (refusal, removed) of each. Refuses: 5; the network; 1, 2, 3 of the edits."""
-    answers = bytearray(MOST_ANSWERS)
-    length = _call("strakewhip_run", *_lent(network), *_lent(edits), *_own(division), *_own(answers)).length
-    return list(zip(answers[0:length:2], answers[1:length:2]))
+    return _answers("strakewhip_run", network, edits, division)
+
+
+def run_early(network, edits, division):
+    """The same of a file in the earlier form, whose edits have no mark and carry 0. Refuses as run does."""
+    return _answers("strakewhip_run_early", network, edits, division)
 
 
 def divide(network, sheet, division):
@@ -218,8 +230,13 @@ def read(network, timetable, sheet):
     return _call("strakewhip_read", *_lent(network), *_lent(timetable), *_own(sheet)).length
 
 
+def read_early(network, timetable, sheet):
+    """The same of a file in the earlier form, whose visits have no mark and get 0. Refuses as read does."""
+    return _call("strakewhip_read_early", *_lent(network), *_lent(timetable), *_own(sheet)).length
+
+
 def write(network, sheet):
-    """A sheet as a timetable's file. Refuses: 5; the network; 6."""
+    """A sheet as a timetable's file, in the newest form. Refuses: 5; the network; 6."""
     out = bytearray(MOST_TIMETABLE)
     return bytes(out[:_call("strakewhip_write", *_lent(network), *_lent(sheet), *_own(out)).length])
 

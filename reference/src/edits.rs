@@ -3,12 +3,21 @@
 use crate::number::{FileRefusal, Number, Reader, RANGE};
 use crate::railway::{Line, Minute, Relation, Station, Track, Train, LAST_MINUTE};
 
-/// The fields of edit 1, which 2, 3 and 6 share.
+/// The forms of files of edits and timetables. W6: "Old files are read as before by naming the earlier form when
+/// reading, and their visits get mark 0; what is written is the new form".
+#[derive(Clone, Copy, Debug, PartialEq, Eq)]
+pub enum Form {
+    Earlier,
+    Newest,
+}
+
+/// The fields of edit 1, which 2, 3 and 6 share; W6: a stop mark "after its track in every edit that carries a track".
 #[derive(Clone, Copy, Debug, PartialEq, Eq)]
 pub struct Plan {
     pub station: Station,
     pub train: Train,
     pub track: Track,
+    pub mark: bool,
     pub arrival: Minute,
     pub departure: Minute,
 }
@@ -41,9 +50,7 @@ impl Edit {
     pub fn stations(&self) -> Option<Vec<Station>> {
         match self {
             Edit::Place(plan) | Edit::Amend(plan) => Some(vec![plan.station]),
-            Edit::Prepend(plan, extension) | Edit::Append(plan, extension) => {
-                Some(vec![plan.station, extension.neighbour])
-            }
+            Edit::Prepend(plan, extension) | Edit::Append(plan, extension) => Some(vec![plan.station, extension.neighbour]),
             Edit::DeleteFirst { station, neighbour, .. } | Edit::DeleteLast { station, neighbour, .. } => {
                 Some(vec![*station, *neighbour])
             }
@@ -68,6 +75,14 @@ pub fn read_line(reader: &mut Reader) -> Result<Line, FileRefusal> {
 
 pub fn read_track(reader: &mut Reader) -> Result<Track, FileRefusal> {
     Ok(Track(reader.within(1..=8)?.value))
+}
+
+/// W6: "a stop mark, 0 or 1"; a file of the earlier form has none.
+pub fn read_mark(reader: &mut Reader, form: Form) -> Result<bool, FileRefusal> {
+    match form {
+        Form::Earlier => Ok(false),
+        Form::Newest => Ok(reader.within(0..=1)?.value == 1),
+    }
 }
 
 pub fn read_time(reader: &mut Reader) -> Result<Minute, FileRefusal> {
@@ -111,11 +126,12 @@ pub fn read_relation(
     })
 }
 
-fn read_plan(reader: &mut Reader) -> Result<Plan, FileRefusal> {
+fn read_plan(reader: &mut Reader, form: Form) -> Result<Plan, FileRefusal> {
     Ok(Plan {
         station: Station(read_station(reader)?.value),
         train: Train(read_train(reader)?.value),
         track: read_track(reader)?,
+        mark: read_mark(reader, form)?,
         arrival: read_time(reader)?,
         departure: read_time(reader)?,
     })
@@ -125,12 +141,12 @@ fn read_extension(reader: &mut Reader) -> Result<Extension, FileRefusal> {
     Ok(Extension { neighbour: Station(read_station(reader)?.value), line: read_line(reader)?, run: read_run(reader)? })
 }
 
-fn read_edit(reader: &mut Reader) -> Result<Edit, FileRefusal> {
+fn read_edit(reader: &mut Reader, form: Form) -> Result<Edit, FileRefusal> {
     let mut unordered = |_: Number, _: bool| Ok(());
     Ok(match reader.within(1..=11)?.value {
-        1 => Edit::Place(read_plan(reader)?),
-        2 => Edit::Prepend(read_plan(reader)?, read_extension(reader)?),
-        3 => Edit::Append(read_plan(reader)?, read_extension(reader)?),
+        1 => Edit::Place(read_plan(reader, form)?),
+        2 => Edit::Prepend(read_plan(reader, form)?, read_extension(reader)?),
+        3 => Edit::Append(read_plan(reader, form)?, read_extension(reader)?),
         4 => Edit::DeleteFirst {
             station: Station(read_station(reader)?.value),
             train: Train(read_train(reader)?.value),
@@ -141,7 +157,7 @@ fn read_edit(reader: &mut Reader) -> Result<Edit, FileRefusal> {
             train: Train(read_train(reader)?.value),
             neighbour: Station(read_station(reader)?.value),
         },
-        6 => Edit::Amend(read_plan(reader)?),
+        6 => Edit::Amend(read_plan(reader, form)?),
         7 => Edit::ReportArrival {
             station: Station(read_station(reader)?.value),
             train: Train(read_train(reader)?.value),
@@ -165,7 +181,7 @@ fn read_edit(reader: &mut Reader) -> Result<Edit, FileRefusal> {
 }
 
 /// "Edits: count (0..1000), then kind and fields."
-pub fn read(reader: &mut Reader) -> Result<Vec<Edit>, FileRefusal> {
+pub fn read(reader: &mut Reader, form: Form) -> Result<Vec<Edit>, FileRefusal> {
     let count = reader.within(0..=1000)?.value;
-    (0..count).map(|_| read_edit(reader)).collect()
+    (0..count).map(|_| read_edit(reader, form)).collect()
 }

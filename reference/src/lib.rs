@@ -1,4 +1,4 @@
-//! A second implementation of document 01, and of document 02 as far as W5, written from their text alone, on one
+//! A second implementation of document 01, and of document 02 as far as W6, written from their text alone, on one
 //! central timetable.
 //!
 //! It is meant to be compared with, so it is naive on purpose: maps and sets for the state, whole lists of findings that

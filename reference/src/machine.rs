@@ -140,6 +140,7 @@ fn alters_what_occurred(timetable: &Timetable, plan: &Plan) -> bool {
 fn placed(plan: &Plan) -> Visit {
     Visit {
         track: plan.track,
+        mark: plan.mark,
         arrival: Event::pending_at(plan.arrival),
         departure: Event::pending_at(plan.departure),
         in_link: None,
@@ -185,10 +186,11 @@ fn perform(network: &Network, timetable: &mut Timetable, edit: &Edit) -> u32 {
             timetable.take_from_relations(*station, *train);
             1
         }
-        // "New track and times, statuses and links kept."
+        // "New track and times, statuses and links kept."; of the mark W6: "amending sets it anew".
         Edit::Amend(plan) => {
             change(timetable, plan.station, plan.train, |visit| {
                 visit.track = plan.track;
+                visit.mark = plan.mark;
                 visit.arrival.time = plan.arrival;
                 visit.departure.time = plan.departure;
             });

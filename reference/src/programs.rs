@@ -1,6 +1,6 @@
 //! What the programs `shift` and `inspect` print for an input.
 
-use crate::edits;
+use crate::edits::{self, Form};
 use crate::findings::{self, Finding};
 use crate::machine;
 use crate::network::NetworkPart;
@@ -35,7 +35,7 @@ fn shift_or_refusal(input: &[u8]) -> Result<String, FileRefusal> {
     test_size(input)?;
     let mut reader = Reader::new(input);
     let part = NetworkPart::read(&mut reader)?;
-    let edits = edits::read(&mut reader)?;
+    let edits = edits::read(&mut reader, Form::Newest)?;
     reader.end()?;
     // "In files the first faulty number by place, then 4"; W1 puts 14 between them.
     part.test_whole()?;
@@ -68,7 +68,7 @@ fn inspect_or_refusal(input: &[u8]) -> Result<String, FileRefusal> {
     let mut reader = Reader::new(input);
     let part = NetworkPart::read(&mut reader)?;
     let behind = reader.place();
-    let entries = TimetablePart::read(&mut reader)?;
+    let entries = TimetablePart::read(&mut reader, Form::Newest)?;
     reader.end()?;
     part.test_whole()?;
     let network = part.network;

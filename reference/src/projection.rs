@@ -46,11 +46,14 @@ fn arrival(visit: &Visit, expected: Minute) -> Minute {
 }
 
 /// "Otherwise departure is the arrival if the train doesn't stop, else the larger of planned departure and arrival + 1."
+/// W6: "where only the mark makes a stop, projected departure is the larger of planned departure and arrival".
 fn departure(visit: &Visit, arrival: Minute) -> Minute {
     if visit.departure.occurred {
         visit.departure.time
-    } else if visit.stops() {
+    } else if visit.stops_unmarked() {
         visit.departure.time.max(arrival + 1)
+    } else if visit.mark {
+        visit.departure.time.max(arrival)
     } else {
         arrival
     }

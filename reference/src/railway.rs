@@ -65,6 +65,8 @@ pub struct OutLink {
 #[derive(Clone, Copy, Debug, PartialEq, Eq)]
 pub struct Visit {
     pub track: Track,
+    /// W6: "A visit gains a stop mark, 0 or 1".
+    pub mark: bool,
     pub arrival: Event,
     pub departure: Event,
     pub in_link: Option<InLink>,
@@ -72,8 +74,14 @@ pub struct Visit {
 }
 
 impl Visit {
-    /// "A visit stops if it departs later than it arrives or lacks a link."
+    /// "A visit stops if it departs later than it arrives or lacks a link."; W6: "A marked visit stops even if the old
+    /// condition doesn't hold."
     pub fn stops(&self) -> bool {
+        self.stops_unmarked() || self.mark
+    }
+
+    /// The old condition, whatever the mark.
+    pub fn stops_unmarked(&self) -> bool {
         self.departure.time > self.arrival.time || self.in_link.is_none() || self.out_link.is_none()
     }
 }

@@ -25,8 +25,7 @@ pub fn rises(list: &[Entry]) -> bool {
 pub fn stale(network: &Network, edit: &Edit, entry: &Entry) -> bool {
     let Some(named) = edit.stations() else { return true };
     let (station, rule) = (Station(entry[0]), entry[1]);
-    named.contains(&station)
-        || ((7..=10).contains(&rule) && named.iter().any(|other| network.joined(*other, station)))
+    named.contains(&station) || ((7..=10).contains(&rule) && named.iter().any(|other| network.joined(*other, station)))
 }
 
 /// "That list's entries elsewhere together with the redone ones": `found` is the list worked out from the new sheet.

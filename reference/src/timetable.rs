@@ -1,6 +1,6 @@
 //! The timetable's part of a file: reading it, testing it under a network, writing it.
 
-use crate::edits::{read_line, read_relation, read_run, read_station, read_time, read_track, read_train};
+use crate::edits::{read_line, read_mark, read_relation, read_run, read_station, read_time, read_track, read_train, Form};
 use crate::machine::{LIMIT, UNKNOWN};
 use crate::network::Network;
 use crate::number::{self, FileRefusal, Reader, Rising};
@@ -52,8 +52,9 @@ fn read_out_link(reader: &mut Reader) -> Result<Option<OutLink>, FileRefusal> {
 
 impl TimetablePart {
     /// "Timetable: count of visits (0..384), each s, t, track, arrival, status, departure, status, in-link, out-link,
-    /// rising by s and t alone; count of relations (0..96), each with its station before it, rising."
-    pub fn read(reader: &mut Reader) -> Result<TimetablePart, FileRefusal> {
+    /// rising by s and t alone; count of relations (0..96), each with its station before it, rising." W6: a stop mark
+    /// "after its track", "and in the timetable file".
+    pub fn read(reader: &mut Reader, form: Form) -> Result<TimetablePart, FileRefusal> {
         let mut visits = Vec::new();
         let visit_count = reader.within(0..=384)?.value;
         let mut rising = Rising::default();
@@ -64,6 +65,7 @@ impl TimetablePart {
             rising.compare_last(train)?;
             let visit = Visit {
                 track: read_track(reader)?,
+                mark: read_mark(reader, form)?,
                 arrival: read_event(reader)?,
                 departure: read_event(reader)?,
                 in_link: read_in_link(reader)?,
@@ -119,7 +121,7 @@ impl TimetablePart {
     }
 }
 
-/// Writes a timetable in the form that `TimetablePart::read` reads.
+/// Writes a timetable in the newest form.
 pub fn write(timetable: &Timetable) -> Vec<u8> {
     let mut file = Vec::new();
     let mut put = |value: u32| number::write(value, &mut file);
@@ -128,6 +130,7 @@ pub fn write(timetable: &Timetable) -> Vec<u8> {
         put(station.0);
         put(train.0);
         put(visit.track.0);
+        put(u32::from(visit.mark));
         for event in [visit.arrival, visit.departure] {
             put(event.time as u32);
             put(u32::from(event.occurred));

@@ -27,7 +27,7 @@ fn accepted(network: &[u32]) {
 
 /// Train 7 leaves station 1 at 100 with run 12, train 8 is at station 2 without a link.
 fn found(closures: &[[u32; 3]], departed: u32) -> String {
-    let visits = [1, 7, 1, 90, departed, 100, departed, 0, 2, 1, 12, 2, 8, 1, 90, 0, 95, 0, 0, 0];
+    let visits = [1, 7, 1, 0, 90, departed, 100, departed, 0, 2, 1, 12, 2, 8, 1, 0, 90, 0, 95, 0, 0, 0];
     inspect(&file(&join(&[&closed(closures), &[2], &visits, &[0]])))
 }
 
@@ -67,7 +67,7 @@ fn one_finding_at_the_departing_station() {
 #[test]
 fn behind_rule_10_by_train() {
     // Trains 6 and 7 leave station 1, train 5 station 2, all on the one line at 100; it is closed either way.
-    let leaves = |at, train, next| [at, train, 1, 90, 0, 100, 0, 0, next, 1, 12];
+    let leaves = |at, train, next| [at, train, 1, 0, 90, 0, 100, 0, 0, next, 1, 12];
     let visits = [leaves(1, 6, 2), leaves(1, 7, 2), leaves(2, 5, 1)].concat();
     let output = inspect(&file(&join(&[&closed(&[[1, 105, 106]]), &[3], &visits, &[0]])));
     let late = |line: &&str| line.split(' ').nth(1).is_some_and(|rule| rule == "10" || rule == "11");
@@ -78,7 +78,7 @@ fn behind_rule_10_by_train() {
 #[test]
 fn no_wrap_past_the_last_minute() {
     let leaves_at = |departure, closures: &[[u32; 3]]| {
-        let visit = [1, 7, 1, departure, 0, departure, 0, 0, 2, 1, 240];
+        let visit = [1, 7, 1, 0, departure, 0, departure, 0, 0, 2, 1, 240];
         let output = inspect(&file(&join(&[&closed(closures), &[1], &visit, &[0]])));
         lines(&output, "F").contains(&"1 11 7 1")
     };
@@ -90,7 +90,7 @@ fn no_wrap_past_the_last_minute() {
 
 #[test]
 fn edits_meet_closures() {
-    let edits = [1, 1, 7, 1, 100, 102, 3, 2, 7, 1, 114, 115, 1, 1, 12];
+    let edits = [1, 1, 7, 1, 0, 100, 102, 3, 2, 7, 1, 0, 114, 115, 1, 1, 12];
     let run = |closures: &[[u32; 3]], more: &[u32]| {
         let count = 2 + more.len() as u32 / 4;
         shift(&file(&join(&[&closed(closures), &[count], &edits, more])))
@@ -143,7 +143,7 @@ fn closures_of_unlisted_lines() {
     assert_eq!(shift(&file(&closed(&[[2, 5, 6]]))), format!("R 1 {}\n", COUNT + 4));
     // A line's ends come first, and in a timetable file 7 and 12 come last.
     refused(&join(&[LOOSE, &[1, 2, 5, 6]]), 4, 6);
-    let unknown = [1, 3, 7, 1, 90, 0, 90, 0, 0, 0, 0];
+    let unknown = [1, 3, 7, 1, 0, 90, 0, 90, 0, 0, 0, 0];
     assert_eq!(inspect(&file(&join(&[&closed(&[[2, 5, 6]]), &unknown]))), format!("R 4 {}\n", COUNT + 1));
     assert_eq!(inspect(&file(&join(&[&closed(&[[1, 5, 6]]), &unknown]))), format!("R 7 {}\n", COUNT + 5));
 }

@@ -31,8 +31,8 @@ fn refusal(number: u32, place: usize) -> String {
 #[test]
 fn listing() {
     let numbers = [
-        2, 1, 1, 2, 2, 2, 1, 3, 1, 1, 1, 2, 3, 10, 10, 1, 0, 4, 1, 1, 7, 1, 100, 102, 3, 2, 7, 1, 115, 115, 1, 1, 12, 1, 1, 7,
-        1, 100, 102, 9, 1, 1, 5, 2, 7, 9,
+        2, 1, 1, 2, 2, 2, 1, 3, 1, 1, 1, 2, 3, 10, 10, 1, 0, 4, 1, 1, 7, 1, 0, 100, 102, 3, 2, 7, 1, 0, 115, 115, 1, 1, 12, 1,
+        1, 7, 1, 0, 100, 102, 9, 1, 1, 5, 2, 7, 9,
     ];
     let printed = "E 1 0 0\nE 2 0 0\nE 3 8 0\nE 4 0 0\nF 1 4 1 0\nF 1 9 7 0\nT 2 1 2\nA 3 1 2 0\n";
     assert_eq!(shift(&file(&numbers)), printed);
@@ -46,29 +46,31 @@ fn example_b_in_a_file() {
 
 #[test]
 fn example_c_one_track() {
-    let placed = |arrival| edited(&[&[1, 1, 7, 1, 100, 102], &[1, 1, 8, 1, arrival, 104]]);
+    let placed = |arrival| edited(&[&[1, 1, 7, 1, 0, 100, 102], &[1, 1, 8, 1, 0, arrival, 104]]);
     assert_eq!(findings(&placed(102)), ["1 2 7 8"]);
     assert!(findings(&placed(103)).is_empty());
 }
 
 #[test]
 fn example_d_headway() {
-    let left =
-        |departure| timetable(&[&[1, 7, 1, 100, 0, 102, 0, 0, 2, 1, 12], &[1, 8, 2, 100, 0, departure, 0, 0, 2, 1, 12]], &[]);
+    let left = |departure| {
+        timetable(&[&[1, 7, 1, 0, 100, 0, 102, 0, 0, 2, 1, 12], &[1, 8, 2, 0, 100, 0, departure, 0, 0, 2, 1, 12]], &[])
+    };
     assert!(findings(&left(104)).contains(&"1 3 7 8"));
     assert!(!findings(&left(105)).contains(&"1 3 7 8"));
 }
 
 #[test]
 fn example_e_connection() {
-    let connected = |arrival| edited(&[&[1, 1, 7, 1, 100, 110], &[1, 1, 8, 2, arrival, 112], &[9, 1, 1, 5, 2, 7, 8]]);
+    let connected = |arrival| edited(&[&[1, 1, 7, 1, 0, 100, 110], &[1, 1, 8, 2, 0, arrival, 112], &[9, 1, 1, 5, 2, 7, 8]]);
     assert!(findings(&connected(105)).is_empty());
     assert_eq!(findings(&connected(106)), ["1 4 1 0"]);
 }
 
 #[test]
 fn examples_f_and_g_dependency_of_one_train() {
-    let depends = |departure| edited(&[&[1, 1, 7, 1, 100, departure], &[9, 1, 3, 4, 2, 7, 7], &[1, 1, 9, 2, 50, 60], &[11, 9]]);
+    let depends =
+        |departure| edited(&[&[1, 1, 7, 1, 0, 100, departure], &[9, 1, 3, 4, 2, 7, 7], &[1, 1, 9, 2, 0, 50, 60], &[11, 9]]);
     assert_eq!(lines(&depends(104), "T"), ["1 1 0"]);
     assert_eq!(lines(&depends(103), "T"), ["1 1 1"]);
     assert_eq!(findings(&depends(103)), ["1 4 1 0"]);
@@ -84,8 +86,9 @@ fn example_h_relations_become_one() {
 
 #[test]
 fn example_i_capacity() {
-    let followed =
-        |departure| timetable(&[&[1, 7, 1, 90, 0, 100, 0, 0, 2, 1, 12], &[1, 8, 2, 90, 0, departure, 0, 0, 2, 1, 12]], &[]);
+    let followed = |departure| {
+        timetable(&[&[1, 7, 1, 0, 90, 0, 100, 0, 0, 2, 1, 12], &[1, 8, 2, 0, 90, 0, departure, 0, 0, 2, 1, 12]], &[])
+    };
     assert!(findings(&followed(111)).contains(&"1 6 8 0"));
     assert!(!findings(&followed(112)).contains(&"1 6 8 0"));
 }
@@ -96,9 +99,9 @@ fn example_j_opposing_train() {
     let opposed = |arrival| {
         timetable(
             &[
-                &[1, 7, 1, 90, 0, 100, 0, 0, 2, 1, 12],
-                &[1, 8, 2, arrival, 0, 120, 0, 2, 1, 0],
-                &[2, 8, 1, 70, 0, 80, 0, 0, 1, 1, 10],
+                &[1, 7, 1, 0, 90, 0, 100, 0, 0, 2, 1, 12],
+                &[1, 8, 2, 0, arrival, 0, 120, 0, 2, 1, 0],
+                &[2, 8, 1, 0, 70, 0, 80, 0, 0, 1, 1, 10],
             ],
             &[],
         )
@@ -106,8 +109,9 @@ fn example_j_opposing_train() {
     assert!(findings(&opposed(100)).contains(&"1 10 7 8"));
     assert!(!findings(&opposed(99)).contains(&"1 10 7 8"));
     // The far end of the time: a departure at 112 is found, at 113 not.
-    let leaves =
-        |departure| timetable(&[&[1, 7, 1, 90, 0, 100, 0, 0, 2, 1, 12], &[2, 8, 1, 70, 0, departure, 0, 0, 1, 1, 10]], &[]);
+    let leaves = |departure| {
+        timetable(&[&[1, 7, 1, 0, 90, 0, 100, 0, 0, 2, 1, 12], &[2, 8, 1, 0, 70, 0, departure, 0, 0, 1, 1, 10]], &[])
+    };
     assert!(findings(&leaves(112)).contains(&"1 10 7 8"));
     assert!(!findings(&leaves(113)).contains(&"1 10 7 8"));
     // An unanswered link: departure + run is the arrival.
@@ -119,7 +123,7 @@ fn example_j_opposing_train() {
 
 #[test]
 fn example_k_limit() {
-    let edits: Vec<[u32; 6]> = (1..=25).map(|train| [1, 1, train, 1, 0, 0]).collect();
+    let edits: Vec<[u32; 7]> = (1..=25).map(|train| [1, 1, train, 1, 0, 0, 0]).collect();
     let edits: Vec<&[u32]> = edits.iter().map(|edit| &edit[..]).collect();
     let output = edited(&edits);
     assert_eq!(lines(&output, "E")[23], "24 0 0");
@@ -135,7 +139,7 @@ fn example_k_limit() {
 
 #[test]
 fn deletions() {
-    let journey: [&[u32]; 2] = [&[1, 1, 7, 1, 100, 102], &[3, 2, 7, 1, 114, 115, 1, 1, 12]];
+    let journey: [&[u32]; 2] = [&[1, 1, 7, 1, 0, 100, 102], &[3, 2, 7, 1, 0, 114, 115, 1, 1, 12]];
     let then = |edit: &[u32]| {
         let output = edited(&[journey[0], journey[1], edit]);
         (lines(&output, "E")[2].to_owned(), lines(&output, "T")[0].to_owned())
@@ -154,16 +158,16 @@ fn deletions() {
 #[test]
 fn amendments() {
     let output = edited(&[
-        &[1, 1, 7, 1, 100, 110],
+        &[1, 1, 7, 1, 0, 100, 110],
         &[7, 1, 7, 101],
-        &[6, 1, 7, 1, 101, 112], // the same arrival and track
-        &[6, 1, 7, 2, 101, 112], // another track
-        &[6, 1, 7, 1, 102, 112], // another arrival
+        &[6, 1, 7, 1, 0, 101, 112], // the same arrival and track
+        &[6, 1, 7, 2, 0, 101, 112], // another track
+        &[6, 1, 7, 1, 0, 102, 112], // another arrival
         &[8, 1, 7, 111],
-        &[6, 1, 7, 1, 101, 111],
-        &[6, 1, 7, 1, 101, 112], // another departure
-        &[7, 1, 7, 99],          // reported anew
-        &[6, 1, 7, 1, 99, 111],
+        &[6, 1, 7, 1, 0, 101, 111],
+        &[6, 1, 7, 1, 0, 101, 112], // another departure
+        &[7, 1, 7, 99],             // reported anew
+        &[6, 1, 7, 1, 0, 99, 111],
     ]);
     let answers: Vec<&str> = lines(&output, "E").iter().map(|line| line.split(' ').nth(1).unwrap()).collect();
     assert_eq!(answers, ["0", "0", "0", "11", "11", "0", "0", "11", "0", "0"]);
@@ -193,11 +197,11 @@ fn file_refusals() {
 fn timetable_refusals() {
     let empty = timetable(&[], &[]);
     assert_eq!(empty, "T 0 0 0\nW 1\n");
-    let visit = |station, train, track| [station, train, track, 100, 0, 102, 0, 0, 0];
-    assert_eq!(timetable(&[&visit(1, 7, 1), &visit(1, 7, 1)], &[]), refusal(3, BEHIND + 11));
-    assert_eq!(timetable(&[&visit(2, 7, 1), &visit(1, 8, 1)], &[]), refusal(3, BEHIND + 10));
+    let visit = |station, train, track| [station, train, track, 0, 100, 0, 102, 0, 0, 0];
+    assert_eq!(timetable(&[&visit(1, 7, 1), &visit(1, 7, 1)], &[]), refusal(3, BEHIND + 12));
+    assert_eq!(timetable(&[&visit(2, 7, 1), &visit(1, 8, 1)], &[]), refusal(3, BEHIND + 11));
     assert_eq!(timetable(&[&visit(3, 7, 1)], &[]), refusal(7, BEHIND + 1));
-    assert_eq!(timetable(&[&visit(1, 7, 1), &visit(2, 7, 3)], &[]), refusal(7, BEHIND + 10));
+    assert_eq!(timetable(&[&visit(1, 7, 1), &visit(2, 7, 3)], &[]), refusal(7, BEHIND + 11));
     assert_eq!(timetable(&[], &[&[1, 1, 5, 2, 8, 8]]), refusal(3, BEHIND + 7));
     assert_eq!(timetable(&[], &[&[1, 3, 5, 2, 8, 8]]), "F 1 4 1 0\nD 1 1 4 1 0\nT 0 1 1\nW 1\n");
     assert_eq!(timetable(&[], &[&[1, 3, 5, 3, 8, 8, 8]]), refusal(3, BEHIND + 5));
@@ -209,7 +213,8 @@ fn timetable_refusals() {
 
 #[test]
 fn projection_goes_round_a_ring() {
-    let output = timetable(&[&[1, 7, 1, 100, 0, 102, 0, 2, 1, 2, 1, 12], &[2, 7, 1, 114, 0, 114, 0, 1, 1, 1, 1, 12]], &[]);
+    let output =
+        timetable(&[&[1, 7, 1, 0, 100, 0, 102, 0, 2, 1, 2, 1, 12], &[2, 7, 1, 0, 114, 0, 114, 0, 1, 1, 1, 1, 12]], &[]);
     let rows = lines(&output, "J");
     assert_eq!(rows.len(), 32);
     assert_eq!(rows[..4], ["1 7 1 105 106 5", "1 7 2 118 118 4", "1 7 1 130 131 30", "1 7 2 143 143 29"]);
@@ -218,6 +223,6 @@ fn projection_goes_round_a_ring() {
 
 #[test]
 fn projection_keeps_what_occurred() {
-    let output = timetable(&[&[1, 7, 1, 100, 1, 95, 1, 0, 2, 1, 12], &[2, 7, 1, 114, 0, 120, 0, 1, 1, 0]], &[]);
+    let output = timetable(&[&[1, 7, 1, 0, 100, 1, 95, 1, 0, 2, 1, 12], &[2, 7, 1, 0, 114, 0, 120, 0, 1, 1, 0]], &[]);
     assert_eq!(lines(&output, "J"), ["1 7 1 100 95 0", "1 7 2 107 120 -7", "2 7 2 119 120 5"]);
 }

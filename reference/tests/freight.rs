@@ -16,7 +16,7 @@ fn timed(passenger: u32, freight: u32) -> Vec<u32> {
 
 /// Whether rule 5 finds a train that leaves station 1 with this run.
 fn found(times: [u32; 2], train: u32, run: u32) -> bool {
-    let visit = [1, train, 1, 90, 0, 100, 0, 0, 2, 1, run];
+    let visit = [1, train, 1, 0, 90, 0, 100, 0, 0, 2, 1, run];
     let output = inspect(&file(&join(&[&timed(times[0], times[1]), &[1], &visit, &[0]])));
     lines(&output, "F").contains(&format!("1 5 {train} 0").as_str())
 }
@@ -57,7 +57,7 @@ fn a_run_equal_to_the_least_is_no_fault() {
 #[test]
 fn each_train_by_its_own_time() {
     // Both sorts leave both stations, in two areas, with a run of 12.
-    let leaves = |at, train, next| [at, train, 1, 90, 0, 100, 0, 0, next, 1, 12];
+    let leaves = |at, train, next| [at, train, 1, 0, 90, 0, 100, 0, 0, next, 1, 12];
     let visits = [leaves(1, 4999, 2), leaves(1, 5000, 2), leaves(2, 7, 1), leaves(2, 5001, 1)].concat();
     let output = inspect(&file(&join(&[&timed(10, 13), &[4], &visits, &[0]])));
     let fifth = |letter| lines(&output, letter).into_iter().filter(|line| line.contains(" 5 ")).collect::<Vec<_>>();
@@ -69,7 +69,7 @@ fn each_train_by_its_own_time() {
 #[test]
 fn edits_meet_the_time_of_their_train() {
     let run = |train: u32, run: u32| {
-        let edits = [1, 1, train, 1, 100, 102, 3, 2, train, 1, 102 + run, 115, 1, 1, run];
+        let edits = [1, 1, train, 1, 0, 100, 102, 3, 2, train, 1, 0, 102 + run, 115, 1, 1, run];
         shift(&file(&join(&[&timed(10, 13), &[2], &edits])))
     };
     assert_eq!(lines(&run(4999, 10), "F"), [""; 0]);
@@ -114,7 +114,7 @@ fn both_times_are_the_old_number() {
     // So both sorts are judged as one was: 9 is below 10, and 10 is not.
     for train in [4999, 5000] {
         let prints = |run| {
-            let visit = [1, train, 1, 90, 0, 100, 0, 0, 2, 1, run];
+            let visit = [1, train, 1, 0, 90, 0, 100, 0, 0, 2, 1, run];
             let behind = file(&join(&[&[1], &visit, &[0]]));
             inspect(&[turned(&old(&[])).unwrap(), behind].concat())
         };

@@ -27,7 +27,7 @@ fn listing() -> Network {
 }
 
 fn edit(numbers: &[u32]) -> Edit {
-    edits::read(&mut Reader::new(&file(&join(&[&[1], numbers])))).expect("an edit").remove(0)
+    edits::read(&mut Reader::new(&file(&join(&[&[1], numbers]))), edits::Form::Newest).expect("an edit").remove(0)
 }
 
 fn after(network: &Network, edits: &[&[u32]]) -> Timetable {
@@ -59,20 +59,20 @@ fn other(network: &Network, edits: &[&[u32]], list: &[Entry]) -> Vec<Entry> {
 }
 
 /// Train 7 leaves station 1 at 102 on line 1 with a run of 12, and is at station 2 at 114.
-const LEAVING: [&[u32]; 2] = [&[1, 2, 7, 1, 114, 114], &[2, 1, 7, 1, 102, 102, 2, 1, 12]];
+const LEAVING: [&[u32]; 2] = [&[1, 2, 7, 1, 0, 114, 114], &[2, 1, 7, 1, 0, 102, 102, 2, 1, 12]];
 
 #[test]
 fn a_finding_arises_at_the_neighbour_and_is_cleared_there() {
-    let late: &[u32] = &[6, 2, 7, 1, 120, 120];
+    let late: &[u32] = &[6, 2, 7, 1, 0, 120, 120];
     let [before, later] = rechecked(&listing(), &LEAVING, late);
     assert_eq!((before, later), (vec![], vec![[1, 9, 7, 0]]));
-    let [before, later] = rechecked(&listing(), &[LEAVING[0], LEAVING[1], late], &[6, 2, 7, 1, 114, 114]);
+    let [before, later] = rechecked(&listing(), &[LEAVING[0], LEAVING[1], late], &[6, 2, 7, 1, 0, 114, 114]);
     assert_eq!((before, later), (vec![[1, 9, 7, 0]], vec![]));
 }
 
 #[test]
 fn both_stations_of_an_edit_are_named() {
-    let edits: [&[u32]; 3] = [&[1, 1, 7, 1, 100, 102], &[9, 1, 1, 5, 2, 7, 9], &[3, 2, 7, 1, 115, 115, 1, 1, 12]];
+    let edits: [&[u32]; 3] = [&[1, 1, 7, 1, 0, 100, 102], &[9, 1, 1, 5, 2, 7, 9], &[3, 2, 7, 1, 0, 115, 115, 1, 1, 12]];
     let [before, later] = rechecked(&listing(), &edits[..2], edits[2]);
     assert_eq!((before, later), (vec![[1, 4, 1, 0]], vec![[1, 4, 1, 0], [1, 9, 7, 0]]));
     let list = [[1, 2, 7, 8], [2, 1, 7, 0]];
@@ -82,7 +82,7 @@ fn both_stations_of_an_edit_are_named() {
 #[test]
 fn rule_11_at_a_joined_station_is_kept_and_not_redone() {
     let closed = network(&join(&[NETWORK, &[1, 1, 90, 105]]));
-    let late: &[u32] = &[6, 2, 7, 1, 120, 120];
+    let late: &[u32] = &[6, 2, 7, 1, 0, 120, 120];
     let [before, later] = rechecked(&closed, &LEAVING, late);
     assert_eq!((before, later), (vec![[1, 11, 7, 1]], vec![[1, 9, 7, 0], [1, 11, 7, 1]]));
     assert_eq!(other(&closed, &[LEAVING[0], LEAVING[1], late], &[]), [[1, 9, 7, 0]]);
@@ -103,15 +103,15 @@ fn entries_elsewhere_stay() {
         [300, 10, 1, 1],
     ];
     let kept = [list[0], list[3], list[6], list[7], list[8]];
-    assert_eq!(other(&branch, &[&[1, 1, 7, 1, 100, 102]], &list), kept);
+    assert_eq!(other(&branch, &[&[1, 1, 7, 1, 0, 100, 102]], &list), kept);
     // Lines join their ends whichever way they run.
     let list = [[1, 7, 5, 0], [3, 8, 5, 0], [3, 11, 5, 1]];
-    assert_eq!(other(&branch, &[&[1, 2, 7, 1, 100, 102]], &list), [[3, 11, 5, 1]]);
+    assert_eq!(other(&branch, &[&[1, 2, 7, 1, 0, 100, 102]], &list), [[3, 11, 5, 1]]);
 }
 
 #[test]
 fn deleting_a_train_redoes_all() {
-    let edits: [&[u32]; 3] = [&[1, 2, 7, 1, 111, 111], &[2, 1, 7, 1, 102, 102, 2, 1, 9], &[11, 8]];
+    let edits: [&[u32]; 3] = [&[1, 2, 7, 1, 0, 111, 111], &[2, 1, 7, 1, 0, 102, 102, 2, 1, 9], &[11, 8]];
     assert_eq!(other(&listing(), &edits, &[[2, 3, 8, 9], [300, 1, 1, 0]]), [[1, 5, 7, 0]]);
     assert_eq!(edit(&[11, 8]).stations(), None);
 }
@@ -119,7 +119,7 @@ fn deleting_a_train_redoes_all() {
 #[test]
 fn an_area_without_a_named_station() {
     let branch = network(BRANCH);
-    let edits: [&[u32]; 3] = [&[1, 2, 9, 1, 100, 100], &[3, 3, 9, 1, 120, 120, 2, 4, 12], &[1, 1, 7, 1, 102, 100]];
+    let edits: [&[u32]; 3] = [&[1, 2, 9, 1, 0, 100, 100], &[3, 3, 9, 1, 0, 120, 120, 2, 4, 12], &[1, 1, 7, 1, 0, 102, 100]];
     let own = |count| {
         let mut timetable = after(&branch, &edits[..count]);
         timetable.visits.retain(|(station, _), _| *station != Station(1));

@@ -7,7 +7,8 @@ use reference::programs::{inspect, shift};
 
 /// Two trains at station 1: track, arrival and its status, departure and its status.
 fn listed(seven: [u32; 5], eight: [u32; 5]) -> String {
-    let visits = join(&[&[1, 7], &seven, &[0, 0], &[1, 8], &eight, &[0, 0]]);
+    let visit = |train, at: [u32; 5]| join(&[&[1, train, at[0], 0], &at[1..], &[0, 0]]);
+    let visits = join(&[&visit(7, seven), &visit(8, eight)]);
     inspect(&file(&join(&[NETWORK, &[0], &[2], &visits, &[0]])))
 }
 
@@ -57,7 +58,7 @@ fn times_are_taken_to_the_letter() {
 
 #[test]
 fn reports_make_a_train_stand_and_leave() {
-    let placed = [1, 1, 7, 1, 100, 102, 1, 1, 8, 1, 102, 104];
+    let placed = [1, 1, 7, 1, 0, 100, 102, 1, 1, 8, 1, 0, 102, 104];
     let prints = |reports: &[u32], count: u32| shift(&file(&join(&[NETWORK, &[0, 2 + count], &placed, reports])));
     assert_eq!(lines(&prints(&[], 0), "F"), ["1 2 7 8"]);
     assert_eq!(lines(&prints(&[7, 1, 7, 100], 1), "F"), ["1 2 7 8"]);

@@ -3,9 +3,9 @@
 #include <stdio.h>
 
 static const uint8_t network[] = {2, 1, 1, 2, 2, 2, 1, 3, 1, 1, 1, 2, 3, 10, 10, 1, 0};
-static const uint8_t edits[] = {4, 1, 1, 7, 1,   100, 102, 3, 2, 7, 1, 115, 115, 1, 1,
-                                12, 1, 1, 7, 1, 100, 102, 9, 1, 1, 5, 2,   7,   9};
-static const size_t starts[] = {1, 7, 16, 22, 29};
+static const uint8_t edits[] = {4,  1, 1, 7, 1, 0, 100, 102, 3, 2, 7, 1, 0, 115, 115, 1,
+                                1, 12, 1, 1, 7, 1, 0,   100, 102, 9, 1, 1, 5, 2, 7, 9};
+static const size_t starts[] = {1, 8, 18, 25, 32};
 
 static uint8_t division[STRAKEWHIP_DIVISION];
 static uint8_t sheet[STRAKEWHIP_SHEET];

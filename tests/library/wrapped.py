@@ -7,8 +7,14 @@ sys.path.insert(0, os.path.join(os.path.dirname(os.path.abspath(__file__)), ".."
 import strakewhip as library
 
 NETWORK = bytes([2, 1, 1, 2, 2, 2, 1, 3, 1, 1, 1, 2, 3, 10, 10, 1, 0])
-EDITS = [bytes([1, 1, 7, 1, 100, 102]), bytes([1, 2, 9, 1, 110, 111]), bytes([3, 2, 7, 1, 115, 115, 1, 1, 12]),
+EDITS = [bytes([1, 1, 7, 1, 0, 100, 102]), bytes([1, 2, 9, 1, 0, 110, 111]), bytes([3, 2, 7, 1, 0, 115, 115, 1, 1, 12]),
          bytes([9, 1, 1, 5, 2, 7, 9]), bytes([11, 9])]
+# The same in the earlier form, without marks.
+EARLY = [edit[:4] + edit[5:] if edit[0] in (1, 3) else edit for edit in EDITS]
+# Three stations in a row: train 7 is at the middle one for a minute, where train 8 stands; a connection of the two.
+ROW = bytes([3, 1, 1, 2, 2, 2, 2, 3, 2, 2, 3, 2, 1, 1, 2, 3, 10, 10, 1, 2, 2, 3, 3, 10, 10, 1, 0])
+JOURNEY = [bytes([1, 1, 7, 1, 0, 100, 102]), bytes([3, 2, 7, 1, 1, 114, 114, 1, 1, 12]),
+           bytes([3, 3, 7, 1, 0, 126, 127, 2, 2, 12]), bytes([1, 2, 8, 2, 0, 110, 120]), bytes([9, 2, 1, 0, 2, 7, 8])]
 
 
 def refused(number, file, place, call, *arguments):
@@ -29,6 +35,8 @@ def main():
     assert removed == [library.edit_sheet(NETWORK, edit, sheet) for edit in EDITS] == [0, 0, 0, 0, 1]
     answers = library.run(NETWORK, bytes([len(EDITS)]) + b"".join(EDITS), later)
     assert answers == [(0, count) for count in removed] and later == division
+    later = bytearray(library.DIVISION)
+    assert library.run_early(NETWORK, bytes([len(EARLY)]) + b"".join(EARLY), later) == answers and later == division
     tally = [0, 0, 0, 0]
     for edit, (refusal, count) in zip(EDITS, answers):
         tally = library.raise_tally(edit, refusal, count, tally)
@@ -47,6 +55,26 @@ def main():
     file, back = library.write(NETWORK, sheet), bytearray(library.SHEET)
     assert library.read(NETWORK, file, back) == len(file) and back == sheet
     assert library.project(NETWORK, sheet, 1, 7, 104) == [(1, 104, 105, 4), (2, 117, 118, 2)]
+
+    # The same timetable in the earlier form: two visits, of train 7, without marks.
+    early = file[:4] + file[5:16] + file[17:]
+    assert len(file) == len(early) + 2 and file[4] == file[16] == 0, list(file)
+    back = bytearray(library.SHEET)
+    assert library.read_early(NETWORK, early, back) == len(early) and back == sheet
+    assert library.write(NETWORK, back) == file
+
+    # A request stop: the connection there is met, and a projection waits for it; an early amendment clears its mark.
+    row = bytearray(library.SHEET)
+    assert [library.edit_sheet(ROW, edit, row) for edit in JOURNEY] == [0] * 5
+    assert library.findings(ROW, row) == [] and row[512 + 32 + 14] == 1
+    assert library.project(ROW, row, 2, 7, 105) == [(2, 105, 114, -9), (3, 126, 127, 0)]
+    assert library.project(ROW, row, 2, 7, 118) == [(2, 118, 118, 4), (3, 130, 131, 4)]
+    rooms = bytearray(library.DIVISION)
+    library.divide(ROW, row, rooms)
+    assert library.run_early(ROW, bytes([1, 6, 2, 7, 1, 114, 114]), rooms) == [(0, 0)]
+    library.merge(ROW, rooms, row)
+    assert library.findings(ROW, row) == [(2, 4, 1, 0)] and row[512 + 32 + 14] == 0
+    assert library.project(ROW, row, 2, 7, 105) == [(2, 105, 105, -9), (3, 117, 127, -9)]
 
     # Line 1 is closed up to train 7's departure, and a minute longer: a finding more, in the first area's list.
     closed = [NETWORK[:-1] + bytes([1, 1, 90, end]) for end in (102, 103)]
@@ -93,6 +121,11 @@ def main():
     refused(14, 1, 16, library.turn, library.ONE_TIME, old[:-1] + bytes([1, 1, 90, 90]))
     refused(3, 1, 15, library.network, old)
     refused(3, 2, 0, library.names, NETWORK, bytes([12]))
+    refused(3, 2, 4, library.names, NETWORK, bytes([1, 1, 7, 1, 2, 100, 102]))
+    refused(3, 2, 5, library.run, NETWORK, bytes([1]) + EARLY[0], division)
+    refused(1, 2, 7, library.run_early, NETWORK, bytes([1]) + EDITS[0], division)
+    refused(3, 2, 4, library.read, NETWORK, early, back)
+    refused(3, 2, 5, library.read_early, NETWORK, file, back)
     refused(1, 2, 0, library.edit, NETWORK, b"", division)
     refused(5, 0, 0, library.edit, NETWORK, EDITS[0], bytearray())
     refused(6, 0, 0, library.findings, NETWORK, b"\1" * library.SHEET)

@@ -4,8 +4,12 @@ use strakewhip::{DIVISION, MOST_ANSWERS, MOST_FINDINGS, SHEET};
 
 /// The bytes of numbers below 128.
 const NETWORK: [u8; 17] = [2, 1, 1, 2, 2, 2, 1, 3, 1, 1, 1, 2, 3, 10, 10, 1, 0];
-const EDITS: [&[u8]; 4] =
-    [&[1, 1, 7, 1, 100, 102], &[3, 2, 7, 1, 115, 115, 1, 1, 12], &[1, 1, 7, 1, 100, 102], &[9, 1, 1, 5, 2, 7, 9]];
+const EDITS: [&[u8]; 4] = [
+    &[1, 1, 7, 1, 0, 100, 102],
+    &[3, 2, 7, 1, 0, 115, 115, 1, 1, 12],
+    &[1, 1, 7, 1, 0, 100, 102],
+    &[9, 1, 1, 5, 2, 7, 9],
+];
 
 fn main() -> Result<(), strakewhip::Error> {
     let mut file = vec![EDITS.len() as u8];

@@ -9,17 +9,17 @@ fn main() -> Result<(), Error> {
     let mut division = vec![0; DIVISION];
 
     // Train 7 waits at station 1; only area 1 is to be locked for it.
-    let depart: &[u8] = &[1, 1, 7, 1, 100, 102];
+    let depart: &[u8] = &[1, 1, 7, 1, 0, 100, 102];
     println!("the first room locks {:?}", strakewhip::names(&NETWORK, depart)?.iter().collect::<Vec<_>>());
     strakewhip::edit(&NETWORK, depart, &mut division)?;
 
     // Train 9 comes to station 2, in the other room's sheet.
-    let arrive: &[u8] = &[1, 2, 9, 1, 110, 111];
+    let arrive: &[u8] = &[1, 2, 9, 1, 0, 110, 111];
     println!("the second room locks {:?}", strakewhip::names(&NETWORK, arrive)?.iter().collect::<Vec<_>>());
     strakewhip::edit(&NETWORK, arrive, &mut division)?;
 
     // Train 7 goes on to station 2: an edit across both rooms.
-    let across: &[u8] = &[3, 2, 7, 1, 115, 115, 1, 1, 12];
+    let across: &[u8] = &[3, 2, 7, 1, 0, 115, 115, 1, 1, 12];
     println!("together they lock {:?}", strakewhip::names(&NETWORK, across)?.iter().collect::<Vec<_>>());
     strakewhip::edit(&NETWORK, across, &mut division)?;
     match strakewhip::edit(&NETWORK, across, &mut division) {

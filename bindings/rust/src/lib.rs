@@ -2,10 +2,12 @@
 //!
 //! A network, an edit, a list of edits and a timetable are the bytes of their files. In a network's, each line has two
 //! least running times, that of passenger trains and then that of freight trains, numbered 5000 and up; it ends with
-//! the count of its closures and the closures. A sheet is [`SHEET`] bytes, a division [`DIVISION`], six sheets by area;
-//! all zeros are an empty one. Every function answers on every input. A refusal is an [`Error`], and leaves every lent
-//! element as it was; each function names its refusals in the order in which they are tested. "The network" among them
-//! stands for 1, 2 or 3, then 14, then 4 of the network's file, with its place.
+//! the count of its closures and the closures. Behind a track stands the stop mark of its edit or visit, 1 for a
+//! request stop, else 0; files of edits and of timetables without marks, the earlier form, have functions of their own.
+//! A sheet is [`SHEET`] bytes, a division [`DIVISION`], six sheets by area; all zeros are an empty one. Every function
+//! answers on every input. A refusal is an [`Error`], and leaves every lent element as it was; each function names its
+//! refusals in the order in which they are tested. "The network" among them stands for 1, 2 or 3, then 14, then 4 of the
+//! network's file, with its place.
 
 pub mod raw;
 mod refusal;
@@ -25,7 +27,7 @@ pub const MOST_ROWS: usize = 64;
 /// Room for the answers to any list of edits, two bytes each.
 pub const MOST_ANSWERS: usize = 2000;
 /// Room for any timetable's file.
-pub const MOST_TIMETABLE: usize = 7395;
+pub const MOST_TIMETABLE: usize = 7779;
 /// Room for any network's file.
 pub const MOST_NETWORK: usize = 500;
 
@@ -140,6 +142,24 @@ pub fn edit_sheet(network: &[u8], edit: &[u8], sheet: &mut [u8]) -> Result<u8, E
 pub fn run(network: &[u8], edits: &[u8], division: &mut [u8], answers: &mut [u8]) -> Result<usize, Error> {
     let reply = unsafe {
         raw::strakewhip_run(
+            network.as_ptr(),
+            network.len(),
+            edits.as_ptr(),
+            edits.len(),
+            division.as_mut_ptr(),
+            division.len(),
+            answers.as_mut_ptr(),
+            answers.len(),
+        )
+    };
+    told(reply).map(|reply| reply.length)
+}
+
+/// The edits of a file in the earlier form, which have no mark and carry 0. Refuses as [`run`] does, with the place in
+/// the earlier file.
+pub fn run_early(network: &[u8], edits: &[u8], division: &mut [u8], answers: &mut [u8]) -> Result<usize, Error> {
+    let reply = unsafe {
+        raw::strakewhip_run_early(
             network.as_ptr(),
             network.len(),
             edits.as_ptr(),
@@ -309,7 +329,24 @@ pub fn read(network: &[u8], timetable: &[u8], sheet: &mut [u8]) -> Result<usize,
     told(reply).map(|reply| reply.length)
 }
 
-/// Writes a sheet as a timetable's file, and answers how many bytes it has. Refuses: 5; the network; 6; 13.
+/// Reads a timetable's file in the earlier form, whose visits have no mark and get 0. Refuses as [`read`] does, with
+/// the place in the earlier file.
+pub fn read_early(network: &[u8], timetable: &[u8], sheet: &mut [u8]) -> Result<usize, Error> {
+    let reply = unsafe {
+        raw::strakewhip_read_early(
+            network.as_ptr(),
+            network.len(),
+            timetable.as_ptr(),
+            timetable.len(),
+            sheet.as_mut_ptr(),
+            sheet.len(),
+        )
+    };
+    told(reply).map(|reply| reply.length)
+}
+
+/// Writes a sheet as a timetable's file, in the newest form, and answers how many bytes it has. Refuses: 5; the network;
+/// 6; 13.
 pub fn write(network: &[u8], sheet: &[u8], out: &mut [u8]) -> Result<usize, Error> {
     let reply = unsafe {
         raw::strakewhip_write(network.as_ptr(), network.len(), sheet.as_ptr(), sheet.len(), out.as_mut_ptr(), out.len())

@@ -41,6 +41,16 @@ extern "C" {
         answers: *mut u8,
         answers_length: usize,
     ) -> Reply;
+    pub fn strakewhip_run_early(
+        network: *const u8,
+        network_length: usize,
+        edits: *const u8,
+        edits_length: usize,
+        division: *mut u8,
+        division_length: usize,
+        answers: *mut u8,
+        answers_length: usize,
+    ) -> Reply;
     pub fn strakewhip_divide(
         network: *const u8,
         network_length: usize,
@@ -112,6 +122,14 @@ extern "C" {
         out_length: usize,
     ) -> Reply;
     pub fn strakewhip_read(
+        network: *const u8,
+        network_length: usize,
+        timetable: *const u8,
+        timetable_length: usize,
+        sheet: *mut u8,
+        sheet_length: usize,
+    ) -> Reply;
+    pub fn strakewhip_read_early(
         network: *const u8,
         network_length: usize,
         timetable: *const u8,

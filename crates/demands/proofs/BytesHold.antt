@@ -12,7 +12,8 @@ use borrow.Author.Tests.{eq-eqb, le-leb}
 use Rattle.base.specs.Runs.{run, answers}
 use Rattle.base.proofs.Tests.{T-true}
 use Rattle.railway.specs.Ranges.{area-ok}
-use Rattle.timetable.specs.EditsFile.{read-edits}
+use Rattle.timetable.specs.declared.FileForm.{FileForm}
+use Rattle.timetable.specs.EditsFile.{read-edits-as}
 use Rattle.timetable.specs.Formats.{accepted, Placed}
 use Rattle.timetable.specs.Machine.{after}
 use Rattle.timetable.specs.Outputs.{written, output, output-after}
@@ -67,11 +68,11 @@ demand-from-division n good division size fine es ps R = (
 
 -- the list call
 
-accepted-ran : (n : Network) (division : List ℕ) → length division ≡ 49152 → (file : List ℕ) (x : Placed (List Edit)) (next : ℕ) → read-edits file ≡ accepted x next
+accepted-ran : (form : FileForm) (n : Network) (division : List ℕ) → length division ≡ 49152 → (file : List ℕ) (x : Placed (List Edit)) (next : ℕ) → read-edits-as form file ≡ accepted x next
     → (out : List ℕ) → 2 * length (x .entry) ≤ length out
-    → Ran n file division out (x .entry) (run (division-after n) (x .entry) division) (answers (division-after n) (division-answer n) (x .entry) division)
+    → Ran form n file division out (x .entry) (run (division-after n) (x .entry) division) (answers (division-after n) (division-answer n) (x .entry) division)
 unfolding run-answer run-division run-answers told-run division-left answers-left answers-of division-of output output-after
-accepted-ran n division size file x next e out room =
+accepted-ran form n division size file x next e out room =
     let fits : eqb (length division) 49152 ≡ true = eq-eqb (length division) 49152 size in
     let many : length (answers-of n (x .entry) division) ≡ 2 * length (x .entry) = answers-length n (x .entry) division in
     let fit : leb (length (answers-of n (x .entry) division)) (length out) ≡ true = le-leb (length (answers-of n (x .entry) division)) (length out) (omega (arith, many, room)) in
@@ -82,11 +83,11 @@ accepted-ran n division size file x next e out room =
     }
 
 pub list-is-single-calls : ListIsSingleCalls
-list-is-single-calls n division size file es (x, next, e, held) out room =
-    subst (λ (fs : List Edit). Ran n file division out fs (run (division-after n) fs division) (answers (division-after n) (division-answer n) fs division)) held
-    (accepted-ran n division size file x next e out (rw held room))
+list-is-single-calls form n division size file es (x, next, e, held) out room =
+    subst (λ (fs : List Edit). Ran form n file division out fs (run (division-after n) fs division) (answers (division-after n) (division-answer n) fs division)) held
+    (accepted-ran form n division size file x next e out (rw held room))
 
 pub demand-of-list-call : DemandOfListCall
-demand-of-list-call n good sheet size fine es ps R file held out room =
+demand-of-list-call form n good sheet size fine es ps R file held out room =
     let F : FromBytes n sheet es ps = demand-from-bytes n good sheet size fine es ps R in
-    rw (← F .same-division, ← F .same-answers) (list-is-single-calls n (divided n sheet) (divided-size n sheet size) file (along es ps) held out room)
+    rw (← F .same-division, ← F .same-answers) (list-is-single-calls form n (divided n sheet) (divided-size n sheet size) file (along es ps) held out room)

@@ -11,3 +11,4 @@ pub mod Balances
 pub mod FilesHold
 pub mod TurningHolds
 pub mod RechecksHold
+pub mod ReleasesHold

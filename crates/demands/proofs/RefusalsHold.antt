@@ -14,7 +14,9 @@ use Rattle.base.proofs.Tests.{by-value, true-T, both, or-l, or-r}
 use Rattle.numbers.specs.Numbers.{width, with-number}
 use Rattle.network.specs.Networks.{network-refusal, listed}
 use Rattle.timetable.specs.Count.{raise-refusal, raise}
-use Rattle.timetable.specs.EditsFile.{edit-numbers, read-edits}
+use Rattle.timetable.specs.declared.FileForm.{FileForm}
+use Rattle.timetable.specs.FileForms.{newest-form}
+use Rattle.timetable.specs.EditsFile.{edit-numbers, read-edits, read-edits-as}
 use Rattle.timetable.specs.Formats as formats
 use Rattle.timetable.specs.Formats.{Outcome, accepted, refused, Placed, bytes-of}
 use Rattle.timetable.specs.InspectFile.{Inspection}
@@ -150,11 +152,11 @@ list-refused n division out (accepted x next) z = by-value (leb (length (answers
     (λ c. (rw c, rw c))
 list-refused n division out (refused k p) z = (refl, refl)
 
-edits-refused : (n : Network) (file division out : List ℕ) → ¬ (run-answer n file division out .number ≡ 0)
-    → (run-division n file division out ≡ division) × (run-answers n file division out ≡ out)
+edits-refused : (form : FileForm) (n : Network) (file division out : List ℕ) → ¬ (run-answer form n file division out .number ≡ 0)
+    → (run-division form n file division out ≡ division) × (run-answers form n file division out ≡ out)
 unfolding run-answer run-division run-answers
-edits-refused n file division out z = by-value (eqb (length division) 49152)
-    (λ b. rw b (list-refused n division out (read-edits file) (rw b at z)))
+edits-refused form n file division out z = by-value (eqb (length division) 49152)
+    (λ b. rw b (list-refused n division out (read-edits-as form file) (rw b at z)))
     (λ b. rw b (refl, refl))
 
 pub refusals-leave-all : RefusalsLeaveAll
@@ -170,12 +172,12 @@ refusals-leave-all = record {
   pair-findings = λ n first second a b out. output-refused (two-list-refusal n first second a b) (two-list n first second a b) out;
   sheet-recheck = λ n e sheet list out. output-refused (recheck-refusal n e sheet list) (recheck-list n e sheet list) out;
   area-recheck = λ n e a sheet list out. output-refused (area-recheck-refusal n e a sheet list) (area-recheck-list n e a sheet list) out;
-  timetable-reading = λ n file sheet. read-refused (read-outcome n file sheet) sheet;
+  timetable-reading = λ form n file sheet. read-refused (read-outcome form n file sheet) sheet;
   inspect-reading = λ file sheet. inspect-refused (inspect-outcome file sheet) sheet;
   timetable-writing = λ n sheet buffer. output-refused (whole-refusal n sheet) (timetable-bytes n sheet) buffer;
   network-writing = λ n buffer. output-refused (network-refusal n) (bytes-of (network-numbers n)) buffer;
   network-turning = λ form file buffer. turned-refused (read-network-as form file) buffer;
-  edit-writing = λ e buffer. output-refused (edit-refusal e) (bytes-of (edit-numbers e)) buffer;
+  edit-writing = λ e buffer. output-refused (edit-refusal e) (bytes-of (edit-numbers newest-form e)) buffer;
   edits-writing = λ file buffer. output-refused (formats.number (read-edits file)) (edits-bytes file) buffer;
   number-writing = λ k buffer h. rw (lt-leb (width k) (length buffer) h);
   edits-run = edits-refused;

@@ -10,3 +10,4 @@ pub mod Balance
 pub mod Files
 pub mod Turning
 pub mod Rechecks
+pub mod Releases

@@ -15,6 +15,7 @@ use Rattle.numbers.specs.Numbers.{width, with-number}
 use Rattle.timetable.specs.Count.{raise-refusal, raise}
 use Rattle.timetable.specs.Formats as formats
 use Rattle.timetable.specs.declared.NetworkForm.{NetworkForm}
+use Rattle.timetable.specs.declared.FileForm.{FileForm}
 use Rattle.timetable.specs.Outputs.{output, output-after}
 use Rattle.timetable.specs.Turning.{turn-reply, turn-after}
 use Rattle.listings.specs.Shift.{refusal-text, shift-text}
@@ -66,7 +67,7 @@ pub record RefusalsLeaveAll : Type 0 where
       → ¬ (output (area-recheck-refusal n e a sheet list) (area-recheck-list n e a sheet list) out .number ≡ 0)
       → output-after (area-recheck-refusal n e a sheet list) (area-recheck-list n e a sheet list) out ≡ out
   -- files, 13 too
-  pub timetable-reading : (n : Network) (file sheet : List ℕ) → ¬ (formats.number (read-answer n file sheet) ≡ 0) → read-after n file sheet ≡ sheet
+  pub timetable-reading : (form : FileForm) (n : Network) (file sheet : List ℕ) → ¬ (formats.number (read-answer form n file sheet) ≡ 0) → read-after form n file sheet ≡ sheet
   pub inspect-reading : (file sheet : List ℕ) → ¬ (inspect-answer file sheet .refusal ≡ 0) → inspect-after file sheet ≡ sheet
   pub timetable-writing : (n : Network) (sheet buffer : List ℕ) → ¬ (write-timetable n sheet buffer .number ≡ 0) → timetable-written n sheet buffer ≡ buffer
   pub network-writing : (n : Network) (buffer : List ℕ) → ¬ (write-network n buffer .number ≡ 0) → network-written n buffer ≡ buffer
@@ -76,8 +77,8 @@ pub record RefusalsLeaveAll : Type 0 where
   -- a number, which answers how many bytes it takes
   pub number-writing : (k : ℕ) (buffer : List ℕ) → length buffer < width k → with-number k buffer ≡ buffer
   -- a list of edits from a file: the division and the buffer for the answers
-  pub edits-run : (n : Network) (file division out : List ℕ) → ¬ (run-answer n file division out .number ≡ 0)
-      → (run-division n file division out ≡ division) × (run-answers n file division out ≡ out)
+  pub edits-run : (form : FileForm) (n : Network) (file division out : List ℕ) → ¬ (run-answer form n file division out .number ≡ 0)
+      → (run-division form n file division out ≡ division) × (run-answers form n file division out ≡ out)
   -- a projection, and the tally
   pub projecting : (n : Network) (s : Station) (t : Train) (a : Minute) (sheet : List ℕ) (buffer : List ℤ) → ¬ (project-answer n s t a sheet buffer .number ≡ 0)
       → project-after n s t a sheet buffer ≡ buffer

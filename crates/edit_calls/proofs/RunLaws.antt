@@ -8,8 +8,9 @@ use native.Mathlib.Omega.{arith}
 use lib.ListN.{length}
 use borrow.Author.Tests.{eq-eqb, ne-eqb, le-leb, lt-leb}
 use Rattle.base.specs.Runs.{answers}
+use Rattle.timetable.specs.declared.FileForm.{FileForm}
 use Rattle.timetable.specs.Formats.{Outcome, accepted, refused, field-at, behind, read, read-file, Placed, placed, number, place-of, value-or}
-use Rattle.timetable.specs.EditsFile.{edit-entry, edits-on, edits-format, read-edits}
+use Rattle.timetable.specs.EditsFile.{edit-entry, edits-on, edits-format, read-edits-as}
 use Rattle.timetable.specs.Outputs as outputs
 use Rattle.timetable.specs.Outputs.{put}
 use Rattle.timetable.proofs.BuffersFilled.{too-short, fits-in}
@@ -30,31 +31,31 @@ answers-length n [] division = omega arith
 answers-length n (e ∷ es) division = let h = answers-length n es (division-after n e division) in omega (arith, h)
 
 -- what an accepted file holds
-pub record Held (file : List ℕ) (r : EditsRead) : Type 0 where
+pub record Held (form : FileForm) (file : List ℕ) (r : EditsRead) : Type 0 where
   pub edits : Placed (List Edit)
   pub next : ℕ
-  pub outcome : read-edits file ≡ accepted edits next
+  pub outcome : read-edits-as form file ≡ accepted edits next
   pub few : r .count ≤ 1000
   pub many : length (edits .entry) ≡ r .count
-  pub readable : can-be-read (r .count) file (r .first) ≡ true
-  pub are : edits-at (r .count) file (r .first) ≡ edits .entry
+  pub readable : can-be-read form (r .count) file (r .first) ≡ true
+  pub are : edits-at form (r .count) file (r .first) ≡ edits .entry
 
-pub taken-there : (file : List ℕ) (k p j at : ℕ) (es : List Edit) (u : ℕ) → j ≡ k → at ≡ p → read (edits-on k) file p ≡ accepted es u
-    → (can-be-read j file at ≡ true) × (edits-at j file at ≡ es)
+pub taken-there : (form : FileForm) (file : List ℕ) (k p j at : ℕ) (es : List Edit) (u : ℕ) → j ≡ k → at ≡ p → read (edits-on form k) file p ≡ accepted es u
+    → (can-be-read form j file at ≡ true) × (edits-at form j file at ≡ es)
 unfolding can-be-read edits-at is-accepted taken
-taken-there file k p j at es u c s h = (rw (c, s, h), rw (c, s, h))
+taken-there form file k p j at es u c s h = (rw (c, s, h), rw (c, s, h))
 
-held-by : (file : List ℕ) (r : EditsRead) (o : Outcome (Placed (List Edit))) → read-edits file ≡ o → r ≡ edits-answer o → r .refusal ≡ 0 → Held file r
-unfolding edits-answer number place-of value-or read-edits read-file edits-format edits-on read behind
-held-by file r (refused k p) e q z = absurd (edits-told file k p e (rw q at z))
-held-by file r (accepted x next) e q z =
-    let (k, p, f, g) = behind-taken (field-at 0 1000 file 0) (λ k p. read (placed (edits-on k)) file p) x next (ended-taken file (read edits-format file 0) x next e) in
-    let (es, u, h, v) = behind-taken (read (edits-on k) file p) (λ es u. accepted (record { place = p; entry = es }) u) x next (sym (placed-read (edits-on k) file p) ∙ g) in
+held-by : (form : FileForm) (file : List ℕ) (r : EditsRead) (o : Outcome (Placed (List Edit))) → read-edits-as form file ≡ o → r ≡ edits-answer o → r .refusal ≡ 0 → Held form file r
+unfolding edits-answer number place-of value-or read-edits-as read-file edits-format edits-on read behind
+held-by form file r (refused k p) e q z = absurd (edits-told form file k p e (rw q at z))
+held-by form file r (accepted x next) e q z =
+    let (k, p, f, g) = behind-taken (field-at 0 1000 file 0) (λ k p. read (placed (edits-on form k)) file p) x next (ended-taken file (read (edits-format form) file 0) x next e) in
+    let (es, u, h, v) = behind-taken (read (edits-on form k) file p) (λ es u. accepted (record { place = p; entry = es }) u) x next (sym (placed-read (edits-on form k) file p) ∙ g) in
     let same : x ≡ record { place = p; entry = es } = cc in
-    let count : length es ≡ k = entries-many (λ floor. edit-entry) (λ e. []) k [] file p es u h in
+    let count : length es ≡ k = entries-many (λ floor. edit-entry form) (λ e. []) k [] file p es u h in
     let c : r .count ≡ k = rw q (ap (λ (y : Placed (List Edit)). length (y .entry)) same ∙ count) in
     let s : r .first ≡ p = rw q (ap (λ (y : Placed (List Edit)). y .place) same) in
-    let there = taken-there file k p (r .count) (r .first) es u c s h in
+    let there = taken-there form file k p (r .count) (r .first) es u c s h in
     record {
       edits = x;
       next = next;
@@ -65,29 +66,29 @@ held-by file r (accepted x next) e q z =
       are = there .1 ∙ sym (ap (λ (y : Placed (List Edit)). y .entry) same);
     }
 
-pub held : (file : List ℕ) (r : EditsRead) → r ≡ edits-answer (read-edits file) → r .refusal ≡ 0 → Held file r
-held file r q z = held-by file r (read-edits file) refl q z
+pub held : (form : FileForm) (file : List ℕ) (r : EditsRead) → r ≡ edits-answer (read-edits-as form file) → r .refusal ≡ 0 → Held form file r
+held form file r q z = held-by form file r (read-edits-as form file) refl q z
 
 -- the call, case by case
-module _ (n : Network) (file division out : List ℕ) where
+module _ (form : FileForm) (n : Network) (file division out : List ℕ) where
   abbrev Ends : Run → List ℕ → List ℕ → Type 0
-  Ends r d o = (reply r ≡ run-answer n file division out) × (d ≡ run-division n file division out) × (o ≡ run-answers n file division out)
+  Ends r d o = (reply r ≡ run-answer form n file division out) × (d ≡ run-division form n file division out) × (o ≡ run-answers form n file division out)
 
   pub wrong-length : ¬ (length division ≡ 49152) → Ends (Run.Refused 5 0) division out
   unfolding run-answer run-division run-answers reply
   wrong-length h = let f = ne-eqb (length division) 49152 h in (sym (rw f), sym (rw f), sym (rw f))
 
   module _ (size : length division ≡ 49152) where
-    pub file-refused : (r : EditsRead) → r ≡ edits-answer (read-edits file) → ¬ (r .refusal ≡ 0) → Ends (Run.Refused (r .refusal) (r .place)) division out
+    pub file-refused : (r : EditsRead) → r ≡ edits-answer (read-edits-as form file) → ¬ (r .refusal ≡ 0) → Ends (Run.Refused (r .refusal) (r .place)) division out
     unfolding run-answer run-division run-answers reply told-run division-left answers-left edits-answer number place-of value-or
-    file-refused r q z = rw (eq-eqb (length division) 49152 size) (go (read-edits file) q)
+    file-refused r q z = rw (eq-eqb (length division) 49152 size) (go (read-edits-as form file) q)
       where
         go : (o : Outcome (Placed (List Edit))) → r ≡ edits-answer o
             → (reply (Run.Refused (r .refusal) (r .place)) ≡ told-run n division out o) × (division ≡ division-left n division out o) × (out ≡ answers-left n division out o)
         go (accepted x next) e = absurd (z (rw e))
         go (refused k p) e = (rw e, refl, refl)
 
-    module _ (r : EditsRead) (h : Held file r) where
+    module _ (r : EditsRead) (h : Held form file r) where
       abbrev es : List Edit
       es = h .edits .entry
 
@@ -99,8 +100,8 @@ module _ (n : Network) (file division out : List ℕ) where
           rw (eq-eqb (length division) 49152 size, h .outcome)
           (x .0, sym (rw (lt-leb (length (answers-of n es division)) (length out) (omega (arith, many, s)))), x .1)
 
-      pub list-run : (d o : List ℕ) → 2 * r .count ≤ length out → d ≡ division-of n (edits-at (r .count) file (r .first)) division
-          → o ≡ put 0 (answers-of n (edits-at (r .count) file (r .first)) division) out → Ends (Run.Answered (2 * r .count)) d o
+      pub list-run : (d o : List ℕ) → 2 * r .count ≤ length out → d ≡ division-of n (edits-at form (r .count) file (r .first)) division
+          → o ≡ put 0 (answers-of n (edits-at form (r .count) file (r .first)) division) out → Ends (Run.Answered (2 * r .count)) d o
       unfolding run-answer run-division run-answers reply outputs.reply told-run division-left answers-left
       list-run d o s p q =
           let many : 2 * r .count ≡ length (answers-of n es division) = omega (arith, answers-length n es division, h .many) in

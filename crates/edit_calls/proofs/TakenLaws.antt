@@ -7,6 +7,7 @@ use mathlib.Core.List.{List, [], _∷_, _++_, flatMap}
 use native.Mathlib.Omega.{arith}
 use lib.ListN.{length}
 use Rattle.base.specs.Runs.{run, answers}
+use Rattle.timetable.specs.declared.FileForm.{FileForm}
 use Rattle.timetable.specs.Formats.{Outcome, accepted, refused, done, _and-then_, behind, read, entries}
 use Rattle.timetable.specs.EditsFile.{edit-entry, edits-on}
 use Rattle.timetable.specs.Outputs.{put}
@@ -27,35 +28,35 @@ unfolding behind is-accepted taken
 before-taken e (accepted es next) t = refl
 before-taken e (refused k p) t = absurd (false≢true t)
 
-module _ (k : ℕ) (file : List ℕ) (at : ℕ) where
-  one-more : read (edits-on (suc k)) file at ≡ behind (read edit-entry file at) (λ e p. behind (read (edits-on k) file p) (λ es next. accepted (e ∷ es) next))
+module _ (form : FileForm) (k : ℕ) (file : List ℕ) (at : ℕ) where
+  one-more : read (edits-on form (suc k)) file at ≡ behind (read (edit-entry form) file at) (λ e p. behind (read (edits-on form k) file p) (λ es next. accepted (e ∷ es) next))
   unfolding edits-on entries read behind
   one-more =
-      read-then edit-entry (λ e. entries (λ floor. edit-entry) (λ e. []) k [] and-then (λ es. done (e ∷ es))) file at
-      ∙ ap (behind (read edit-entry file at)) (fun-ext λ e. fun-ext λ p. read-then (entries (λ floor. edit-entry) (λ e. []) k []) (λ es. done (e ∷ es)) file p)
+      read-then (edit-entry form) (λ e. entries (λ floor. edit-entry form) (λ e. []) k [] and-then (λ es. done (e ∷ es))) file at
+      ∙ ap (behind (read (edit-entry form) file at)) (fun-ext λ e. fun-ext λ p. read-then (entries (λ floor. edit-entry form) (λ e. []) k []) (λ es. done (e ∷ es)) file p)
 
-  module _ (e : Edit) (p : ℕ) (here : read edit-entry file at ≡ accepted e p) where
-    next-are : read (edits-on (suc k)) file at ≡ behind (read (edits-on k) file p) (λ es next. accepted (e ∷ es) next)
+  module _ (e : Edit) (p : ℕ) (here : read (edit-entry form) file at ≡ accepted e p) where
+    next-are : read (edits-on form (suc k)) file at ≡ behind (read (edits-on form k) file p) (λ es next. accepted (e ∷ es) next)
     unfolding behind
     next-are = one-more ∙ rw here
 
-    pub rest-read : can-be-read (suc k) file at ≡ true → can-be-read k file p ≡ true
+    pub rest-read : can-be-read form (suc k) file at ≡ true → can-be-read form k file p ≡ true
     unfolding can-be-read
-    rest-read t = sym (before-accepted e (read (edits-on k) file p)) ∙ ap is-accepted (sym next-are) ∙ t
+    rest-read t = sym (before-accepted e (read (edits-on form k) file p)) ∙ ap is-accepted (sym next-are) ∙ t
 
-    pub first-taken : can-be-read (suc k) file at ≡ true → edits-at (suc k) file at ≡ e ∷ edits-at k file p
+    pub first-taken : can-be-read form (suc k) file at ≡ true → edits-at form (suc k) file at ≡ e ∷ edits-at form k file p
     unfolding can-be-read edits-at
     first-taken t =
-        ap taken next-are ∙ before-taken e (read (edits-on k) file p) (sym (before-accepted e (read (edits-on k) file p)) ∙ ap is-accepted (sym next-are) ∙ t)
+        ap taken next-are ∙ before-taken e (read (edits-on form k) file p) (sym (before-accepted e (read (edits-on form k) file p)) ∙ ap is-accepted (sym next-are) ∙ t)
 
-  pub not-stopped : (j p : ℕ) → read edit-entry file at ≡ refused j p → can-be-read (suc k) file at ≡ true → ⊥
+  pub not-stopped : (j p : ℕ) → read (edit-entry form) file at ≡ refused j p → can-be-read form (suc k) file at ≡ true → ⊥
   unfolding can-be-read behind is-accepted
   not-stopped j p here t =
-      let stopped : read (edits-on (suc k)) file at ≡ refused j p = one-more ∙ rw here in false≢true (sym (ap is-accepted stopped) ∙ t)
+      let stopped : read (edits-on form (suc k)) file at ≡ refused j p = one-more ∙ rw here in false≢true (sym (ap is-accepted stopped) ∙ t)
 
-pub none-taken : (file : List ℕ) (at : ℕ) → edits-at 0 file at ≡ []
+pub none-taken : (form : FileForm) (file : List ℕ) (at : ℕ) → edits-at form 0 file at ≡ []
 unfolding edits-at edits-on entries read taken
-none-taken file at = refl
+none-taken form file at = refl
 
 -- a run of an edit and the rest
 module _ (n : Network) (e : Edit) (es : List Edit) (division : List ℕ) where
@@ -76,19 +77,19 @@ unfolding division-of run
 division-none n division = refl
 
 -- one turn of the loop: the edit at the place, and the edits behind it
-module _ (n : Network) (file : List ℕ) (at k : ℕ) (e : Edit) (p : ℕ) (here : read edit-entry file at ≡ accepted e p) (t : can-be-read (suc k) file at ≡ true)
+module _ (form : FileForm) (n : Network) (file : List ℕ) (at k : ℕ) (e : Edit) (p : ℕ) (here : read (edit-entry form) file at ≡ accepted e p) (t : can-be-read form (suc k) file at ≡ true)
     (division out : List ℕ) (i : ℕ) where
-  pub turn-division : division-of n (edits-at (suc k) file at) division ≡ division-of n (edits-at k file p) (division-after n e division)
-  turn-division = ap (λ (es : List Edit). division-of n es division) (first-taken k file at e p here t) ∙ division-next n e (edits-at k file p) division
+  pub turn-division : division-of n (edits-at form (suc k) file at) division ≡ division-of n (edits-at form k file p) (division-after n e division)
+  turn-division = ap (λ (es : List Edit). division-of n es division) (first-taken form k file at e p here t) ∙ division-next n e (edits-at form k file p) division
 
-  pub turn-answers : put (2 * i) (answers-of n (edits-at (suc k) file at) division) out
-      ≡ put (2 * (i + 1)) (answers-of n (edits-at k file p) (division-after n e division)) (put (2 * i) (answer-numbers (division-answer n e division)) out)
+  pub turn-answers : put (2 * i) (answers-of n (edits-at form (suc k) file at) division) out
+      ≡ put (2 * (i + 1)) (answers-of n (edits-at form k file p) (division-after n e division)) (put (2 * i) (answer-numbers (division-answer n e division)) out)
   unfolding answer-numbers
   turn-answers =
-      let rest : List ℕ = answers-of n (edits-at k file p) (division-after n e division) in
+      let rest : List ℕ = answers-of n (edits-at form k file p) (division-after n e division) in
       let a : List ℕ = answer-numbers (division-answer n e division) in
       let two : 2 * i + length a ≡ 2 * (i + 1) = omega arith in
-      ap (λ (es : List Edit). put (2 * i) (answers-of n es division) out) (first-taken k file at e p here t)
-      ∙ ap (λ (l : List ℕ). put (2 * i) l out) (answers-next n e (edits-at k file p) division)
+      ap (λ (es : List Edit). put (2 * i) (answers-of n es division) out) (first-taken form k file at e p here t)
+      ∙ ap (λ (l : List ℕ). put (2 * i) l out) (answers-next n e (edits-at form k file p) division)
       ∙ put-append (2 * i) a rest out
       ∙ ap (λ (j : ℕ). put j rest (put (2 * i) a out)) two

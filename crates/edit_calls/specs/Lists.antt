@@ -10,8 +10,9 @@ use lib.ListN.{length}
 use Rattle.base.specs.Choice.{if_then_else_}
 use Rattle.base.specs.Runs.{run, answers}
 use Rattle.network.specs.Networks.{network-refusal}
+use Rattle.timetable.specs.declared.FileForm.{FileForm}
 use Rattle.timetable.specs.Formats.{Outcome, accepted, refused, Placed}
-use Rattle.timetable.specs.EditsFile.{read-edits}
+use Rattle.timetable.specs.EditsFile.{read-edits-as}
 use Rattle.timetable.specs.Outputs.{Reply, written, refused-at, needed, output, output-after, put}
 use Rattle.sheet.specs.between.Passes.{division-passes}
 use Rattle.machine.specs.Calls.{division-answer, division-after}
@@ -65,16 +66,16 @@ module _ (n : Network) (division out : List ℕ) where
   answers-left (accepted x next) = output-after 0 (answers-of n (x .entry) division) out
   answers-left (refused k p) = out
 
--- the call
-module _ (n : Network) (file division out : List ℕ) where
+-- the call, of a file in a form
+module _ (form : FileForm) (n : Network) (file division out : List ℕ) where
   unfoldable pub run-answer : Reply
-  run-answer = if eqb (length division) 49152 then told-run n division out (read-edits file) else refused-at 5 0
+  run-answer = if eqb (length division) 49152 then told-run n division out (read-edits-as form file) else refused-at 5 0
 
   unfoldable pub run-division : List ℕ
-  run-division = if eqb (length division) 49152 then division-left n division out (read-edits file) else division
+  run-division = if eqb (length division) 49152 then division-left n division out (read-edits-as form file) else division
 
   unfoldable pub run-answers : List ℕ
-  run-answers = if eqb (length division) 49152 then answers-left n division out (read-edits file) else out
+  run-answers = if eqb (length division) 49152 then answers-left n division out (read-edits-as form file) else out
 
   -- as its contract says it
   abbrev pub RunsFile : Run → List ℕ → List ℕ → Type 0

@@ -17,6 +17,7 @@ use network::Network;
 use railway::edit::Edit;
 use sheet::test;
 use timetable::Answer;
+use timetable::FileForm;
 
 pub mod calls; // an edit on a sheet, an edit on a division
 mod pages; // an edit on pages that are not tested
@@ -68,17 +69,18 @@ fn run_edits(
     n: Network,
     file: &[u8],
     at: usize,
+    form: FileForm,
     count: usize,
     tested: bool,
     out: &mut [u8],
 )
-    requires { ⌜ (CanRun count (now file) at (now out)) × (tested ≡ true → known-good n (now division) ≡ true) ⌝ }
-    ensures { λ _. ⌜ Runs n (edits-at count (now (file .entry)) at) (now (division .entry)) (now (out .entry)) (now (division .exit)) (now (out .exit)) ⌝ }
+    requires { ⌜ (CanRun form count (now file) at (now out)) × (tested ≡ true → known-good n (now division) ≡ true) ⌝ }
+    ensures { λ _. ⌜ Runs n (edits-at form count (now (file .entry)) at) (now (division .entry)) (now (out .entry)) (now (division .exit)) (now (out .exit)) ⌝ }
 {
     let mut cursor = Cursor { at: at };
     let mut i: usize = 0;
     while i < count {
-        let next = edit::next_edit(file, cursor);
+        let next = edit::next_edit(file, cursor, form);
         match next {
             NextEdit::Refused(_k, _p) => {
                 return;
@@ -93,15 +95,15 @@ fn run_edits(
     }
 }
 
-// The edits of a file. 5 for the division's length, the file's refusal, 13; then each edit answers as its single call
-// does on what the one before left.
-pub fn run_list(division: &mut [u8], n: Network, file: &[u8], out: &mut [u8]) -> Run
-    ensures { λ r. ⌜ RunsFile n (now (file .entry)) (now (division .entry)) (now (out .entry)) r (now (division .exit)) (now (out .exit)) ⌝ }
+// The edits of a file in a form. 5 for the division's length, the file's refusal, 13; then each edit answers as its
+// single call does on what the one before left.
+pub fn run_list(division: &mut [u8], n: Network, file: &[u8], form: FileForm, out: &mut [u8]) -> Run
+    ensures { λ r. ⌜ RunsFile form n (now (file .entry)) (now (division .entry)) (now (out .entry)) r (now (division .exit)) (now (out .exit)) ⌝ }
 {
     if division.len() != 49152 {
         return Run::Refused(5, 0);
     }
-    let read = read_edits(file);
+    let read = read_edits(file, form);
     if read.refusal != 0 {
         return Run::Refused(read.refusal, read.place);
     }
@@ -111,6 +113,6 @@ pub fn run_list(division: &mut [u8], n: Network, file: &[u8], out: &mut [u8]) ->
         return Run::TooShort(needed);
     }
     let tested = all_good(division, n);
-    run_edits(division, n, file, read.first, count, tested, out);
+    run_edits(division, n, file, read.first, form, count, tested, out);
     Run::Answered(needed)
 }

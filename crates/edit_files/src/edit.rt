@@ -1,12 +1,13 @@
-// One edit of a file: "kind and fields".
+// One edit of a file: "kind and fields", in the form that is named.
 ghost use mathlib.Core.Path.{_≡_};
 ghost use mathlib.Core.List.{[], _∷_, map};
 ghost use Prim.Native.Nat.{ℕ, _<_, _≤_};
 ghost use lib.ListN.{getD};
 ghost use Rattle.timetable.specs.Formats.{done, _and-then_, _to_, read, row};
+ghost use Rattle.timetable.specs.FileForms.{newest-form};
 ghost use Rattle.timetable.specs.EditsFile.{station-relation-entry, plan-ranges, extension-ranges};
 ghost use Rattle.railway.specs.declared.edit.Edit.the-variants.{AddRelation, RemoveRelation};
-ghost use Rattle.timetable.specs.EditsFile.{plan-of, extension-of, deletion-of, report-of, edit-ranges, edit-of, edit-fields, edit-entry};
+ghost use Rattle.timetable.specs.EditsFile.{plan-of, extension-of, deletion-of, report-of, edit-ranges, edit-of, has-track, supplied, edit-fields, edit-entry};
 ghost use Rattle.fields.specs.between.Answers.{ranges-of};
 ghost use Rattle.edit_files.specs.Answers.{edit-outcome, next-outcome};
 use fields::field::FieldRead;
@@ -29,6 +30,7 @@ use railway::sorts::Track;
 use railway::sorts::Train;
 use relation_files::reading::RelationRead;
 use relation_files::reading::relation_entry;
+use timetable::FileForm;
 
 pub enum EditRead {
     Entry(Edit, usize),
@@ -46,30 +48,31 @@ pub enum NextEdit {
     Refused(u8, usize),
 }
 
-fn plan_from(v: [u16; 12]) -> Plan
+fn plan_from(v: [u16; 13]) -> Plan
     ensures { λ r. ⌜ (getD v 0 0 < 256 → getD v 2 0 < 256 → r ≡ plan-of v) ⌝ }
 {
     Plan {
         station: Station(narrow(v[0])),
         train: Train(v[1]),
         track: Track(narrow(v[2])),
-        arrival: Minute(v[3]),
-        departure: Minute(v[4]),
+        marked: v[3] == 1,
+        arrival: Minute(v[4]),
+        departure: Minute(v[5]),
     }
 }
 
-fn extension_from(v: [u16; 12]) -> Extension
-    ensures { λ r. ⌜ (getD v 0 0 < 256 → getD v 2 0 < 256 → getD v 5 0 < 256 → getD v 6 0 < 256 → getD v 7 0 < 256 → r ≡ extension-of v) ⌝ }
+fn extension_from(v: [u16; 13]) -> Extension
+    ensures { λ r. ⌜ (getD v 0 0 < 256 → getD v 2 0 < 256 → getD v 6 0 < 256 → getD v 7 0 < 256 → getD v 8 0 < 256 → r ≡ extension-of v) ⌝ }
 {
     Extension {
         plan: plan_from(v),
-        other: Station(narrow(v[5])),
-        line: Line(narrow(v[6])),
-        run: narrow(v[7]),
+        other: Station(narrow(v[6])),
+        line: Line(narrow(v[7])),
+        run: narrow(v[8]),
     }
 }
 
-fn deletion_from(v: [u16; 12]) -> Deletion
+fn deletion_from(v: [u16; 13]) -> Deletion
     ensures { λ r. ⌜ (getD v 0 0 < 256 → getD v 2 0 < 256 → r ≡ deletion-of v) ⌝ }
 {
     Deletion {
@@ -79,7 +82,7 @@ fn deletion_from(v: [u16; 12]) -> Deletion
     }
 }
 
-fn report_from(v: [u16; 12]) -> Report
+fn report_from(v: [u16; 13]) -> Report
     ensures { λ r. ⌜ (getD v 0 0 < 256 → r ≡ report-of v) ⌝ }
 {
     Report {
@@ -90,38 +93,53 @@ fn report_from(v: [u16; 12]) -> Report
 }
 
 // The ranges of the fields.
-fn plan_spans() -> Spans
-    ensures { λ r. ⌜ ranges-of r ≡ plan-ranges ⌝ }
+fn plan_spans(form: FileForm) -> Spans
+    ensures { λ r. ⌜ ranges-of r ≡ plan-ranges form ⌝ }
 {
     let none = Span { lo: 0, hi: 0 };
     let station = Span { lo: 1, hi: 16 };
     let train = Span { lo: 1, hi: 9999 };
     let track = Span { lo: 1, hi: 8 };
+    let mark = Span { lo: 0, hi: 1 };
     let time = Span {
         lo: 0,
         hi: Minute::LAST,
     };
-    Spans {
-        count: 5,
-        spans: [station, train, track, time, time, none, none, none],
+    match form {
+        FileForm::Earlier => Spans {
+            count: 5,
+            spans: [station, train, track, time, time, none, none, none, none],
+        },
+        FileForm::Newest => Spans {
+            count: 6,
+            spans: [station, train, track, mark, time, time, none, none, none],
+        },
     }
 }
 
-fn extension_spans() -> Spans
-    ensures { λ r. ⌜ ranges-of r ≡ extension-ranges ⌝ }
+fn extension_spans(form: FileForm) -> Spans
+    ensures { λ r. ⌜ ranges-of r ≡ extension-ranges form ⌝ }
 {
+    let none = Span { lo: 0, hi: 0 };
     let station = Span { lo: 1, hi: 16 };
     let train = Span { lo: 1, hi: 9999 };
     let track = Span { lo: 1, hi: 8 };
+    let mark = Span { lo: 0, hi: 1 };
     let time = Span {
         lo: 0,
         hi: Minute::LAST,
     };
     let line = Span { lo: 1, hi: 32 };
     let run = Span { lo: 1, hi: 240 };
-    Spans {
-        count: 8,
-        spans: [station, train, track, time, time, station, line, run],
+    match form {
+        FileForm::Earlier => Spans {
+            count: 8,
+            spans: [station, train, track, time, time, station, line, run, none],
+        },
+        FileForm::Newest => Spans {
+            count: 9,
+            spans: [station, train, track, mark, time, time, station, line, run],
+        },
     }
 }
 
@@ -138,7 +156,7 @@ fn three_spans(first: u32, last: u16) -> Spans
     };
     Spans {
         count: 3,
-        spans: [station, train, third, none, none, none, none, none],
+        spans: [station, train, third, none, none, none, none, none, none],
     }
 }
 
@@ -149,22 +167,22 @@ fn train_spans() -> Spans
     let train = Span { lo: 1, hi: 9999 };
     Spans {
         count: 1,
-        spans: [train, none, none, none, none, none, none, none],
+        spans: [train, none, none, none, none, none, none, none, none],
     }
 }
 
 // The ranges of an edit's fields by its kind; 9 and 10 hold a relation instead.
-fn edit_spans(kind: u16) -> Spans
-    ensures { λ r. ⌜ ranges-of r ≡ edit-ranges kind ⌝ }
+fn edit_spans(form: FileForm, kind: u16) -> Spans
+    ensures { λ r. ⌜ ranges-of r ≡ edit-ranges form kind ⌝ }
 {
     if kind == 1 {
-        return plan_spans();
+        return plan_spans(form);
     }
     if kind == 2 {
-        return extension_spans();
+        return extension_spans(form);
     }
     if kind == 3 {
-        return extension_spans();
+        return extension_spans(form);
     }
     if kind == 4 {
         return three_spans(1, 16);
@@ -173,7 +191,7 @@ fn edit_spans(kind: u16) -> Spans
         return three_spans(1, 16);
     }
     if kind == 6 {
-        return plan_spans();
+        return plan_spans(form);
     }
     if kind == 7 {
         return three_spans(0, Minute::LAST);
@@ -185,8 +203,8 @@ fn edit_spans(kind: u16) -> Spans
 }
 
 // The edit of such fields.
-fn edit_from(kind: u16, v: [u16; 12]) -> Edit
-    ensures { λ r. ⌜ (((i : ℕ) → getD v i 0 ≤ getD (map (λ x. x .hi) (edit-ranges kind)) i 0) → r ≡ edit-of kind v) ⌝ }
+fn edit_from(kind: u16, v: [u16; 13]) -> Edit
+    ensures { λ r. ⌜ (((i : ℕ) → i < 13 → getD v i 0 ≤ getD (map (λ x. x .hi) (edit-ranges newest-form kind)) i 0) → r ≡ edit-of kind v) ⌝ }
 {
     if kind == 1 {
         return Edit::Place(plan_from(v));
@@ -215,12 +233,52 @@ fn edit_from(kind: u16, v: [u16; 12]) -> Edit
     Edit::DeleteTrain(Cancellation { train: Train(v[0]) })
 }
 
-fn fields_edit(file: &[u8], at: usize, kind: u16) -> EditRead
-    ensures { λ r. ⌜ edit-outcome r ≡ read (row (edit-ranges kind) [] and-then (λ ns. done (edit-of kind ns))) (now (file .entry)) at ⌝ }
+// The edit carries a track.
+fn has_track(kind: u16) -> bool
+    ensures { λ r. ⌜ r ≡ has-track kind ⌝ }
 {
-    let read = row(file, at, edit_spans(kind));
+    if kind <= 3 {
+        return true;
+    }
+    kind == 6
+}
+
+// The numbers as the newest form has them.
+fn supplied(form: FileForm, kind: u16, v: [u16; 13]) -> [u16; 13]
+    ensures { λ r. ⌜ ((i : ℕ) → i < 13 → getD r i 0 ≡ getD (supplied form kind v) i 0) ⌝ }
+{
+    match form {
+        FileForm::Newest => v,
+        FileForm::Earlier => {
+            if has_track(kind) {
+                return [
+                    v[0],
+                    v[1],
+                    v[2],
+                    0,
+                    v[3],
+                    v[4],
+                    v[5],
+                    v[6],
+                    v[7],
+                    v[8],
+                    v[9],
+                    v[10],
+                    v[11],
+                ];
+            }
+            v
+        }
+    }
+}
+
+fn fields_edit(file: &[u8], at: usize, form: FileForm, kind: u16) -> EditRead
+    ensures { λ r. ⌜ edit-outcome r ≡ read (row (edit-ranges form kind) [] and-then (λ ns. done (edit-of kind (supplied form kind ns)))) (now (file .entry)) at ⌝ }
+{
+    let read = row(file, at, edit_spans(form, kind));
     if read.accepted {
-        let values = read.values;
+        let numbers = read.values;
+        let values = supplied(form, kind, numbers);
         return EditRead::Entry(edit_from(kind, values), read.place);
     }
     EditRead::Refused(read.refusal, read.place)
@@ -246,8 +304,8 @@ fn remove_edit(file: &[u8], at: usize) -> EditRead
     }
 }
 
-fn edit_of_kind(file: &[u8], at: usize, kind: u16) -> EditRead
-    ensures { λ r. ⌜ edit-outcome r ≡ read (edit-fields kind) (now (file .entry)) at ⌝ }
+fn edit_of_kind(file: &[u8], at: usize, form: FileForm, kind: u16) -> EditRead
+    ensures { λ r. ⌜ edit-outcome r ≡ read (edit-fields form kind) (now (file .entry)) at ⌝ }
 {
     if kind == 9 {
         return add_edit(file, at);
@@ -255,24 +313,24 @@ fn edit_of_kind(file: &[u8], at: usize, kind: u16) -> EditRead
     if kind == 10 {
         return remove_edit(file, at);
     }
-    fields_edit(file, at, kind)
+    fields_edit(file, at, form, kind)
 }
 
-pub fn read_edit(file: &[u8], at: usize) -> EditRead
-    ensures { λ r. ⌜ edit-outcome r ≡ read edit-entry (now (file .entry)) at ⌝ }
+pub fn read_edit(file: &[u8], at: usize, form: FileForm) -> EditRead
+    ensures { λ r. ⌜ edit-outcome r ≡ read (edit-entry form) (now (file .entry)) at ⌝ }
 {
     let kind = field(file, at, 1, 11);
     match kind {
         FieldRead::Refused(k, p) => EditRead::Refused(k, p),
-        FieldRead::Value(n, next) => edit_of_kind(file, next, n),
+        FieldRead::Value(n, next) => edit_of_kind(file, next, form, n),
     }
 }
 
 // The edit at a cursor, tested by itself.
-pub fn next_edit(file: &[u8], c: Cursor) -> NextEdit
-    ensures { λ r. ⌜ next-outcome r ≡ read edit-entry (now (file .entry)) (c .at) ⌝ }
+pub fn next_edit(file: &[u8], c: Cursor, form: FileForm) -> NextEdit
+    ensures { λ r. ⌜ next-outcome r ≡ read (edit-entry form) (now (file .entry)) (c .at) ⌝ }
 {
-    let read = read_edit(file, c.at);
+    let read = read_edit(file, c.at, form);
     match read {
         EditRead::Refused(k, p) => NextEdit::Refused(k, p),
         EditRead::Entry(e, next) => NextEdit::Entry(e, Cursor { at: next }),

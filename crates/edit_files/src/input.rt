@@ -7,6 +7,7 @@ use crate::list::edits_part;
 use network::Network;
 use network_files::draft::blank_network;
 use network_files::draft::read_draft;
+use timetable::FileForm;
 
 // Refusal 0 with the network, the place behind the file, that of the first edit and the edits' count; or a refusal's
 // number and place beside a blank network.
@@ -35,7 +36,7 @@ pub fn read_shift(file: &[u8]) -> ShiftRead
 {
     let draft = read_draft(file);
     if draft.accepted {
-        let part = edits_part(file, draft.place);
+        let part = edits_part(file, draft.place, FileForm::Newest);
         if part.accepted {
             let place = part.place;
             if place < file.len() {

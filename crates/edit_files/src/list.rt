@@ -1,13 +1,14 @@
 // Files of edits: "count (0..1000), then kind and fields".
 ghost use mathlib.Core.Path.{_≡_};
 ghost use Rattle.timetable.specs.Formats.{refused, read, placed};
-ghost use Rattle.timetable.specs.EditsFile.{edits-on, edits-format, read-edits};
+ghost use Rattle.timetable.specs.EditsFile.{edits-on, edits-format, read-edits-as};
 ghost use Rattle.fields.specs.Outcomes.{end-of};
 ghost use Rattle.edit_files.specs.Answers.{scan-outcome, edits-read, edits-answer};
 use crate::edit::EditRead;
 use crate::edit::read_edit;
 use fields::field::FieldRead;
 use fields::field::field;
+use timetable::FileForm;
 
 // The place behind the edits, or a refusal's number and place.
 pub enum Scan {
@@ -34,13 +35,13 @@ pub struct EditsRead {
 }
 
 // So many edits, each tested.
-fn scan_edits(file: &[u8], at: usize, count: u16) -> Scan
-    ensures { λ r. ⌜ scan-outcome r ≡ end-of (read (edits-on count) (now (file .entry)) at) ⌝ }
+fn scan_edits(file: &[u8], at: usize, form: FileForm, count: u16) -> Scan
+    ensures { λ r. ⌜ scan-outcome r ≡ end-of (read (edits-on form count) (now (file .entry)) at) ⌝ }
 {
     let mut place = at;
     let mut i: u16 = 0;
     while i < count {
-        let found = read_edit(file, place);
+        let found = read_edit(file, place, form);
         match found {
             EditRead::Refused(k, p) => {
                 return Scan::Refused(k, p);
@@ -66,10 +67,10 @@ fn refused_part(refusal: u8, place: usize) -> EditsPart
     }
 }
 
-fn scanned_part(file: &[u8], at: usize, count: u16) -> EditsPart
-    ensures { λ r. ⌜ r ≡ edits-read (read (placed (edits-on count)) (now (file .entry)) at) ⌝ }
+fn scanned_part(file: &[u8], at: usize, form: FileForm, count: u16) -> EditsPart
+    ensures { λ r. ⌜ r ≡ edits-read (read (placed (edits-on form count)) (now (file .entry)) at) ⌝ }
 {
-    let found = scan_edits(file, at, count);
+    let found = scan_edits(file, at, form, count);
     match found {
         Scan::Refused(k, p) => refused_part(k, p),
         Scan::End(next) => EditsPart {
@@ -83,13 +84,13 @@ fn scanned_part(file: &[u8], at: usize, count: u16) -> EditsPart
 }
 
 // The count and the edits from a place of the file on.
-pub fn edits_part(file: &[u8], at: usize) -> EditsPart
-    ensures { λ r. ⌜ r ≡ edits-read (read edits-format (now (file .entry)) at) ⌝ }
+pub fn edits_part(file: &[u8], at: usize, form: FileForm) -> EditsPart
+    ensures { λ r. ⌜ r ≡ edits-read (read (edits-format form) (now (file .entry)) at) ⌝ }
 {
     let count = field(file, at, 0, 1000);
     match count {
         FieldRead::Refused(k, p) => refused_part(k, p),
-        FieldRead::Value(n, next) => scanned_part(file, next, n),
+        FieldRead::Value(n, next) => scanned_part(file, next, form, n),
     }
 }
 
@@ -104,11 +105,11 @@ fn refused_edits(refusal: u8, place: usize) -> EditsRead
     }
 }
 
-// A file of edits.
-pub fn read_edits(file: &[u8]) -> EditsRead
-    ensures { λ r. ⌜ r ≡ edits-answer (read-edits (now (file .entry))) ⌝ }
+// A file of edits in a form.
+pub fn read_edits(file: &[u8], form: FileForm) -> EditsRead
+    ensures { λ r. ⌜ r ≡ edits-answer (read-edits-as form (now (file .entry))) ⌝ }
 {
-    let part = edits_part(file, 0);
+    let part = edits_part(file, 0, form);
     if part.accepted {
         let place = part.place;
         if place < file.len() {

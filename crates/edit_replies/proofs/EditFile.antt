@@ -4,6 +4,7 @@ use Prim.Native.Nat.{ℕ}
 use mathlib.Core.Path.{_≡_, ap}
 use mathlib.Core.List.{List}
 use Rattle.timetable.specs.Formats.{read, read-file}
+use Rattle.timetable.specs.FileForms.{newest-form}
 use Rattle.timetable.specs.EditsFile.{edit-entry}
 use Rattle.fields.proofs.FileRefusals.{Told, read-told, ended-told}
 use Rattle.single_edit.specs.Reading.{read-one}
@@ -14,7 +15,7 @@ use Rattle.edit_replies.specs.Types.{Edit, OneEdit}
 
 edit-told : (file : List ℕ) → Told (read-one file)
 unfolding read-one read-file
-edit-told file = ended-told file (read edit-entry file 0) (read-told edit-entry file 0)
+edit-told file = ended-told file (read (edit-entry newest-form) file 0) (read-told (edit-entry newest-form) file 0)
 
 module _ {X : Type 0} (file : List ℕ) (r : OneEdit) (e : r ≡ edit-answer (read-one file)) (bad : ℕ → ℕ → X) (good : Edit → X) where
   edit-tells : Tells (read-one file) (edit-told file) no-edit (r .refusal) (r .place) (r .edit)

@@ -3,6 +3,7 @@
 use mathlib.Core.Path.{_≡_, refl, sym, _∙_}
 use lib.ListN.{length}
 use Rattle.timetable.specs.Formats.{number, value-or, bytes-of}
+use Rattle.timetable.specs.FileForms.{newest-form}
 use Rattle.timetable.specs.EditsFile.{edits-numbers}
 use Rattle.timetable.specs.Outputs.{reply}
 use Rattle.timetable.proofs.BuffersFilled.{put-whole, fits-in}
@@ -13,6 +14,6 @@ use Rattle.edit_writing.specs.RoundTrip.{EditsComeBack}
 pub edits-come-back : EditsComeBack
 unfolding write-edits edits-written edits-bytes number value-or reply
 edits-come-back file buffer es next b e h =
-    let same : bytes-of (edits-numbers (es .entry)) ≡ file = sym (edits-trip .only file es next b e .file-is) in
+    let same : bytes-of (edits-numbers newest-form (es .entry)) ≡ file = sym (edits-trip newest-form .only file es next b e .file-is) in
     let x = fits-in file buffer (length file) refl h in
     rw (e, same) (sym (x .0), sym (x .1) ∙ put-whole file buffer h)

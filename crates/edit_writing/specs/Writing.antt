@@ -7,21 +7,22 @@ use lib.ListN.{length}
 use Rattle.railway.specs.declared.edit.Edit.{Edit}
 use Rattle.timetable.specs.Machine.{edit-refusal}
 use Rattle.timetable.specs.Formats.{accepted, number, value-or, read, bytes-of}
+use Rattle.timetable.specs.FileForms.{newest-form}
 use Rattle.timetable.specs.EditsFile.{edit-numbers, edits-on, read-edits, edits-numbers}
 use Rattle.timetable.specs.Outputs.{Reply, output, output-after, put}
 use Rattle.edit_files.specs.Answers.{no-edits}
 
 -- 3, 13
 unfoldable pub write-edit : Edit → List ℕ → Reply
-write-edit e buffer = output (edit-refusal e) (bytes-of (edit-numbers e)) buffer
+write-edit e buffer = output (edit-refusal e) (bytes-of (edit-numbers newest-form e)) buffer
 
 unfoldable pub edit-written : Edit → List ℕ → List ℕ
-edit-written e buffer = output-after (edit-refusal e) (bytes-of (edit-numbers e)) buffer
+edit-written e buffer = output-after (edit-refusal e) (bytes-of (edit-numbers newest-form e)) buffer
 
 -- a list of edits, lent as a file that reads to it: the file's refusal, 13
 
 unfoldable pub edits-bytes : List ℕ → List ℕ
-edits-bytes file = bytes-of (edits-numbers (value-or no-edits (read-edits file) .entry))
+edits-bytes file = bytes-of (edits-numbers newest-form (value-or no-edits (read-edits file) .entry))
 
 unfoldable pub write-edits : List ℕ → List ℕ → Reply
 write-edits file buffer = output (number (read-edits file)) (edits-bytes file) buffer
@@ -33,7 +34,7 @@ edits-written file buffer = output-after (number (read-edits file)) (edits-bytes
 -- is the place behind
 abbrev pub PutsList : List ℕ → ℕ → ℕ → (List Edit → List ℕ) → ℕ → List ℕ → ℕ → List ℕ → Type 0
 PutsList file first count numbers at before r after =
-    (es : List Edit) (end : ℕ) → read (edits-on count) file first ≡ accepted es end
+    (es : List Edit) (end : ℕ) → read (edits-on newest-form count) file first ≡ accepted es end
     → (r ≡ at + length (bytes-of (numbers es))) × (after ≡ put at (bytes-of (numbers es)) before)
 
 -- The key ring of this module: `unfolding opened` opens every definition above.

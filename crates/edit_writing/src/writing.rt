@@ -2,6 +2,7 @@
 ghost use mathlib.Core.Path.{_≡_};
 ghost use Prim.Native.Nat.{_≤_};
 ghost use Rattle.timetable.specs.Outputs.{reply};
+ghost use Rattle.timetable.specs.FileForms.{newest-form, status-number};
 ghost use Rattle.timetable.specs.EditsFile.{plan-numbers, extension-numbers, deletion-numbers, report-numbers, edit-numbers};
 ghost use Rattle.fields.specs.between.Answers.{row-of};
 ghost use Rattle.edit_writing.specs.Writing.{write-edit, edit-written, write-edits, edits-written, PutsList};
@@ -19,19 +20,31 @@ use railway::edit::Report;
 use railway::sorts::Station;
 use railway::sorts::Train;
 use relation_files::row::led_numbers;
+use timetable::FileForm;
 use timetable::Output;
 
+// "a stop mark, 0 or 1"
+fn mark_number(marked: bool) -> u16
+    ensures { λ r. ⌜ r ≡ status-number marked ⌝ }
+{
+    if marked {
+        return 1;
+    }
+    0
+}
+
 fn plan_row(kind: u16, p: Plan) -> Numbers
-    ensures { λ r. ⌜ r ≡ row-of (kind ∷ plan-numbers p) ⌝ }
+    ensures { λ r. ⌜ r ≡ row-of (kind ∷ plan-numbers newest-form p) ⌝ }
 {
     Numbers {
         from: 0,
-        to: 6,
+        to: 7,
         values: [
             kind,
             p.station.0 as u16,
             p.train.0,
             p.track.0 as u16,
+            mark_number(p.marked),
             p.arrival.0,
             p.departure.0,
             0,
@@ -45,16 +58,16 @@ fn plan_row(kind: u16, p: Plan) -> Numbers
 }
 
 fn extension_row(kind: u16, x: Extension) -> Numbers
-    ensures { λ r. ⌜ r ≡ row-of (kind ∷ extension-numbers x) ⌝ }
+    ensures { λ r. ⌜ r ≡ row-of (kind ∷ extension-numbers newest-form x) ⌝ }
 {
     let plan = plan_row(kind, x.plan);
     let mut values = plan.values;
-    values[6] = x.other.0 as u16;
-    values[7] = x.line.0 as u16;
-    values[8] = x.run as u16;
+    values[7] = x.other.0 as u16;
+    values[8] = x.line.0 as u16;
+    values[9] = x.run as u16;
     Numbers {
         from: 0,
-        to: 9,
+        to: 10,
         values: values,
     }
 }
@@ -66,7 +79,7 @@ fn visit_row(kind: u16, s: Station, t: Train, n: u16) -> Numbers
     Numbers {
         from: 0,
         to: 4,
-        values: [kind, s.0 as u16, t.0, n, 0, 0, 0, 0, 0, 0, 0, 0],
+        values: [kind, s.0 as u16, t.0, n, 0, 0, 0, 0, 0, 0, 0, 0, 0],
     }
 }
 
@@ -88,13 +101,13 @@ fn cancellation_row(t: Train) -> Numbers
     Numbers {
         from: 0,
         to: 2,
-        values: [11, t.0, 0, 0, 0, 0, 0, 0, 0, 0, 0, 0],
+        values: [11, t.0, 0, 0, 0, 0, 0, 0, 0, 0, 0, 0, 0],
     }
 }
 
 // The numbers of an edit.
 fn edit_row(e: Edit) -> Numbers
-    ensures { λ r. ⌜ r ≡ row-of (edit-numbers e) ⌝ }
+    ensures { λ r. ⌜ r ≡ row-of (edit-numbers newest-form e) ⌝ }
 {
     match e {
         Edit::Place(p) => plan_row(1, p),
@@ -131,13 +144,13 @@ pub fn write_edit(e: Edit, out: &mut [u8]) -> Output
 // So many edits of a file, from a place of it on, put one behind the other.
 fn put_edits(out: &mut [u8], at: usize, file: &[u8], first: usize, count: u16) -> usize
     requires { ⌜ at ≤ 3 ⌝ }
-    ensures { λ q. ⌜ PutsList (now (file .entry)) first count (flatMap edit-numbers) at (now (out .entry)) q (now (out .exit)) ⌝ }
+    ensures { λ q. ⌜ PutsList (now (file .entry)) first count (flatMap (edit-numbers newest-form)) at (now (out .entry)) q (now (out .exit)) ⌝ }
 {
     let mut next = at;
     let mut place = first;
     let mut i: u16 = 0;
     while i < count {
-        let found = read_edit(file, place);
+        let found = read_edit(file, place, FileForm::Newest);
         match found {
             EditRead::Refused(_k, _p) => {
                 return next;
@@ -154,7 +167,7 @@ fn put_edits(out: &mut [u8], at: usize, file: &[u8], first: usize, count: u16) -
 
 // "count (0..1000), then kind and fields"
 fn put_list(out: &mut [u8], file: &[u8], first: usize, count: u16) -> usize
-    ensures { λ q. ⌜ PutsList (now (file .entry)) first count (λ es. count ∷ flatMap edit-numbers es) 0 (now (out .entry)) q (now (out .exit)) ⌝ }
+    ensures { λ q. ⌜ PutsList (now (file .entry)) first count (λ es. count ∷ flatMap (edit-numbers newest-form) es) 0 (now (out .entry)) q (now (out .exit)) ⌝ }
 {
     let at = put::put_number(out, 0, count);
     put_edits(out, at, file, first, count)
@@ -164,7 +177,7 @@ fn put_list(out: &mut [u8], file: &[u8], first: usize, count: u16) -> usize
 pub fn write_edits(file: &[u8], out: &mut [u8]) -> Output
     ensures { λ r. ⌜ (reply r ≡ write-edits (now (file .entry)) (now (out .entry))) × (now (out .exit) ≡ edits-written (now (file .entry)) (now (out .entry))) ⌝ }
 {
-    let list = read_edits(file);
+    let list = read_edits(file, FileForm::Newest);
     if list.refusal == 0 {
         let mut spare = [0u8; 1];
         let needed = put_list(&mut spare, file, list.first, list.count);

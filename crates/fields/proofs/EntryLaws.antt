@@ -81,11 +81,11 @@ padded-at k ns i = go (k - length ns) ns i
 
 module _ (o : Outcome (List ℕ)) (r : RowRead) (e : r ≡ row-read o) where
   -- an accepted row: its numbers stand in the first places
-  pub row-value : r .accepted ≡ true → (ns : List ℕ) × (o ≡ accepted ns (r .place)) × (r .values ≡ padded 12 0 ns)
+  pub row-value : r .accepted ≡ true → (ns : List ℕ) × (o ≡ accepted ns (r .place)) × (r .values ≡ padded 13 0 ns)
   unfolding row-read
   row-value t = go o e
     where
-      go : (o : Outcome (List ℕ)) → r ≡ row-read o → (ns : List ℕ) × (o ≡ accepted ns (r .place)) × (r .values ≡ padded 12 0 ns)
+      go : (o : Outcome (List ℕ)) → r ≡ row-read o → (ns : List ℕ) × (o ≡ accepted ns (r .place)) × (r .values ≡ padded 13 0 ns)
       go (accepted ns next) q = (ns, ap (accepted ns) (ap (λ (x : RowRead). x .place) (sym q)), ap (λ (x : RowRead). x .values) q)
       go (refused k p) q = absurd (false≢true (sym (ap (λ (x : RowRead). x .accepted) q) ∙ t))
 
@@ -131,7 +131,7 @@ module _ {A : Type 0} (lo hi : ℕ) (f : ℕ → Format A) (file : List ℕ) (at
 pub record RowTaken (rs : List Range) (file : List ℕ) (at : ℕ) (r : RowRead) : Type 0 where
   pub numbers : List ℕ
   pub outcome : read (row rs []) file at ≡ accepted numbers (r .place)
-  pub stored : r .values ≡ padded 12 0 numbers
+  pub stored : r .values ≡ padded 13 0 numbers
   pub at-most : (i : ℕ) → getD (r .values) i 0 ≤ getD (map (λ r. r .hi) rs) i 0
 
 pub row-took : (rs : List Range) (file : List ℕ) (at : ℕ) (r : RowRead) → r ≡ row-read (read (row rs []) file at) → r .accepted ≡ true → RowTaken rs file at r
@@ -141,7 +141,7 @@ row-took rs file at r e t =
       numbers = ns;
       outcome = u;
       stored = v;
-      at-most = λ i. rw (v, padded-at 12 ns i) (row-bounded rs [] file at ns (r .place) u i);
+      at-most = λ i. rw (v, padded-at 13 ns i) (row-bounded rs [] file at ns (r .place) u i);
     }
 
 -- an entry with its place

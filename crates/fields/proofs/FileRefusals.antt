@@ -13,9 +13,10 @@ use Rattle.base.specs.Choice.{if_then_else_}
 use Rattle.base.specs.Lists.{within}
 use Rattle.numbers.specs.Numbers.{NumberRead, Value, Refused, group-before, read-groups, read-number}
 use Rattle.timetable.specs.Formats.{Format, done, field, here, Outcome, accepted, refused, placed-field, field-at, behind, read, ended, read-file}
+use Rattle.timetable.specs.declared.FileForm.{FileForm}
 use Rattle.timetable.specs.declared.Fault.{Fault}
 use Rattle.timetable.specs.NetworkFile.{unless-fault}
-use Rattle.timetable.specs.EditsFile.{edits-format, read-edits}
+use Rattle.timetable.specs.EditsFile.{edits-format, read-edits-as}
 
 -- the refusal of a number is not 0
 abbrev Some : NumberRead → Type 0
@@ -76,9 +77,9 @@ ended-told file (accepted a next) h = λ k p q z. go k p z (leb (length file) ne
     go k p z true e = let s : _≡_ {A = ℕ} 0 1 = cc in omega (arith, s)
     go k p z false e = let s : 1 ≡ k = cc in omega (arith, s, z)
 
-pub edits-told : (file : List ℕ) → Told (read-edits file)
-unfolding read-edits read-file
-edits-told file = ended-told file (read edits-format file 0) (read-told edits-format file 0)
+pub edits-told : (form : FileForm) (file : List ℕ) → Told (read-edits-as form file)
+unfolding read-edits-as read-file
+edits-told form file = ended-told file (read (edits-format form) file 0) (read-told (edits-format form) file 0)
 
 -- a fault is told where its number is not 0
 pub fault-told : {A : Type 0} (f : Fault) (a : A) (next : ℕ) → Told (unless-fault f (accepted a next))

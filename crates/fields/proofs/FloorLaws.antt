@@ -14,9 +14,9 @@ use Rattle.fields.specs.declared.field.Numbers.{Numbers}
 use Rattle.fields.specs.declared.floor.Number.{Number}
 use Rattle.fields.specs.between.Answers.{in-use, number-read}
 
-module _ (floor : Numbers) (to : ℕ) (many : length (floor .values) ≡ 12) (e : to ≡ min (floor .to) 12) where
+module _ (floor : Numbers) (to : ℕ) (many : length (floor .values) ≡ 13) (e : to ≡ min (floor .to) 13) where
   within-values : drop (floor .from) (take (floor .to) (floor .values)) ≡ drop (floor .from) (take to (floor .values))
-  within-values = ap (drop (floor .from)) (used-rows (floor .values) (floor .to) 12 to many e)
+  within-values = ap (drop (floor .from)) (used-rows (floor .values) (floor .to) 13 to many e)
 
   pub floor-none : to ≤ floor .from → in-use floor ≡ []
   unfolding in-use

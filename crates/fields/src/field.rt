@@ -23,7 +23,7 @@ pub struct Span {
 // The ranges of the numbers in a row: the first `count` are used.
 pub struct Spans {
     pub count: usize,
-    pub spans: [Span; 8],
+    pub spans: [Span; 9],
 }
 
 // The numbers of a row, 0 where there are fewer, and the place behind them; or a refusal's number and place.
@@ -31,14 +31,14 @@ pub struct RowRead {
     pub accepted: bool,
     pub refusal: u8,
     pub place: usize,
-    pub values: [u16; 12],
+    pub values: [u16; 13],
 }
 
-// A row of up to twelve numbers: those of `values` from one index up to another.
+// A row of up to thirteen numbers: those of `values` from one index up to another.
 pub struct Numbers {
     pub from: usize,
     pub to: usize,
-    pub values: [u16; 12],
+    pub values: [u16; 13],
 }
 
 // A number as a byte.
@@ -92,7 +92,7 @@ pub fn refused_row(refusal: u8, place: usize) -> RowRead
         accepted: false,
         refusal: refusal,
         place: place,
-        values: [0; 12],
+        values: [0; 13],
     }
 }
 
@@ -110,8 +110,8 @@ pub fn row(file: &[u8], at: usize, ranges: Spans) -> RowRead
     ensures { λ r. ⌜ r ≡ row-read (read (row (ranges-of ranges) []) (now (file .entry)) at) ⌝ }
 {
     let spans = ranges.spans;
-    let n = smaller(ranges.count, 8);
-    let mut values: [u16; 12] = [0; 12];
+    let n = smaller(ranges.count, 9);
+    let mut values: [u16; 13] = [0; 13];
     let mut place = at;
     let mut i: usize = 0;
     while i < n {

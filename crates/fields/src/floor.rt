@@ -40,7 +40,7 @@ pub fn no_floor() -> Numbers
     Numbers {
         from: 0,
         to: 0,
-        values: [0; 12],
+        values: [0; 13],
     }
 }
 
@@ -50,11 +50,11 @@ pub fn behind_first(row: Numbers) -> Numbers
 {
     let values = row.values;
     let from = row.from;
-    let to = field::smaller(row.to, 12);
+    let to = field::smaller(row.to, 13);
     if to <= from {
         return no_floor();
     }
-    let mut left: [u16; 12] = [0; 12];
+    let mut left: [u16; 13] = [0; 13];
     let mut count: usize = 0;
     let mut i = from + 1;
     while i < to {
@@ -75,7 +75,7 @@ fn least(floor: Numbers, lo: u32) -> u32
 {
     let values = floor.values;
     let from = floor.from;
-    let to = field::smaller(floor.to, 12);
+    let to = field::smaller(floor.to, 13);
     if from < to {
         let b = wide(values[from]);
         if from + 1 < to {
@@ -92,7 +92,7 @@ pub fn floor_after(floor: Numbers, n: u16) -> Numbers
 {
     let values = floor.values;
     let from = floor.from;
-    let to = field::smaller(floor.to, 12);
+    let to = field::smaller(floor.to, 13);
     if to <= from {
         return no_floor();
     }

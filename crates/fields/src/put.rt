@@ -39,10 +39,10 @@ fn put_bytes(out: &mut [u8], at: usize, x: u16) -> usize
 
 fn put_all(out: &mut [u8], at: usize, row: Numbers) -> usize
     requires { ⌜ at ≤ 1000000000 ⌝ }
-    ensures { λ r. ⌜ Places at (in-use row) (now (out .entry)) r (now (out .exit)) 36 ⌝ }
+    ensures { λ r. ⌜ Places at (in-use row) (now (out .entry)) r (now (out .exit)) 39 ⌝ }
 {
     let values = row.values;
-    let to = field::smaller(row.to, 12);
+    let to = field::smaller(row.to, 13);
     let mut next = at;
     let mut i: usize = row.from;
     while i < to {
@@ -64,7 +64,7 @@ pub fn put_number(out: &mut [u8], at: usize, x: u16) -> usize
 
 // A row of numbers.
 pub fn put_row(out: &mut [u8], at: usize, row: Numbers) -> usize
-    ensures { λ r. ⌜ Puts at (in-use row) (now (out .entry)) r (now (out .exit)) 36 ⌝ }
+    ensures { λ r. ⌜ Puts at (in-use row) (now (out .entry)) r (now (out .exit)) 39 ⌝ }
 {
     if at <= 1000000000 {
         return put_all(out, at, row);

@@ -22,7 +22,7 @@ use Rattle.timetable.specs.Machine.{Timetable}
 use Rattle.timetable.specs.Good.{out-good, visit-good, entry-good, visits-good, table-good, Whole}
 use Rattle.timetable.specs.Projection.{row, expected-arrival, expected-departure, from-departure, from-arrival}
 use Rattle.timetable.specs.Rules.{out-answered}
-use Rattle.timetable.specs.Visits.{arr, dep, stops, outs, with-out}
+use Rattle.timetable.specs.Visits.{arr, dep, stops-anyway, outs, with-out}
 use Rattle.timetable.proofs.TableLaws.{GoodVisit, visit-facts}
 use Rattle.network.proofs.AreaLaws.{listed-ok}
 use Rattle.sheet.proofs.SheetLaws.{station-high}
@@ -93,12 +93,13 @@ arrival-most v a k p q = go (v .arrived)
 
 departure-most : (v : Visit) (a k : ℕ) → dep v ≤ k → a ≤ k → expected-departure v a ≤ k + 1
 unfolding expected-departure
-departure-most v a k p q = go (v .departed) (stops v)
+departure-most v a k p q = go (v .departed) (stops-anyway v) (v .marked)
   where
-    go : (x y : Bool) → (if x then dep v else if y then max (dep v) (a + 1) else a) ≤ k + 1
-    go true y = omega arith
-    go false true = omega arith
-    go false false = omega arith
+    go : (x y z : Bool) → (if x then dep v else if y then max (dep v) (a + 1) else if z then max (dep v) a else a) ≤ k + 1
+    go true y z = omega arith
+    go false true z = omega arith
+    go false false true = omega arith
+    go false false false = omega arith
 
 row-small : (s : Station) (v : Visit) (a k : ℕ) → T (station-ok s) → arr v ≤ k → dep v ≤ k → a ≤ k → k ≤ 9999 → T (every small (row-numbers (row s v a)))
 unfolding row-numbers row small every

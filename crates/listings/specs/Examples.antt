@@ -21,12 +21,12 @@ use Rattle.listings.specs.Inspect as Inspect
 use Rattle.listings.specs.Inspect.{inspect-text}
 
 -- `2, 1 1 2, 2 2 1, 3, 1, 1 1 2 3 10 1, 4, 1 1 7 1 100 102, 3 2 7 1 115 115 1 1 12, 1 1 7 1 100 102, 9 1 1 5 2 7 9`,
--- with W1's 0 before its edits
+-- with W1's 0 before its edits, W3's second least time and W6's mark of 0 behind each track
 pub input : List ℕ
 input =
     2 ∷ 1 ∷ 1 ∷ 2 ∷ 2 ∷ 2 ∷ 1 ∷ 3 ∷ 1 ∷ 1 ∷ 1 ∷ 2 ∷ 3 ∷ 10 ∷ 10 ∷ 1 ∷ 0
-    ∷ 4 ∷ 1 ∷ 1 ∷ 7 ∷ 1 ∷ 100 ∷ 102 ∷ 3 ∷ 2 ∷ 7 ∷ 1 ∷ 115 ∷ 115 ∷ 1 ∷ 1 ∷ 12
-    ∷ 1 ∷ 1 ∷ 7 ∷ 1 ∷ 100 ∷ 102 ∷ 9 ∷ 1 ∷ 1 ∷ 5 ∷ 2 ∷ 7 ∷ 9 ∷ []
+    ∷ 4 ∷ 1 ∷ 1 ∷ 7 ∷ 1 ∷ 0 ∷ 100 ∷ 102 ∷ 3 ∷ 2 ∷ 7 ∷ 1 ∷ 0 ∷ 115 ∷ 115 ∷ 1 ∷ 1 ∷ 12
+    ∷ 1 ∷ 1 ∷ 7 ∷ 1 ∷ 0 ∷ 100 ∷ 102 ∷ 9 ∷ 1 ∷ 1 ∷ 5 ∷ 2 ∷ 7 ∷ 9 ∷ []
 
 -- in ASCII
 pub lines : List ℕ
@@ -51,7 +51,7 @@ rows =
     (input, lines)
     -- an empty file: R 1 0
     ∷ ([], 82 ∷ 32 ∷ 49 ∷ 32 ∷ 48 ∷ 10 ∷ [])
-    -- a byte too many: R 1 46
+    -- a byte too many: R 1 49
     ∷ (input ++ (0 ∷ []), line 82 (1 ∷ length input ∷ []))
     -- a line that ends where it starts, before any edit: R 4 9
     ∷ (bytes-of (loop-numbers ++ (0 ∷ [])), line 82 (4 ∷ first-line ∷ []))
@@ -68,15 +68,15 @@ listing-holds = refl
 
 -- `inspect`
 
--- `2, 1 1 2, 2 2 1, 3, 1, 1 1 2 3 10 1, 0, 3, 1 7 1 100 1 102 0 0 2 1 12, 2 7 1 130 0 130 0 1 1 0, 2 8 1 128 0 131 0 0
--- 0, 1, 1 1 5 2 7 9`: train 7 runs from area 1 to area 2, where train 8 stands on its track; train 9 of the connection
+-- the listing's network, and `3, 1 7 1 0 100 1 102 0 0 2 1 12, 2 7 1 0 130 0 130 0 1 1 0, 2 8 1 0 128 0 131 0 0 0, 1,
+-- 1 1 5 2 7 9`: train 7 runs from area 1 to area 2, where train 8 stands on its track; train 9 of the connection
 -- is missing
 pub inspect-input : List ℕ
 inspect-input =
     bytes-of net-numbers
-    ++ (3 ∷ 1 ∷ 7 ∷ 1 ∷ 100 ∷ 1 ∷ 102 ∷ 0 ∷ 0 ∷ 2 ∷ 1 ∷ 12
-    ∷ 2 ∷ 7 ∷ 1 ∷ 130 ∷ 1 ∷ 0 ∷ 130 ∷ 1 ∷ 0 ∷ 1 ∷ 1 ∷ 0
-    ∷ 2 ∷ 8 ∷ 1 ∷ 128 ∷ 1 ∷ 0 ∷ 131 ∷ 1 ∷ 0 ∷ 0 ∷ 0
+    ++ (3 ∷ 1 ∷ 7 ∷ 1 ∷ 0 ∷ 100 ∷ 1 ∷ 102 ∷ 0 ∷ 0 ∷ 2 ∷ 1 ∷ 12
+    ∷ 2 ∷ 7 ∷ 1 ∷ 0 ∷ 130 ∷ 1 ∷ 0 ∷ 130 ∷ 1 ∷ 0 ∷ 1 ∷ 1 ∷ 0
+    ∷ 2 ∷ 8 ∷ 1 ∷ 0 ∷ 128 ∷ 1 ∷ 0 ∷ 131 ∷ 1 ∷ 0 ∷ 0 ∷ 0
     ∷ 1 ∷ 1 ∷ 1 ∷ 5 ∷ 2 ∷ 7 ∷ 9 ∷ [])
 
 -- in ASCII. The first arrival has occurred and stands; train 7 then comes to station 2 at 102 + 12, which is 16 early
@@ -116,7 +116,7 @@ inspect-rows =
     ∷ (bytes-of (loop-numbers ++ (0 ∷ 0 ∷ [])), line 82 (4 ∷ first-line ∷ []))
     ∷ (bytes-of (loop-numbers ++ (0 ∷ 97 ∷ [])), line 82 (3 ∷ (size loop-numbers + 1) ∷ []))
     -- a visit on a track that its station lacks: R 7 8
-    ∷ (bytes-of (one-station 1 1 1 1 ++ (1 ∷ 1 ∷ 7 ∷ 2 ∷ 0 ∷ 0 ∷ 0 ∷ 0 ∷ 0 ∷ 0 ∷ 0 ∷ [])), line 82 (7 ∷ (size (one-station 1 1 1 1) + 1) ∷ []))
+    ∷ (bytes-of (one-station 1 1 1 1 ++ (1 ∷ 1 ∷ 7 ∷ 2 ∷ 0 ∷ 0 ∷ 0 ∷ 0 ∷ 0 ∷ 0 ∷ 0 ∷ 0 ∷ [])), line 82 (7 ∷ (size (one-station 1 1 1 1) + 1) ∷ []))
     -- as many bytes as may be, and one more: R 3 0, R 5 0
     ∷ (replicate 16384 0, 82 ∷ 32 ∷ 51 ∷ 32 ∷ 48 ∷ 10 ∷ [])
     ∷ (replicate 16385 0, 82 ∷ 32 ∷ 53 ∷ 32 ∷ 48 ∷ 10 ∷ [])

@@ -69,21 +69,21 @@ bytes-kept [] h = refl
 bytes-kept (n ∷ ns) h = let e : n % 256 ≡ n = omega (arith, h 0) in rw (e, bytes-kept ns (λ i. h (suc i)))
 
 -- bytes put one by one
-module _ (ns bs : List ℕ) (many : length ns ≡ 12) (long : length bs ≡ 12) where
-  pub bytes-next : (i b : ℕ) → i < 12 → take i bs ≡ take i (as-bytes ns) → b ≡ getD ns i 0 % 256 → take (i + 1) (set bs i b) ≡ take (i + 1) (as-bytes ns)
+module _ (ns bs : List ℕ) (many : length ns ≡ 13) (long : length bs ≡ 13) where
+  pub bytes-next : (i b : ℕ) → i < 13 → take i bs ≡ take i (as-bytes ns) → b ≡ getD ns i 0 % 256 → take (i + 1) (set bs i b) ≡ take (i + 1) (as-bytes ns)
   unfolding as-bytes
   bytes-next i b h e q =
       let l = length-map ns (λ (n : ℕ). n % 256) in
       rw (add-one i, take-suc-set bs i b (omega arith), take-suc (as-bytes ns) i 0 (omega arith), List·getD-map (λ (n : ℕ). n % 256) ns i 0, q, e)
 
-  pub bytes-all : (i : ℕ) → 12 ≤ i → take i bs ≡ take i (as-bytes ns) → bs ≡ as-bytes ns
+  pub bytes-all : (i : ℕ) → 13 ≤ i → take i bs ≡ take i (as-bytes ns) → bs ≡ as-bytes ns
   unfolding as-bytes
   bytes-all i h e =
       let l = length-map ns (λ (n : ℕ). n % 256) in
       sym (take-all i bs (omega arith)) ∙ e ∙ take-all i (as-bytes ns) (omega arith)
 
 -- what is made of a row that is read behind another
-module _ {A : Type 0} (make : List ℕ → A) (rs : List Range) (low : T (from-one rs)) (small : T (of-bytes rs)) (pads : (ns : List ℕ) → make (padded 12 0 ns) ≡ make ns)
+module _ {A : Type 0} (make : List ℕ → A) (rs : List Range) (low : T (from-one rs)) (small : T (of-bytes rs)) (pads : (ns : List ℕ) → make (padded 13 0 ns) ≡ make ns)
     (b : ℕ) (file : List ℕ) (at : ℕ) (l : List Range) (is : l ≡ above b rs) (r : RowRead) (e : r ≡ row-read (read (row l []) file at)) where
   raised : row rs (b ∷ []) ≡ row l []
   raised = above-row rs b low ∙ ap (λ (l : List Range). row l []) (sym is)
@@ -105,13 +105,13 @@ module _ {A : Type 0} (make : List ℕ → A) (rs : List Range) (low : T (from-o
 
 -- stations and lines
 
-pub station-padded : (ns : List ℕ) → station-of (padded 12 0 ns) ≡ station-of ns
+pub station-padded : (ns : List ℕ) → station-of (padded 13 0 ns) ≡ station-of ns
 unfolding station-of
-station-padded ns = simp (padded-at 12 ns)
+station-padded ns = simp (padded-at 13 ns)
 
-pub line-padded : (form : NetworkForm) (ns : List ℕ) → line-of form (padded 12 0 ns) ≡ line-of form ns
+pub line-padded : (form : NetworkForm) (ns : List ℕ) → line-of form (padded 13 0 ns) ≡ line-of form ns
 unfolding line-of
-line-padded form ns = simp (padded-at 12 ns)
+line-padded form ns = simp (padded-at 13 ns)
 
 -- the ranges of a line in every form
 pub line-low : (form : NetworkForm) → T (from-one (line-ranges form))
@@ -133,7 +133,7 @@ freight-low NetworkForm.TwoTimes = omega arith
 abbrev spans-before : ℕ → List Span
 spans-before b =
     record { lo = b + 1; hi = 32 } ∷ record { lo = 1; hi = 16 } ∷ record { lo = 1; hi = 16 } ∷ record { lo = 1; hi = 3 }
-    ∷ record { lo = 1; hi = 240 } ∷ record { lo = 1; hi = 240 } ∷ record { lo = 0; hi = 0 } ∷ record { lo = 0; hi = 0 } ∷ []
+    ∷ record { lo = 1; hi = 240 } ∷ record { lo = 1; hi = 240 } ∷ record { lo = 0; hi = 0 } ∷ record { lo = 0; hi = 0 } ∷ record { lo = 0; hi = 0 } ∷ []
 
 abbrev spans-with : ℕ → ℕ → Spans
 spans-with b at = record { count = at + 2; spans = set (spans-before b) (at + 1) (record { lo = 1; hi = 9 }) }

@@ -64,7 +64,7 @@ fn closure_floor(line: Line, start: Minute) -> Numbers
     Numbers {
         from: 0,
         to: 2,
-        values: [line.0 as u16, start.0, 0, 0, 0, 0, 0, 0, 0, 0, 0, 0],
+        values: [line.0 as u16, start.0, 0, 0, 0, 0, 0, 0, 0, 0, 0, 0, 0],
     }
 }
 

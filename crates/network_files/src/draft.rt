@@ -109,19 +109,19 @@ pub fn blank_network() -> Network
 }
 
 // The numbers of a row as bytes.
-fn narrowed(values: [u16; 12]) -> [u8; 12]
+fn narrowed(values: [u16; 13]) -> [u8; 13]
     ensures { λ r. ⌜ r ≡ as-bytes values ⌝ }
 {
-    let mut bytes: [u8; 12] = [0; 12];
+    let mut bytes: [u8; 13] = [0; 13];
     let mut i: usize = 0;
-    while i < 12 {
+    while i < 13 {
         bytes[i] = narrow(values[i]);
         i += 1;
     }
     bytes
 }
 
-fn station_from(v: [u8; 12]) -> StationRow
+fn station_from(v: [u8; 13]) -> StationRow
     ensures { λ r. ⌜ r ≡ station-of v ⌝ }
 {
     StationRow {
@@ -145,7 +145,7 @@ fn station_spans(before: u8) -> Spans
     let tracks = Span { lo: 1, hi: 8 };
     Spans {
         count: 3,
-        spans: [number, area, tracks, none, none, none, none, none],
+        spans: [number, area, tracks, none, none, none, none, none, none],
     }
 }
 
@@ -212,7 +212,7 @@ fn freight_at(form: NetworkForm) -> usize
     }
 }
 
-fn line_from(form: NetworkForm, v: [u8; 12]) -> LineRow
+fn line_from(form: NetworkForm, v: [u8; 13]) -> LineRow
     ensures { λ r. ⌜ r ≡ line-of form v ⌝ }
 {
     let freight = freight_at(form);
@@ -242,7 +242,7 @@ fn line_spans(form: NetworkForm, before: u8) -> Spans
     let end = Span { lo: 1, hi: 16 };
     let kind = Span { lo: 1, hi: 3 };
     let least = Span { lo: 1, hi: 240 };
-    let mut spans: [Span; 8] = [number, end, end, kind, least, least, none, none];
+    let mut spans: [Span; 9] = [number, end, end, kind, least, least, none, none, none];
     let freight = freight_at(form);
     let capacity = freight + 1;
     spans[capacity] = Span { lo: 1, hi: 9 };

@@ -21,7 +21,7 @@ use timetable::Output;
 // "(number, area, count of tracks 1..8)"
 fn put_station(out: &mut [u8], at: usize, r: StationRow) -> usize
     requires { ⌜ at ≤ 900000000 ⌝ }
-    ensures { λ q. ⌜ Places at (station-numbers r) (now (out .entry)) q (now (out .exit)) 36 ⌝ }
+    ensures { λ q. ⌜ Places at (station-numbers r) (now (out .entry)) q (now (out .exit)) 39 ⌝ }
 {
     let number = r.station.0 as u16;
     let area = r.area.0 as u16;
@@ -29,7 +29,7 @@ fn put_station(out: &mut [u8], at: usize, r: StationRow) -> usize
     let row = Numbers {
         from: 0,
         to: 3,
-        values: [number, area, tracks, 0, 0, 0, 0, 0, 0, 0, 0, 0],
+        values: [number, area, tracks, 0, 0, 0, 0, 0, 0, 0, 0, 0, 0],
     };
     put::put_row(out, at, row)
 }
@@ -37,7 +37,7 @@ fn put_station(out: &mut [u8], at: usize, r: StationRow) -> usize
 // "(number, first station, second station, kind, least running time, capacity 1..9)"; W3: "two, passenger first"
 fn put_line(out: &mut [u8], at: usize, r: LineRow) -> usize
     requires { ⌜ at ≤ 900000000 ⌝ }
-    ensures { λ q. ⌜ Places at (line-numbers newest r) (now (out .entry)) q (now (out .exit)) 36 ⌝ }
+    ensures { λ q. ⌜ Places at (line-numbers newest r) (now (out .entry)) q (now (out .exit)) 39 ⌝ }
 {
     let number = r.line.0 as u16;
     let first = r.first.0 as u16;
@@ -62,6 +62,7 @@ fn put_line(out: &mut [u8], at: usize, r: LineRow) -> usize
             0,
             0,
             0,
+            0,
         ],
     };
     put::put_row(out, at, row)
@@ -70,20 +71,20 @@ fn put_line(out: &mut [u8], at: usize, r: LineRow) -> usize
 // "starts are 0..2879, ends 1..2880"
 fn put_closure(out: &mut [u8], at: usize, c: Closure) -> usize
     requires { ⌜ at ≤ 900000000 ⌝ }
-    ensures { λ q. ⌜ Places at (closure-numbers c) (now (out .entry)) q (now (out .exit)) 36 ⌝ }
+    ensures { λ q. ⌜ Places at (closure-numbers c) (now (out .entry)) q (now (out .exit)) 39 ⌝ }
 {
     let line = c.line.0 as u16;
     let row = Numbers {
         from: 0,
         to: 3,
-        values: [line, c.start.0, c.end.0, 0, 0, 0, 0, 0, 0, 0, 0, 0],
+        values: [line, c.start.0, c.end.0, 0, 0, 0, 0, 0, 0, 0, 0, 0, 0],
     };
     put::put_row(out, at, row)
 }
 
 fn put_stations(out: &mut [u8], at: usize, n: Network) -> usize
     requires { ⌜ at ≤ 800000000 ⌝ }
-    ensures { λ q. ⌜ Places at (flatMap station-numbers (station-rows n)) (now (out .entry)) q (now (out .exit)) 576 ⌝ }
+    ensures { λ q. ⌜ Places at (flatMap station-numbers (station-rows n)) (now (out .entry)) q (now (out .exit)) 624 ⌝ }
 {
     let rows = n.stations;
     let k = in_use(n.stationcount, 16);
@@ -99,7 +100,7 @@ fn put_stations(out: &mut [u8], at: usize, n: Network) -> usize
 
 fn put_lines(out: &mut [u8], at: usize, n: Network) -> usize
     requires { ⌜ at ≤ 800000000 ⌝ }
-    ensures { λ q. ⌜ Places at (flatMap (line-numbers newest) (line-rows n)) (now (out .entry)) q (now (out .exit)) 1152 ⌝ }
+    ensures { λ q. ⌜ Places at (flatMap (line-numbers newest) (line-rows n)) (now (out .entry)) q (now (out .exit)) 1248 ⌝ }
 {
     let rows = n.lines;
     let k = in_use(n.linecount, 32);
@@ -115,7 +116,7 @@ fn put_lines(out: &mut [u8], at: usize, n: Network) -> usize
 
 fn put_closures(out: &mut [u8], at: usize, n: Network) -> usize
     requires { ⌜ at ≤ 800000000 ⌝ }
-    ensures { λ q. ⌜ Places at (flatMap closure-numbers (closure-rows n)) (now (out .entry)) q (now (out .exit)) 1152 ⌝ }
+    ensures { λ q. ⌜ Places at (flatMap closure-numbers (closure-rows n)) (now (out .entry)) q (now (out .exit)) 1248 ⌝ }
 {
     let rows = n.closures;
     let k = in_use(n.closurecount, 32);
@@ -132,7 +133,7 @@ fn put_closures(out: &mut [u8], at: usize, n: Network) -> usize
 // Rows with their count before them.
 fn put_counted_stations(out: &mut [u8], at: usize, n: Network) -> usize
     requires { ⌜ at ≤ 700000000 ⌝ }
-    ensures { λ q. ⌜ Places at (n .stationcount ∷ flatMap station-numbers (station-rows n)) (now (out .entry)) q (now (out .exit)) 579 ⌝ }
+    ensures { λ q. ⌜ Places at (n .stationcount ∷ flatMap station-numbers (station-rows n)) (now (out .entry)) q (now (out .exit)) 627 ⌝ }
 {
     let rows = put::put_number(out, at, n.stationcount as u16);
     put_stations(out, rows, n)
@@ -140,7 +141,7 @@ fn put_counted_stations(out: &mut [u8], at: usize, n: Network) -> usize
 
 fn put_counted_lines(out: &mut [u8], at: usize, n: Network) -> usize
     requires { ⌜ at ≤ 700000000 ⌝ }
-    ensures { λ q. ⌜ Places at (n .linecount ∷ flatMap (line-numbers newest) (line-rows n)) (now (out .entry)) q (now (out .exit)) 1155 ⌝ }
+    ensures { λ q. ⌜ Places at (n .linecount ∷ flatMap (line-numbers newest) (line-rows n)) (now (out .entry)) q (now (out .exit)) 1251 ⌝ }
 {
     let rows = put::put_number(out, at, n.linecount as u16);
     put_lines(out, rows, n)
@@ -148,7 +149,7 @@ fn put_counted_lines(out: &mut [u8], at: usize, n: Network) -> usize
 
 fn put_counted_closures(out: &mut [u8], at: usize, n: Network) -> usize
     requires { ⌜ at ≤ 700000000 ⌝ }
-    ensures { λ q. ⌜ Places at (n .closurecount ∷ flatMap closure-numbers (closure-rows n)) (now (out .entry)) q (now (out .exit)) 1155 ⌝ }
+    ensures { λ q. ⌜ Places at (n .closurecount ∷ flatMap closure-numbers (closure-rows n)) (now (out .entry)) q (now (out .exit)) 1251 ⌝ }
 {
     let rows = put::put_number(out, at, n.closurecount as u16);
     put_closures(out, rows, n)

@@ -19,13 +19,14 @@ use Rattle.page.specs.Types.{InLink, OutLink, Connection}
 use Rattle.page.specs.Pages as Pages
 use Rattle.page.specs.Pages.{encode-page, decode-page, good-page}
 
--- train 7 on track 1 from 100, arrived, to 102, pending, with an out-link to station 2 by line 1 that takes 12 minutes;
--- a connection of 5 minutes of trains 7 and 300
+-- train 7 on track 1, not marked, from 100, arrived, to 102, pending, with an out-link to station 2 by line 1 that
+-- takes 12 minutes; a connection of 5 minutes of trains 7 and 300
 pub visit : Entry
 visit = record {
   train = record { 0 = 7 };
   visit = record {
     track = record { 0 = 1 };
+    marked = false;
     arrival = record { 0 = 100 };
     arrived = true;
     departure = record { 0 = 102 };

@@ -1,6 +1,7 @@
 // The expected times of one visit, by value. Document 01, "Projection and tally": "An occurred time stands (the first
 // arrival too). Otherwise departure is the arrival if the train doesn't stop, else the larger of planned departure and
-// arrival + 1".
+// arrival + 1". Document 02, W6: "where only the mark makes a stop, projected departure is the larger of planned
+// departure and arrival."
 ghost use mathlib.Core.Path.{_≡_};
 ghost use Prim.Native.Nat.{_+_, _≤_, max};
 ghost use lib.IntN.{subℕ};
@@ -49,8 +50,11 @@ fn expected_departure(v: Visit, a: u32) -> u32
     if v.departed {
         return minutes(v.departure);
     }
-    if visits::does_stop(v) {
+    if visits::stops_anyway(v) {
         return larger(minutes(v.departure), a + 1);
+    }
+    if v.marked {
+        return larger(minutes(v.departure), a);
     }
     a
 }

@@ -9,11 +9,12 @@ use crate::sorts::Track;
 use crate::sorts::Train;
 use crate::visit::run_valid;
 
-// "(s, t, track, arrival, departure)"
+// "(s, t, track, arrival, departure)", and a stop mark "after its track in every edit that carries a track"
 pub struct Plan {
     pub station: Station,
     pub train: Train,
     pub track: Track,
+    pub marked: bool,
     pub arrival: Minute,
     pub departure: Minute,
 }

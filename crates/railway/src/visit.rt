@@ -31,9 +31,11 @@ pub enum OutLink {
     To(Outward),
 }
 
-// "It has a track; arrival and departure, each a time and a status, pending (0) or occurred (1)."
+// "It has a track; arrival and departure, each a time and a status, pending (0) or occurred (1)." Document 02, W6: "A
+// visit gains a stop mark, 0 or 1, after its track".
 pub struct Visit {
     pub track: Track,
+    pub marked: bool,
     pub arrival: Minute,
     pub arrived: bool,
     pub departure: Minute,

@@ -94,6 +94,7 @@ pub visit-back : (t : Train) (v : Visit) → T (named v) → decode-visit (visit
 unfolding decode-visit visit-bytes named
 visit-back t v n = λ k. record {
   track = v .track;
+  marked = flag-back (v .marked) k;
   arrival = record { 0 = word-back (v .arrival .0) k };
   arrived = flag-back (v .arrived) k;
   departure = record { 0 = word-back (v .departure .0) k };

@@ -51,7 +51,7 @@ unfoldable pub named : Visit → Bool
 named v = named-in (v .inward) && named-out (v .outward)
 
 -- a visit: train(2) track(1) arrival(2) arrived(1) departure(2) departed(1) in: station(1) line(1) out: station(1)
--- line(1) run(1), two zeros
+-- line(1) run(1), mark(1), a zero
 unfoldable pub visit-bytes : Train → Visit → List ℕ
 visit-bytes t v =
     low (t .0) ∷ high (t .0) ∷ v .track .0
@@ -59,7 +59,7 @@ visit-bytes t v =
     ∷ low (v .departure .0) ∷ high (v .departure .0) ∷ flag (v .departed)
     ∷ in-station (v .inward) ∷ in-line (v .inward)
     ∷ out-station (v .outward) ∷ out-line (v .outward) ∷ out-run (v .outward)
-    ∷ 0 ∷ 0 ∷ []
+    ∷ flag (v .marked) ∷ 0 ∷ []
 
 unfoldable pub encode-entry : Entry → List ℕ
 encode-entry e = visit-bytes (e .train) (e .visit)
@@ -67,6 +67,7 @@ encode-entry e = visit-bytes (e .train) (e .visit)
 unfoldable pub decode-visit : List ℕ → Visit
 decode-visit b = record {
   track = record { 0 = getD b 2 0 };
+  marked = occurred (getD b 14 0);
   arrival = record { 0 = word b 3 };
   arrived = occurred (getD b 5 0);
   departure = record { 0 = word b 6 };

@@ -110,7 +110,7 @@ pub fn visit_record(train: Train, visit: Visit) -> [u8; 16]
         out_station(outward),
         out_line(outward),
         out_run(outward),
-        0,
+        bytes::status_byte(visit.marked),
         0,
     ]
 }
@@ -128,6 +128,7 @@ fn visit_in_any(r: &[u8]) -> Visit
 {
     Visit {
         track: Track(bytes::byte_at(r, 2)),
+        marked: bytes::status_in(bytes::byte_at(r, 14)),
         arrival: Minute(bytes::word_at(r, 3)),
         arrived: bytes::status_in(bytes::byte_at(r, 5)),
         departure: Minute(bytes::word_at(r, 6)),
@@ -155,6 +156,7 @@ fn visit_in_whole(r: &[u8]) -> Visit
 {
     Visit {
         track: Track(r[2]),
+        marked: bytes::status_in(r[14]),
         arrival: Minute(word_of(r[3], r[4])),
         arrived: bytes::status_in(r[5]),
         departure: Minute(word_of(r[6], r[7])),

@@ -42,14 +42,14 @@ module _ (rise : Bool) (before : ℕ) (floor file : List ℕ) (at : ℕ) where
 abbrev as-train : ℕ → Train
 as-train t = record { 0 = t }
 
-pub group-padded : (ns : List ℕ) → group-of (padded 12 0 ns) ≡ group-of ns
+pub group-padded : (ns : List ℕ) → group-of (padded 13 0 ns) ≡ group-of ns
 unfolding group-of packed
 group-padded ns = rw (at 0, at 1, at 2, at 3)
   where
-    at : (i : ℕ) → getD (map as-train (padded 12 0 ns)) i (record { 0 = 0 }) ≡ getD (map as-train ns) i (record { 0 = 0 })
+    at : (i : ℕ) → getD (map as-train (padded 13 0 ns)) i (record { 0 = 0 }) ≡ getD (map as-train ns) i (record { 0 = 0 })
     at i =
-        List·getD-map as-train (padded 12 0 ns) i 0
-        ∙ ap as-train (padded-at 12 ns i)
+        List·getD-map as-train (padded 13 0 ns) i 0
+        ∙ ap as-train (padded-at 13 ns i)
         ∙ sym (List·getD-map as-train ns i 0)
 
 pub group-places : (v : List ℕ) → group-of v ≡ record { a = record { 0 = getD v 0 0 }; b = record { 0 = getD v 1 0 }; c = record { 0 = getD v 2 0 }; d = record { 0 = getD v 3 0 } }
@@ -59,9 +59,9 @@ group-places v = rw (at 0, at 1, at 2, at 3)
     at : (i : ℕ) → getD (map as-train v) i (record { 0 = 0 }) ≡ record { 0 = getD v i 0 }
     at i = List·getD-map as-train v i 0
 
-pub relation-padded : (kind i : ℕ) (ns : List ℕ) → relation-of kind i (padded 12 0 ns) ≡ relation-of kind i ns
+pub relation-padded : (kind i : ℕ) (ns : List ℕ) → relation-of kind i (padded 13 0 ns) ≡ relation-of kind i ns
 unfolding relation-of pair-of
-relation-padded kind i ns = rw (group-padded ns, padded-at 12 ns 0, padded-at 12 ns 1)
+relation-padded kind i ns = rw (group-padded ns, padded-at 13 ns 0, padded-at 13 ns 1)
 
 -- the fields
 

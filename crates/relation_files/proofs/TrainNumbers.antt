@@ -29,11 +29,11 @@ one-more ns t k h = go (present t)
 
 -- one train more in a row that holds these numbers
 module _ (f : Numbers) (t : Train) (ns : List ℕ) (e : f ≡ row-of ns) where
-  pub train-more : length ns < 12 → 0 < t .0 → record { from = f .from; to = f .to + 1; values = set (f .values) (f .to) (t .0) } ≡ row-of (ns ++ one t)
+  pub train-more : length ns < 13 → 0 < t .0 → record { from = f .from; to = f .to + 1; values = set (f .values) (f .to) (t .0) } ≡ row-of (ns ++ one t)
   unfolding row-of keep
   train-more room p =
       ap (λ (g : Numbers). record { from = g .from; to = g .to + 1; values = set (g .values) (g .to) (t .0) }) e
-      ∙ rw (lt-ltb 0 (t .0) p, padded-next 12 0 ns (length ns) (t .0) refl room, length-append ns (t .0 ∷ []))
+      ∙ rw (lt-ltb 0 (t .0) p, padded-next 13 0 ns (length ns) (t .0) refl room, length-append ns (t .0 ∷ []))
 
   pub train-none : ¬ (0 < t .0) → f ≡ row-of (ns ++ one t)
   unfolding keep

@@ -38,10 +38,10 @@ fn least_train(rise: bool, before: u16) -> u32
 
 // So many trains.
 fn trains(file: &[u8], at: usize, rise: bool, count: usize, floor: Numbers) -> RowRead
-    requires { ⌜ count ≤ 12 ⌝ }
+    requires { ⌜ count ≤ 13 ⌝ }
     ensures { λ r. ⌜ r ≡ row-read (read (trains-format rise count 0 (in-use floor)) (now (file .entry)) at) ⌝ }
 {
-    let mut values: [u16; 12] = [0; 12];
+    let mut values: [u16; 13] = [0; 13];
     let mut place = at;
     let mut before: u16 = 0;
     let mut left = floor;
@@ -66,7 +66,7 @@ fn trains(file: &[u8], at: usize, rise: bool, count: usize, floor: Numbers) -> R
     }
 }
 
-fn group_from(v: [u16; 12]) -> Trains
+fn group_from(v: [u16; 13]) -> Trains
     ensures { λ r. ⌜ r ≡ group-of v ⌝ }
 {
     Trains {
@@ -77,7 +77,7 @@ fn group_from(v: [u16; 12]) -> Trains
     }
 }
 
-fn relation_from(kind: u16, i: u16, v: [u16; 12]) -> Relation
+fn relation_from(kind: u16, i: u16, v: [u16; 13]) -> Relation
     ensures { λ r. ⌜ (i < 256 → r ≡ relation-of kind i v) ⌝ }
 {
     if kind == 1 {
@@ -115,7 +115,7 @@ fn relation_trains(
     count: u16,
     floor: Numbers,
 ) -> RelationRead
-    requires { ⌜ count ≤ 12 ⌝ }
+    requires { ⌜ count ≤ 13 ⌝ }
     ensures { λ r. ⌜ (s ≤ 16 → interval ≤ 240 → relation-outcome r ≡ read (relation-trains s kind interval count (in-use floor)) (now (file .entry)) at) ⌝ }
 {
     let found = trains(file, at, kind != 3, count as usize, floor);

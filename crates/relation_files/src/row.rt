@@ -17,12 +17,12 @@ use railway::sorts::Train;
 
 // One train more, if the place holds one.
 fn with_train(f: Numbers, t: Train) -> Numbers
-    ensures { λ r. ⌜ ((ns : List ℕ) → f ≡ row-of ns → length ns < 12 → r ≡ row-of (ns ++ map (λ u. u .0) (keep present (t ∷ [])))) ⌝ }
+    ensures { λ r. ⌜ ((ns : List ℕ) → f ≡ row-of ns → length ns < 13 → r ≡ row-of (ns ++ map (λ u. u .0) (keep present (t ∷ [])))) ⌝ }
 {
     let to = f.to;
     let mut values = f.values;
     if 0 < t.0 {
-        if to < 12 {
+        if to < 13 {
             values[to] = t.0;
             return Numbers {
                 from: f.from,
@@ -42,7 +42,21 @@ fn group_fields(lead: u16, s: Station, kind: u16, i: u8, ts: Trains) -> Numbers
     let head = Numbers {
         from: 0,
         to: 5,
-        values: [lead, s.0 as u16, kind, i as u16, count, 0, 0, 0, 0, 0, 0, 0],
+        values: [
+            lead,
+            s.0 as u16,
+            kind,
+            i as u16,
+            count,
+            0,
+            0,
+            0,
+            0,
+            0,
+            0,
+            0,
+            0,
+        ],
     };
     let one = with_train(head, ts.a);
     let two = with_train(one, ts.b);
@@ -69,6 +83,7 @@ pub fn led_numbers(lead: u16, x: StationRelation) -> Numbers
                 2,
                 p.arriver.0,
                 p.departer.0,
+                0,
                 0,
                 0,
                 0,

@@ -7,10 +7,11 @@ use native.Mathlib.Omega.{arith}
 use lib.ListN.{length}
 use Rattle.network.specs.Networks.{network-refusal}
 use Rattle.timetable.specs.Formats.{Outcome, accepted, behind, _and-then_, done, read-file, bytes-of, Placed, placed}
+use Rattle.timetable.specs.FileForms.{newest-form}
 use Rattle.timetable.specs.NetworkFile.{newest, Listed, network-format, network-of, network-fault, unless-fault, network-numbers}
 use Rattle.timetable.specs.Machine.{Timetable}
 use Rattle.timetable.specs.Good.{Whole}
-use Rattle.timetable.specs.TimetableFile.{Entries, timetable-format, timetable-of, timetable-numbers}
+use Rattle.timetable.specs.TimetableFile.{Entries, timetable-format, timetable-of, timetable-numbers-as, timetable-numbers}
 use Rattle.timetable.specs.InspectFile.{Inspection, Both, inspect-format, inspection, read-inspect}
 use Rattle.timetable.proofs.OutcomeLaws.{behind-taken, fault-free, fault-taken, Faultless, fault-none, none-fault}
 use Rattle.roundtrips.specs.Types.{Network}
@@ -19,7 +20,7 @@ use Rattle.roundtrips.proofs.Walks.{walks}
 use Rattle.roundtrips.proofs.WalkLaws.{span, walks-then, then-walks, walks-made, made-walks, file-read, file-walks}
 use Rattle.roundtrips.proofs.NetworkTrips.{listed-good, of-blank, head-walks, listing, listing-network, listing-faultless, walks-listing}
 use Rattle.roundtrips.proofs.TimetableWalks.{all-visits, all-relations, file-entries, walks-timetable, timetable-walks}
-use Rattle.roundtrips.proofs.TimetableTrips.{written-read, entries-written}
+use Rattle.roundtrips.proofs.TimetableTrips.{said-all, timetable-said-newest, written-read, entries-written}
 use Rattle.roundtrips.proofs.WrittenTables.{visits-in, relations-in}
 
 -- the value of the format
@@ -34,20 +35,20 @@ module _ (n : Network) (m : Timetable) (g : network-refusal n ≡ 0) (u : Unused
   start = 0 + span (network-numbers n)
 
   abbrev entries : Entries
-  entries = file-entries start (all-visits n m) (all-relations n m)
+  entries = file-entries newest-form start (all-visits n m) (all-relations n m)
 
-  walks-entries : walks (placed timetable-format) start (timetable-numbers n m) (at-place start entries)
-  unfolding placed walks timetable-numbers
+  walks-entries : walks (placed (timetable-format newest-form)) start (timetable-numbers n m) (at-place start entries)
+  unfolding placed walks timetable-numbers-as
   walks-entries =
-      walks-made (at-place start) timetable-format start (timetable-numbers n m) entries
-      (walks-timetable start (all-visits n m) (all-relations n m) (visits-in n g m w) (relations-in n g m w))
+      walks-made (at-place start) (timetable-format newest-form) start (timetable-numbers n m) entries
+      (walks-timetable newest-form start (all-visits n m) (all-relations n m) (visits-in n g m w) (said-all newest-form n m (timetable-said-newest m)) (relations-in n g m w))
 
   walks-both : walks inspect-format 0 (network-numbers n ++ timetable-numbers n m) (both-of (listing n g u 0) (at-place start entries))
   unfolding inspect-format
   walks-both =
       let x = listing n g u 0 in
-      walks-then network-format (λ x. placed timetable-format and-then (λ es. done (both-of x es))) 0 (network-numbers n) (timetable-numbers n m) x _ (walks-listing n g u 0)
-      (walks-made (both-of x) (placed timetable-format) start (timetable-numbers n m) _ walks-entries)
+      walks-then network-format (λ x. placed (timetable-format newest-form) and-then (λ es. done (both-of x es))) 0 (network-numbers n) (timetable-numbers n m) x _ (walks-listing n g u 0)
+      (walks-made (both-of x) (placed (timetable-format newest-form)) start (timetable-numbers n m) _ walks-entries)
 
   -- what the entries make, under the network that is read
   inspected-back : (next : ℕ)
@@ -56,7 +57,7 @@ module _ (n : Network) (m : Timetable) (g : network-refusal n ≡ 0) (u : Unused
   inspected-back next =
       let z : start ≡ span (network-numbers n) = omega arith in
       ap (λ (k : Network). behind (timetable-of k entries next) (λ m next. accepted (record { network = k; first = start; timetable = m }) next)) (listing-network n g u 0)
-      ∙ ap (λ (o : Outcome Timetable). behind o (λ m next. accepted (record { network = n; first = start; timetable = m }) next)) (written-read n g m w start next)
+      ∙ ap (λ (o : Outcome Timetable). behind o (λ m next. accepted (record { network = n; first = start; timetable = m }) next)) (written-read newest-form n g m w start next)
       ∙ ap (λ (k : ℕ). accepted (record { network = n; first = k; timetable = m }) next) z
 
 -- what an accepted input gives
@@ -64,26 +65,26 @@ taken : (file : List ℕ) (x : Both) (p : ℕ) (y : Inspection) (next : ℕ) (ns
     → inspection x p ≡ accepted y next → InspectRead file y next
 unfolding inspect-format inspection placed walks
 taken file x p y next ns w b e f v =
-    let s = then-walks network-format (λ x. placed timetable-format and-then (λ es. done (both-of x es))) 0 ns x w in
-    let (es, a, q) = made-walks {B = Both} (both-of (s .value)) (placed timetable-format) (0 + span (s .before)) (s .behind) x (s .second) in
-    let (t, c, r) = made-walks {B = Placed Entries} (at-place (0 + span (s .before))) timetable-format (0 + span (s .before)) (s .behind) es a in
+    let s = then-walks network-format (λ x. placed (timetable-format newest-form) and-then (λ es. done (both-of x es))) 0 ns x w in
+    let (es, a, q) = made-walks {B = Both} (both-of (s .value)) (placed (timetable-format newest-form)) (0 + span (s .before)) (s .behind) x (s .second) in
+    let (t, c, r) = made-walks {B = Placed Entries} (at-place (0 + span (s .before))) (timetable-format newest-form) (0 + span (s .before)) (s .behind) es a in
     let i : s .value ≡ x .listed = ap (λ (y : Both). y .listed) q in
     let j : t ≡ x .entries .entry = ap (λ (y : Placed Entries). y .entry) r ∙ ap (λ (y : Both). y .entries .entry) q in
     let l : 0 + span (s .before) ≡ x .entries .place = ap (λ (y : Placed Entries). y .place) r ∙ ap (λ (y : Both). y .entries .place) q in
     let (numbers, h) = head-walks 0 (s .before) (x .listed) (subst (walks network-format 0 (s .before)) i (s .first)) in
     let good = listed-good (x .listed) newest h f in
-    let walk = subst (walks timetable-format (0 + span (s .before)) (s .behind)) j c in
+    let walk = subst (walks (timetable-format newest-form) (0 + span (s .before)) (s .behind)) j c in
     let (m, o, made, is) = behind-taken (timetable-of (network-of (x .listed)) (x .entries .entry) p)
     (λ m next. accepted (record { network = network-of (x .listed); first = x .entries .place; timetable = m }) next) y next v in
-    let (d, whole, z) = entries-written (network-of (x .listed)) (x .entries .entry) p m o good (s .behind) (timetable-walks (0 + span (s .before)) (s .behind) (x .entries .entry) walk) made in
+    let (given, z) = entries-written newest-form (network-of (x .listed)) (x .entries .entry) p m o good (s .behind) (timetable-walks newest-form (0 + span (s .before)) (s .behind) (x .entries .entry) walk) made in
     let same : record { network = network-of (x .listed); first = x .entries .place; timetable = m } ≡ y = cc in
     let last : o ≡ next = cc in
     subst (λ (y : Inspection). InspectRead file y next) same (record {
-      file-is = b ∙ ap bytes-of (s .whole ∙ ap₂ _++_ numbers d);
+      file-is = b ∙ ap bytes-of (s .whole ∙ ap₂ _++_ numbers (given .numbers));
       end = sym last ∙ sym z ∙ e ∙ ap length (sym b);
       good = good;
       unused = of-blank (x .listed);
-      whole = whole;
+      whole = given .whole;
       first = omega (arith, l, ap span numbers);
     })
 

@@ -2,6 +2,7 @@ pub mod ListLaws
 pub mod Walks
 pub mod WalkLaws
 pub mod RowsWalked
+pub mod MarkLaws
 pub mod RelationWalks
 pub mod EditWalks
 pub mod EditTrips
@@ -18,3 +19,4 @@ pub mod WrittenTables
 pub mod ReadTables
 pub mod TimetableTrips
 pub mod InspectTrips
+pub mod EarlierTrips

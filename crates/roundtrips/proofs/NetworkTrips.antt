@@ -20,6 +20,7 @@ use Rattle.network.specs.Networks.{stations-in-range, lines-in-range, closures-
 use Rattle.network.proofs.NetworkLaws.{NetworkFacts, network-facts}
 use Rattle.timetable.specs.declared.NetworkForm.{NetworkForm}
 use Rattle.timetable.specs.Formats.{Outcome, accepted, behind, _and-then_, done, read-file, bytes-of, Placed}
+use Rattle.timetable.specs.FileForms.{newest-form}
 use Rattle.timetable.specs.NetworkFile.{newest, line-numbers, closure-numbers, Rows, Listed, network-format-as, network-format, network-with, rows-in, rows-listed, network-of, unended, unjoined, unlisted, network-fault}
 use Rattle.timetable.specs.NetworkFile.{unless-fault, read-network-as, read-network, network-numbers-as, network-numbers}
 use Rattle.timetable.specs.EditsFile.{edits-format, edits-numbers, Shift, Input, shift-format, read-shift}
@@ -31,7 +32,7 @@ use Rattle.timetable.proofs.OutcomeLaws.{behind-taken, fault-free, fault-taken,
 use Rattle.roundtrips.proofs.WalkLaws.{span, walks-then, then-walks, walks-made, made-walks, file-read, file-walks}
 use Rattle.roundtrips.proofs.RowsWalked.{in-test, test-in, most-test, test-most, values-entries}
 use Rattle.roundtrips.proofs.NetworkWalks.{station-number, line-number, line-fits, fits-ok, rows-of, rows-numbers, closures-of, RowsIn, lines-at, closures-at, listed-at, walks-network, network-walks}
-use Rattle.roundtrips.proofs.EditTrips.{walks-edits-format, edits-format-walks}
+use Rattle.roundtrips.proofs.EditTrips.{edits-said-newest, walks-edits-format, edits-format-walks}
 
 -- the rows of a network made of rows
 module _ (x : Rows) where
@@ -251,24 +252,24 @@ abbrev shift-of : Input → Shift
 shift-of x = record { network = network-of (x .listed); edits = x .edits }
 
 pub walks-shift : (n : Network) (g : network-refusal n ≡ 0) (u : UnusedBlank n) (es : List Edit) → length es ≤ 1000 → T (every edit-ok es)
-    → walks shift-format 0 (network-numbers n ++ edits-numbers es)
+    → walks shift-format 0 (network-numbers n ++ edits-numbers newest-form es)
     (input (listing n g u 0) (record { place = 0 + span (network-numbers n) + width (length es); entry = es }))
 unfolding shift-format
 walks-shift n g u es h t =
     let x = listing n g u 0 in
-    walks-then network-format (λ x. edits-format and-then (λ es. done (input x es))) 0 (network-numbers n) (edits-numbers es) x _ (walks-listing n g u 0)
-    (walks-made (input x) edits-format (0 + span (network-numbers n)) (edits-numbers es) _ (walks-edits-format (0 + span (network-numbers n)) es h t))
+    walks-then network-format (λ x. edits-format newest-form and-then (λ es. done (input x es))) 0 (network-numbers n) (edits-numbers newest-form es) x _ (walks-listing n g u 0)
+    (walks-made (input x) (edits-format newest-form) (0 + span (network-numbers n)) (edits-numbers newest-form es) _ (walks-edits-format newest-form (0 + span (network-numbers n)) es h t (edits-said-newest es)))
 
 pub shift-trip : ShiftRoundTrip
 unfolding read-shift behind shift-format
 shift-trip = record {
   back = λ n es g u h t.
       let v = input (listing n g u 0) (record { place = 0 + span (network-numbers n) + width (length es); entry = es }) in
-      let e = file-read shift-format (network-numbers n ++ edits-numbers es) v (walks-shift n g u es h t) in
+      let e = file-read shift-format (network-numbers n ++ edits-numbers newest-form es) v (walks-shift n g u es h t) in
       let z : 0 + span (network-numbers n) + width (length es) ≡ span (network-numbers n) + width (length es) = omega arith in
       ap (λ (o : Outcome Input). behind o (λ x next. unless-fault (network-fault (x .listed)) (accepted (shift-of x) next))) e
-      ∙ fault-free (network-fault (listing n g u 0)) (accepted (shift-of v) (span (network-numbers n ++ edits-numbers es))) (fault-none (listing n g u 0) (listing-faultless n g u 0))
-      ∙ ap₂ (λ (m : Network) (k : ℕ). accepted (record { network = m; edits = record { place = k; entry = es } }) (span (network-numbers n ++ edits-numbers es))) (listing-network n g u 0) z;
+      ∙ fault-free (network-fault (listing n g u 0)) (accepted (shift-of v) (span (network-numbers n ++ edits-numbers newest-form es))) (fault-none (listing n g u 0) (listing-faultless n g u 0))
+      ∙ ap₂ (λ (m : Network) (k : ℕ). accepted (record { network = m; edits = record { place = k; entry = es } }) (span (network-numbers n ++ edits-numbers newest-form es))) (listing-network n g u 0) z;
   only = λ file y next s e.
       let (x, p, r, v) = behind-taken (read-file shift-format file) (λ x next. unless-fault (network-fault (x .listed)) (accepted (shift-of x) next)) y next e in
       let (j, t) = fault-taken (network-fault (x .listed)) (accepted (shift-of x) p) y next v in
@@ -281,10 +282,10 @@ shift-trip = record {
     taken : (file : List ℕ) (x : Input) (next : ℕ) (ns : List ℕ) → walks shift-format 0 ns x → file ≡ bytes-of ns → next ≡ span ns → Faultless (x .listed)
         → ShiftRead file (shift-of x) next
     taken file x next ns w b e j =
-        let s = then-walks network-format (λ x. edits-format and-then (λ es. done (input x es))) 0 ns x w in
-        let (es, v, q) = made-walks (input (s .value)) edits-format (0 + span (s .before)) (s .behind) x (s .second) in
+        let s = then-walks network-format (λ x. edits-format newest-form and-then (λ es. done (input x es))) 0 ns x w in
+        let (es, v, q) = made-walks (input (s .value)) (edits-format newest-form) (0 + span (s .before)) (s .behind) x (s .second) in
         let (y, i) = head-walks 0 (s .before) (s .value) (s .first) in
-        let (l, h, t, m) = edits-format-walks (0 + span (s .before)) (s .behind) es v in
+        let (l, h, t, u, m) = edits-format-walks newest-form (0 + span (s .before)) (s .behind) es v in
         subst (λ (x : Input). ShiftRead file (shift-of x) next) q (record {
           file-is = b ∙ ap bytes-of (s .whole ∙ ap₂ _++_ y l);
           end = e ∙ ap length (sym b);

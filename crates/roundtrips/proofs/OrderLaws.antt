@@ -11,17 +11,18 @@ use lib.ListN.{length}
 use borrow.Author.Tests.{eqb-true, eqb-false, eq-eqb, ne-eqb}
 use Rattle.base.specs.Choice.{if_then_else_}
 use Rattle.base.specs.Lists.{every, each-two, below}
-use Rattle.base.proofs.Tests.{T-false, parts, every-head, every-tail, every-cons}
+use Rattle.base.proofs.Tests.{T-false, and-l, and-r, parts, every-head, every-tail, every-cons, every-weaker, every-both}
 use Rattle.base.proofs.Sorted.{two-head, two-tail, two-step, below-smaller, below-equal, below-cases, below-itself, below-trans}
 use Rattle.railway.specs.Relations.{relation-ok, key}
 use Rattle.railway.specs.Edits.{station-relation-ok}
+use Rattle.timetable.specs.declared.FileForm.{FileForm}
 use Rattle.timetable.specs.Formats.{least, floor-after}
 use Rattle.timetable.specs.EditsFile.{station-relation-numbers}
 use Rattle.timetable.specs.TimetableFile.{StationVisit}
 use Rattle.roundtrips.specs.Types.{StationRelation}
 use Rattle.roundtrips.proofs.RowsWalked.{Over, over-none, Chain}
 use Rattle.roundtrips.proofs.RelationWalks.{relation-numbered, unused, StationRelationFits}
-use Rattle.roundtrips.proofs.VisitWalks.{visit-row, visit-ok, VisitFits}
+use Rattle.roundtrips.proofs.VisitWalks.{visit-row, visit-ok, said, visit-fits, VisitFits}
 
 -- one number of the floor, and then the next
 module _ (b c : ℕ) (bs : List ℕ) (n : ℕ) (ns : List ℕ) (xs ys : List ℕ) where
@@ -120,19 +121,25 @@ module _ {A : Type 0} (key : A → List ℕ) where
 abbrev pub visit-key : StationVisit → List ℕ
 visit-key e = e .station .0 ∷ e .train .0 ∷ []
 
-visit-keyed : Keyed visit-key visit-ok visit-key VisitFits
-visit-keyed = record {
-  good = λ floor x f. f .0;
-  starts = λ x t. (t, over-none (visit-row x));
-  follows = λ x y t u r. (u, below-over (visit-key x) (visit-key y) _ refl r);
-  above = λ x y t f. over-below _ _ (visit-key y) _ refl (f .1);
-}
+module _ (form : FileForm) where
+  visit-keyed : Keyed visit-key (visit-fits form) visit-key (VisitFits form)
+  visit-keyed = record {
+    good = λ floor x f. f .0;
+    starts = λ x t. (t, over-none (visit-row form x));
+    follows = λ x y t u r. (u, below-over (visit-key x) (visit-key y) _ refl r);
+    above = λ x y t f. over-below _ _ (visit-key y) _ refl (f .1);
+  }
 
-pub visits-chain : (xs : List StationVisit) → T (every visit-ok xs) → T (each-two (before visit-key) xs) → Chain visit-key VisitFits [] xs
-visits-chain = ordered-chain visit-key visit-ok visit-key VisitFits visit-keyed
+  pub visits-chain : (xs : List StationVisit) → T (every visit-ok xs) → T (every (said form) xs) → T (each-two (before visit-key) xs) → Chain visit-key (VisitFits form) [] xs
+  visits-chain xs t u r = ordered-chain visit-key (visit-fits form) visit-key (VisitFits form) visit-keyed xs (every-both (said form) visit-ok xs u t) r
 
-pub chain-visits : (xs : List StationVisit) → Chain visit-key VisitFits [] xs → T (every visit-ok xs) × T (each-two (before visit-key) xs)
-chain-visits = chain-ordered visit-key visit-ok visit-key VisitFits visit-keyed
+  pub chain-visits : (xs : List StationVisit) → Chain visit-key (VisitFits form) [] xs → T (every visit-ok xs) × T (every (said form) xs) × T (each-two (before visit-key) xs)
+  chain-visits xs c =
+      let (t, r) = chain-ordered visit-key (visit-fits form) visit-key (VisitFits form) visit-keyed xs c in (
+        every-weaker (visit-fits form) visit-ok (λ x u. and-r (said form x) (visit-ok x) u) xs t,
+        every-weaker (visit-fits form) (said form) (λ x u. and-l (said form x) (visit-ok x) u) xs t,
+        r,
+      )
 
 -- relations
 

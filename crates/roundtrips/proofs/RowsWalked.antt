@@ -156,13 +156,13 @@ tested-row (r ∷ rs) h (n ∷ ns) t = (
 
 -- so the test of a value and that of its numbers need only be the same tests, put together as they may be, beside one
 -- that what is made passes and that lets a value be made of its numbers
-module _ {A : Type 0} (ranges : List Range) (make : List ℕ → A) (numbers : A → List ℕ) (ok : A → Bool) (short : T (three-bytes ranges))
-    (written : (ns : List ℕ) → by-index (length ranges) 0 ns ≡ numbers (make ns)) where
-  module _ (kept : A → Bool) (keeps : (ns : List ℕ) → T (kept (make ns))) (back : (a : A) → T (kept a) → make (numbers a) ≡ a)
+module _ {A : Type 0} (ranges : List Range) (make : List ℕ → A) (numbers : A → List ℕ) (ok : A → Bool) (short : T (three-bytes ranges)) where
+  module _ (written : (ns : List ℕ) → RowIn ranges ns → by-index (length ranges) 0 ns ≡ numbers (make ns))
+      (kept : A → Bool) (keeps : (ns : List ℕ) → T (kept (make ns))) (back : (a : A) → T (kept a) → make (numbers a) ≡ a)
       (tests : (a : A) → ok a ≡ (kept a && row-test ranges (numbers a))) where
-    pub kept-fields : Fields ranges make numbers ok
-    kept-fields =
-        let whole : (ns : List ℕ) → RowIn ranges ns → ns ≡ numbers (make ns) = λ ns i. row-exact ranges ns i ∙ written ns in
+    pub ranged-fields : Fields ranges make numbers ok
+    ranged-fields =
+        let whole : (ns : List ℕ) → RowIn ranges ns → ns ≡ numbers (make ns) = λ ns i. row-exact ranges ns i ∙ written ns i in
         record {
           written = whole;
           good = λ ns i.
@@ -172,9 +172,16 @@ module _ {A : Type 0} (ranges : List Range) (make : List ℕ → A) (numbers : A
           within = λ a t. tested-row ranges short (numbers a) (and-r (kept a) (row-test ranges (numbers a)) (subst T (tests a) t));
         }
 
-  module _ (back : (a : A) → make (numbers a) ≡ a) (tests : (a : A) → ok a ≡ row-test ranges (numbers a)) where
-    pub tested-fields : Fields ranges make numbers ok
-    tested-fields = kept-fields (λ a. true) (λ ns. tt) (λ a t. back a) tests
+  -- where the numbers need not be in the ranges to be written again
+  module _ (written : (ns : List ℕ) → by-index (length ranges) 0 ns ≡ numbers (make ns)) where
+    module _ (kept : A → Bool) (keeps : (ns : List ℕ) → T (kept (make ns))) (back : (a : A) → T (kept a) → make (numbers a) ≡ a)
+        (tests : (a : A) → ok a ≡ (kept a && row-test ranges (numbers a))) where
+      pub kept-fields : Fields ranges make numbers ok
+      kept-fields = ranged-fields (λ ns i. written ns) kept keeps back tests
+
+    module _ (back : (a : A) → make (numbers a) ≡ a) (tests : (a : A) → ok a ≡ row-test ranges (numbers a)) where
+      pub tested-fields : Fields ranges make numbers ok
+      tested-fields = kept-fields (λ a. true) (λ ns. tt) (λ a t. back a) tests
 
 pub and-assoc : (a b c : Bool) → ((a && b) && c) ≡ (a && (b && c))
 and-assoc true b c = refl

@@ -1,5 +1,5 @@
--- The timetable's format, walked: its numbers are the two counts and those of visits and relations in range, rising.
--- Assumes nothing.
+-- The timetable's format, walked in a form: its numbers are the two counts and those of visits and relations in range,
+-- rising, the visits such that the form can say them. Assumes nothing.
 use Prim.Native.Nat.{ℕ, _+_}
 use mathlib.Core.Path.{_≡_, refl, sym, _∙_, ap, ap₂, subst}
 use mathlib.Core.List.{List, [], _∷_, _++_, map, flatMap}
@@ -9,6 +9,7 @@ use Rattle.base.specs.Lists.{every, each-two}
 use Rattle.numbers.specs.Numbers.{width}
 use Rattle.railway.specs.Edits.{station-relation-ok}
 use Rattle.network.specs.Networks.{stations-of}
+use Rattle.timetable.specs.declared.FileForm.{FileForm}
 use Rattle.timetable.specs.Formats.{done, field, _and-then_, Placed}
 use Rattle.timetable.specs.EditsFile.{station-relation-entry, station-relation-numbers}
 use Rattle.timetable.specs.Machine.{Timetable}
@@ -19,7 +20,7 @@ use Rattle.roundtrips.proofs.Walks.{InRange, walks}
 use Rattle.roundtrips.proofs.WalkLaws.{span, walks-then, then-walks, walks-made, made-walks}
 use Rattle.roundtrips.proofs.RowsWalked.{values, Entry, walks-places, places-walk}
 use Rattle.roundtrips.proofs.RelationWalks.{StationRelationFits, walks-station-relation, station-relation-walks}
-use Rattle.roundtrips.proofs.VisitWalks.{visit-ok, VisitFits, visit-law}
+use Rattle.roundtrips.proofs.VisitWalks.{visit-ok, said, VisitFits, visit-law}
 use Rattle.roundtrips.proofs.OrderLaws.{before, visit-key, visits-chain, chain-visits, relation-key, relations-chain, chain-relations}
 
 -- entries with their places, and without
@@ -29,6 +30,10 @@ set-out numbers p xs = values numbers (λ p x. record { place = p; entry = x }) 
 
 abbrev pub entries-of : {A : Type 0} → List (Placed A) → List A
 entries-of vs = map (λ (v : Placed _). v .entry) vs
+
+-- visits that a form can say
+abbrev pub AllSaid : FileForm → List StationVisit → Type 0
+AllSaid form vs = T (every (said form) vs)
 
 -- in range and rising
 pub record VisitsIn (vs : List StationVisit) : Type 0 where
@@ -44,9 +49,11 @@ pub record RelationsIn (rs : List StationRelation) : Type 0 where
 relation-law : Entry station-relation-entry station-relation-numbers StationRelationFits
 relation-law = record { walk = walks-station-relation; back = station-relation-walks }
 
-walks-visits : (p : ℕ) (vs : List StationVisit) → VisitsIn vs → walks (visits-format (length vs)) p (flatMap visit-numbers vs) (set-out visit-numbers p vs)
+walks-visits : (form : FileForm) (p : ℕ) (vs : List StationVisit) → VisitsIn vs → AllSaid form vs
+    → walks (visits-format form (length vs)) p (flatMap (visit-numbers form) vs) (set-out (visit-numbers form) p vs)
 unfolding visits-format visit-floor
-walks-visits p vs i = walks-places visit-entry visit-numbers visit-key VisitFits visit-law vs [] p (visits-chain vs (i .good) (i .order))
+walks-visits form p vs i u =
+    walks-places (visit-entry form) (visit-numbers form) visit-key (VisitFits form) (visit-law form) vs [] p (visits-chain form vs (i .good) u (i .order))
 
 walks-relations : (p : ℕ) (rs : List StationRelation) → RelationsIn rs
     → walks (relations-format (length rs)) p (flatMap station-relation-numbers rs) (set-out station-relation-numbers p rs)
@@ -55,8 +62,8 @@ walks-relations p rs i =
     walks-places station-relation-entry station-relation-numbers station-relation-numbers StationRelationFits relation-law rs [] p (relations-chain rs (i .good) (i .order))
 
 -- the numbers of a file
-abbrev pub file-numbers : List StationVisit → List StationRelation → List ℕ
-file-numbers vs rs = length vs ∷ (flatMap visit-numbers vs ++ (length rs ∷ flatMap station-relation-numbers rs))
+abbrev pub file-numbers : FileForm → List StationVisit → List StationRelation → List ℕ
+file-numbers form vs rs = length vs ∷ (flatMap (visit-numbers form) vs ++ (length rs ∷ flatMap station-relation-numbers rs))
 
 -- all visits of a timetable, and all relations, as they are written
 abbrev pub all-visits : Network → Timetable → List StationVisit
@@ -66,35 +73,35 @@ abbrev pub all-relations : Network → Timetable → List StationRelation
 all-relations n m = flatMap (relations-at m) (stations-of n)
 
 -- what they give, from a place on
-abbrev pub file-entries : ℕ → List StationVisit → List StationRelation → Entries
-file-entries p vs rs = record {
-  visits = set-out visit-numbers (p + width (length vs)) vs;
-  relations = set-out station-relation-numbers (p + width (length vs) + span (flatMap visit-numbers vs) + width (length rs)) rs;
+abbrev pub file-entries : FileForm → ℕ → List StationVisit → List StationRelation → Entries
+file-entries form p vs rs = record {
+  visits = set-out (visit-numbers form) (p + width (length vs)) vs;
+  relations = set-out station-relation-numbers (p + width (length vs) + span (flatMap (visit-numbers form) vs) + width (length rs)) rs;
 }
 
-pub walks-timetable : (p : ℕ) (vs : List StationVisit) (rs : List StationRelation) → VisitsIn vs → RelationsIn rs
-    → walks timetable-format p (file-numbers vs rs) (file-entries p vs rs)
+pub walks-timetable : (form : FileForm) (p : ℕ) (vs : List StationVisit) (rs : List StationRelation) → VisitsIn vs → AllSaid form vs → RelationsIn rs
+    → walks (timetable-format form) p (file-numbers form vs rs) (file-entries form p vs rs)
 unfolding walks timetable-format
-walks-timetable p vs rs i j = (
+walks-timetable form p vs rs i u j = (
   i .many,
-  walks-then (visits-format (length vs)) (λ vs. field 0 96 (λ m. relations-format m and-then (λ rs. done (record { visits = vs; relations = rs }))))
-      (p + width (length vs)) (flatMap visit-numbers vs) (length rs ∷ flatMap station-relation-numbers rs) (set-out visit-numbers (p + width (length vs)) vs) _
-      (walks-visits (p + width (length vs)) vs i) (
+  walks-then (visits-format form (length vs)) (λ vs. field 0 96 (λ m. relations-format m and-then (λ rs. done (record { visits = vs; relations = rs }))))
+      (p + width (length vs)) (flatMap (visit-numbers form) vs) (length rs ∷ flatMap station-relation-numbers rs) (set-out (visit-numbers form) (p + width (length vs)) vs) _
+      (walks-visits form (p + width (length vs)) vs i u) (
         j .many,
-        walks-made (λ rs. record { visits = set-out visit-numbers (p + width (length vs)) vs; relations = rs }) (relations-format (length rs)) _
+        walks-made (λ rs. record { visits = set-out (visit-numbers form) (p + width (length vs)) vs; relations = rs }) (relations-format (length rs)) _
             (flatMap station-relation-numbers rs) _
             (walks-relations _ rs j),
       ),
 )
 
-visits-walk : (k p : ℕ) (ns : List ℕ) (vs : List (Placed StationVisit)) → walks (visits-format k) p ns vs → InRange 0 384 k
-    → (ns ≡ flatMap visit-numbers (entries-of vs)) × VisitsIn (entries-of vs) × (length (entries-of vs) ≡ k)
+visits-walk : (form : FileForm) (k p : ℕ) (ns : List ℕ) (vs : List (Placed StationVisit)) → walks (visits-format form k) p ns vs → InRange 0 384 k
+    → (ns ≡ flatMap (visit-numbers form) (entries-of vs)) × VisitsIn (entries-of vs) × AllSaid form (entries-of vs) × (length (entries-of vs) ≡ k)
 unfolding visits-format visit-floor
-visits-walk k p ns vs w r =
-    let (x, c, l) = places-walk visit-entry visit-numbers visit-key VisitFits visit-law k [] p ns vs w in
-    let (t, o) = chain-visits (entries-of vs) c in
+visits-walk form k p ns vs w r =
+    let (x, c, l) = places-walk (visit-entry form) (visit-numbers form) visit-key (VisitFits form) (visit-law form) k [] p ns vs w in
+    let (t, u, o) = chain-visits form (entries-of vs) c in
     let z : length (entries-of vs) ≡ k = length-map vs (λ v. v .entry) ∙ l in
-    (x, record { many = rw z r; good = t; order = o }, z)
+    (x, record { many = rw z r; good = t; order = o }, u, z)
 
 relations-walk : (k p : ℕ) (ns : List ℕ) (rs : List (Placed StationRelation)) → walks (relations-format k) p ns rs → InRange 0 96 k
     → (ns ≡ flatMap station-relation-numbers (entries-of rs)) × RelationsIn (entries-of rs) × (length (entries-of rs) ≡ k)
@@ -105,19 +112,28 @@ relations-walk k p ns rs w r =
     let z : length (entries-of rs) ≡ k = length-map rs (λ v. v .entry) ∙ l in
     (x, record { many = rw z r; good = t; order = o }, z)
 
-pub timetable-walks : (p : ℕ) (ns : List ℕ) (x : Entries) → walks timetable-format p ns x
-    → (ns ≡ file-numbers (entries-of (x .visits)) (entries-of (x .relations))) × VisitsIn (entries-of (x .visits)) × RelationsIn (entries-of (x .relations))
+-- the numbers that entries are read from, and what the entries are
+pub record Walked (form : FileForm) (ns : List ℕ) (vs : List StationVisit) (rs : List StationRelation) : Type 0 where
+  pub numbers : ns ≡ file-numbers form vs rs
+  pub visits : VisitsIn vs
+  pub marks : AllSaid form vs
+  pub relations : RelationsIn rs
+
+pub timetable-walks : (form : FileForm) (p : ℕ) (ns : List ℕ) (x : Entries) → walks (timetable-format form) p ns x
+    → Walked form ns (entries-of (x .visits)) (entries-of (x .relations))
 unfolding walks timetable-format
-timetable-walks p [] x w = absurd w
-timetable-walks p (k ∷ ns) x (a, w) =
-    let s = then-walks (visits-format k) (λ vs. field 0 96 (λ m. relations-format m and-then (λ rs. done (record { visits = vs; relations = rs })))) (p + width k) ns x w in
-    let (e, i, l) = visits-walk k (p + width k) (s .before) (s .value) (s .first) a in
-    let (q, u, j) = later (s .value) (p + width k + span (s .before)) (s .behind) (s .second) in (
-      ap₂ (λ (k : ℕ) (l : List ℕ). k ∷ l) (sym l ∙ ap (λ (vs : List (Placed StationVisit)). length (entries-of vs)) q)
-          (s .whole ∙ ap₂ _++_ (e ∙ ap (λ (vs : List (Placed StationVisit)). flatMap visit-numbers (entries-of vs)) q) u),
-      subst (λ (vs : List (Placed StationVisit)). VisitsIn (entries-of vs)) q i,
-      j,
-    )
+timetable-walks form p [] x w = absurd w
+timetable-walks form p (k ∷ ns) x (a, w) =
+    let s = then-walks (visits-format form k) (λ vs. field 0 96 (λ m. relations-format m and-then (λ rs. done (record { visits = vs; relations = rs })))) (p + width k) ns x w in
+    let (e, i, t, l) = visits-walk form k (p + width k) (s .before) (s .value) (s .first) a in
+    let (q, u, j) = later (s .value) (p + width k + span (s .before)) (s .behind) (s .second) in
+    record {
+      numbers = ap₂ (λ (k : ℕ) (l : List ℕ). k ∷ l) (sym l ∙ ap (λ (vs : List (Placed StationVisit)). length (entries-of vs)) q)
+          (s .whole ∙ ap₂ _++_ (e ∙ ap (λ (vs : List (Placed StationVisit)). flatMap (visit-numbers form) (entries-of vs)) q) u);
+      visits = subst (λ (vs : List (Placed StationVisit)). VisitsIn (entries-of vs)) q i;
+      marks = subst (λ (vs : List (Placed StationVisit)). AllSaid form (entries-of vs)) q t;
+      relations = j;
+    }
   where
     later : (vs : List (Placed StationVisit)) (p : ℕ) (ns : List ℕ)
         → walks (field 0 96 (λ m. relations-format m and-then (λ rs. done (record { visits = vs; relations = rs })))) p ns x

@@ -1,25 +1,30 @@
--- A visit's entry, walked: its first seven numbers are a row, then come the links, each a single 0 for none. Assumes
--- nothing.
-use Prim.Native.Nat.{ℕ, zero, suc, _+_}
+-- A visit's entry, walked in a form: its first numbers are a row, with or without the mark, then come the links, each a
+-- single 0 for none. Only the row differs by the form: the newest gives the mark of a number back, and the earlier
+-- supplies the only mark that it can say. Assumes nothing.
+use Prim.Native.Nat.{ℕ, _+_}
 use mathlib.Core.Path.{_≡_, refl, sym, _∙_, ap, ap₂, subst}
 use mathlib.Core.Bool.{Bool, true, false, _&&_}
-use mathlib.Core.List.{List, [], _∷_, _++_}
+use mathlib.Core.List.{List, [], _∷_, _++_, append-assoc}
 use native.Mathlib.Omega.{arith}
 use lib.Dec.{T, eqb}
 use lib.ListN.{getD}
+use lib.Seq.{getD-drop}
 use borrow.Author.Tests.{eqb-true, eqb-false, ne-eqb}
-use Rattle.base.specs.Choice.{if_then_else_, _if_else_}
+use Rattle.base.specs.Choice.{if_then_else_}
 use Rattle.base.specs.Lists.{within}
-use Rattle.base.proofs.Tests.{both, parts}
+use Rattle.base.proofs.Tests.{not-T-false, and-l, and-r, both, parts}
 use Rattle.numbers.specs.Numbers.{width}
-use Rattle.railway.specs.Ranges.{station-ok, train-ok, track-ok, line-ok, minute-ok, run-ok}
-use Rattle.timetable.specs.Formats.{done, field, _and-then_, row}
-use Rattle.timetable.specs.TimetableFile.{StationVisit, visit-ranges, status-number, in-link-entry, out-link-entry, in-link-numbers, out-link-numbers}
-use Rattle.timetable.specs.TimetableFile.{station-visit-of, visit-entry, visit-numbers}
+use Rattle.railway.specs.Ranges.{last-minute, station-ok, train-ok, track-ok, line-ok, minute-ok, run-ok}
+use Rattle.timetable.specs.declared.FileForm.{FileForm}
+use Rattle.timetable.specs.Formats.{done, field, _and-then_, _to_, row}
+use Rattle.timetable.specs.FileForms.{status-number, mark-range, mark-numbers, mark-said, with-mark}
+use Rattle.timetable.specs.TimetableFile.{StationVisit, visit-ranges, in-link-entry, out-link-entry, in-link-numbers, out-link-numbers}
+use Rattle.timetable.specs.TimetableFile.{station-visit-of, visit-entry, visit-numbers, visit-said}
 use Rattle.roundtrips.specs.Types.{InLink, OutLink}
 use Rattle.roundtrips.proofs.Walks.{InRange, walks}
 use Rattle.roundtrips.proofs.WalkLaws.{span, walks-then, then-walks, walks-made, made-walks}
 use Rattle.roundtrips.proofs.RowsWalked.{Over, in-test, test-in, most-test, test-most, RowIn, walks-row, row-walks, by-index, row-exact, row-at, Entry}
+use Rattle.roundtrips.proofs.MarkLaws.{status-in, status-back, back-status}
 
 -- links
 
@@ -93,12 +98,12 @@ out-walks p (s ∷ ns) o (r, w) = go (eqb s 0) refl ns w
 
 -- the row
 
--- "s, t, track, arrival, status, departure, status"
-abbrev pub visit-row : StationVisit → List ℕ
-visit-row e =
-    e .station .0 ∷ e .train .0 ∷ e .visit .track .0
-    ∷ e .visit .arrival .0 ∷ status-number (e .visit .arrived)
-    ∷ e .visit .departure .0 ∷ status-number (e .visit .departed) ∷ []
+-- "s, t, track, arrival, status, departure, status", the mark after the track
+abbrev times-row : StationVisit → List ℕ
+times-row e = e .visit .arrival .0 ∷ status-number (e .visit .arrived) ∷ e .visit .departure .0 ∷ status-number (e .visit .departed) ∷ []
+
+abbrev pub visit-row : FileForm → StationVisit → List ℕ
+visit-row form e = e .station .0 ∷ e .train .0 ∷ e .visit .track .0 ∷ (mark-numbers form (e .visit .marked) ++ times-row e)
 
 unfoldable pub visit-ok : StationVisit → Bool
 visit-ok e =
@@ -106,121 +111,157 @@ visit-ok e =
     && ((track-ok (e .visit .track) && (minute-ok (e .visit .arrival) && minute-ok (e .visit .departure)))
     && (in-link-ok (e .visit .inward) && out-link-ok (e .visit .outward)))
 
-status-in : (b : Bool) → InRange 0 1 (status-number b)
-unfolding status-number
-status-in true = record { low = omega arith; high = omega arith; short = omega arith }
-status-in false = record { low = omega arith; high = omega arith; short = omega arith }
+-- a form can say it, and it is in range
+abbrev pub said : FileForm → StationVisit → Bool
+said form e = visit-said form (e .visit)
 
-status-back : (b : Bool) → eqb (status-number b) 1 ≡ b
-unfolding status-number
-status-back true = refl
-status-back false = refl
+abbrev pub visit-fits : FileForm → StationVisit → Bool
+visit-fits form e = said form e && visit-ok e
 
-back-status : (n : ℕ) → InRange 0 1 n → status-number (eqb n 1) ≡ n
-unfolding status-number
-back-status zero r = refl
-back-status (suc zero) r = refl
-back-status (suc (suc n)) r = absurd (omega (arith, r .high))
-
-row-in : (e : StationVisit) → T (visit-ok e) → RowIn visit-ranges (visit-row e)
-unfolding RowIn visit-ranges visit-ok
-row-in e t = (
+row-in : (form : FileForm) (e : StationVisit) → T (visit-ok e) → RowIn (visit-ranges form) (visit-row form e)
+unfolding RowIn mark-range mark-numbers visit-ranges visit-ok
+row-in form e t = (
   test-in 1 16 (e .station .0) (omega arith) (search parts),
   (
     test-in 1 9999 (e .train .0) (omega arith) (search parts),
-    (
-      test-in 1 8 (e .visit .track .0) (omega arith) (search parts),
-      (
-        test-most 2879 (e .visit .arrival .0) (omega arith) (search parts),
-        (
-          status-in (e .visit .arrived),
-          (
-            test-most 2879 (e .visit .departure .0) (omega arith) (search parts),
-            (status-in (e .visit .departed), tt),
-          ),
-        ),
-      ),
-    ),
+    (test-in 1 8 (e .visit .track .0) (omega arith) (search parts), marks form),
   ),
 )
+  where
+    times : RowIn (0 to last-minute ∷ 0 to 1 ∷ 0 to last-minute ∷ 0 to 1 ∷ []) (times-row e)
+    times = (
+      test-most 2879 (e .visit .arrival .0) (omega arith) (search parts),
+      (
+        status-in (e .visit .arrived),
+        (
+          test-most 2879 (e .visit .departure .0) (omega arith) (search parts),
+          (status-in (e .visit .departed), tt),
+        ),
+      ),
+    )
 
-row-back : (e : StationVisit) → station-visit-of (visit-row e) (e .visit .inward) (e .visit .outward) ≡ e
-unfolding station-visit-of
-row-back e =
-    ap₂ (λ (a d : Bool). record {
-      station = e .station;
-      train = e .train;
-      visit = record {
-        track = e .visit .track;
-        arrival = e .visit .arrival;
-        arrived = a;
-        departure = e .visit .departure;
-        departed = d;
-        inward = e .visit .inward;
-        outward = e .visit .outward;
-      };
-    }) (status-back (e .visit .arrived)) (status-back (e .visit .departed))
+    marks : (form : FileForm)
+        → RowIn (mark-range form ++ (0 to last-minute ∷ 0 to 1 ∷ 0 to last-minute ∷ 0 to 1 ∷ [])) (mark-numbers form (e .visit .marked) ++ times-row e)
+    marks FileForm.Earlier = times
+    marks FileForm.Newest = (status-in (e .visit .marked), times)
 
--- the numbers of a row, and links, make a visit in range that is written with them
-module _ (ns : List ℕ) (r : RowIn visit-ranges ns) (i : InLink) (o : OutLink) where
-  row-written : ns ≡ visit-row (station-visit-of ns i o)
-  unfolding station-visit-of visit-ranges by-index
-  row-written =
-      row-exact visit-ranges ns r
-      ∙ ap₂ (λ (a d : ℕ). getD ns 0 0 ∷ getD ns 1 0 ∷ getD ns 2 0 ∷ getD ns 3 0 ∷ a ∷ getD ns 5 0 ∷ d ∷ [])
-      (sym (back-status (getD ns 4 0) (row-at visit-ranges ns r 4 (omega arith))))
-      (sym (back-status (getD ns 6 0) (row-at visit-ranges ns r 6 (omega arith))))
+-- a visit with another mark and other statuses
+abbrev flagged : StationVisit → Bool → Bool → Bool → StationVisit
+flagged e m a d = record {
+  station = e .station;
+  train = e .train;
+  visit = record {
+    track = e .visit .track;
+    marked = m;
+    arrival = e .visit .arrival;
+    arrived = a;
+    departure = e .visit .departure;
+    departed = d;
+    inward = e .visit .inward;
+    outward = e .visit .outward;
+  };
+}
 
-  row-good : T (in-link-ok i) → T (out-link-ok o) → T (visit-ok (station-visit-of ns i o))
-  unfolding station-visit-of visit-ranges visit-ok
-  row-good u v =
-      let t₁ = in-test 1 16 (getD ns 0 0) (row-at visit-ranges ns r 0 (omega arith)) in
-      let t₂ = in-test 1 9999 (getD ns 1 0) (row-at visit-ranges ns r 1 (omega arith)) in
-      let t₃ = in-test 1 8 (getD ns 2 0) (row-at visit-ranges ns r 2 (omega arith)) in
-      let t₄ = most-test 2879 (getD ns 3 0) (row-at visit-ranges ns r 3 (omega arith)) in
-      let t₅ = most-test 2879 (getD ns 5 0) (row-at visit-ranges ns r 5 (omega arith)) in
+row-back : (form : FileForm) (e : StationVisit) → T (said form e) → station-visit-of (with-mark form (visit-row form e)) (e .visit .inward) (e .visit .outward) ≡ e
+unfolding station-visit-of mark-numbers mark-said with-mark visit-said
+row-back form e t = go form t
+  where
+    flags : (m : Bool) → m ≡ e .visit .marked → flagged e m (eqb (status-number (e .visit .arrived)) 1) (eqb (status-number (e .visit .departed)) 1) ≡ e
+    flags m x =
+        ap (λ (m : Bool). flagged e m (eqb (status-number (e .visit .arrived)) 1) (eqb (status-number (e .visit .departed)) 1)) x
+        ∙ ap₂ (flagged e (e .visit .marked)) (status-back (e .visit .arrived)) (status-back (e .visit .departed))
+
+    go : (form : FileForm) → T (said form e) → station-visit-of (with-mark form (visit-row form e)) (e .visit .inward) (e .visit .outward) ≡ e
+    go FileForm.Earlier t = flags false (sym (not-T-false (e .visit .marked) t))
+    go FileForm.Newest t = flags (eqb (status-number (e .visit .marked)) 1) (status-back (e .visit .marked))
+
+-- the numbers of a row, and links, make a visit in range that the form can say, and that is written with them
+module _ (i : InLink) (o : OutLink) where
+  row-written : (form : FileForm) (ns : List ℕ) → RowIn (visit-ranges form) ns → ns ≡ visit-row form (station-visit-of (with-mark form ns) i o)
+  unfolding station-visit-of visit-ranges by-index mark-range mark-numbers with-mark
+  row-written FileForm.Earlier ns r =
+      row-exact (visit-ranges FileForm.Earlier) ns r
+      ∙ rw (getD-drop 3 ns 0 0, getD-drop 3 ns 1 0, getD-drop 3 ns 2 0, getD-drop 3 ns 3 0)
+      (ap₂ (λ (a d : ℕ). getD ns 0 0 ∷ getD ns 1 0 ∷ getD ns 2 0 ∷ getD ns 3 0 ∷ a ∷ getD ns 5 0 ∷ d ∷ [])
+      (sym (back-status (getD ns 4 0) (row-at (visit-ranges FileForm.Earlier) ns r 4 (omega arith))))
+      (sym (back-status (getD ns 6 0) (row-at (visit-ranges FileForm.Earlier) ns r 6 (omega arith)))))
+  row-written FileForm.Newest ns r =
+      row-exact (visit-ranges FileForm.Newest) ns r
+      ∙ ap (λ (m : ℕ). getD ns 0 0 ∷ getD ns 1 0 ∷ getD ns 2 0 ∷ m ∷ getD ns 4 0 ∷ getD ns 5 0 ∷ getD ns 6 0 ∷ getD ns 7 0 ∷ [])
+      (sym (back-status (getD ns 3 0) (row-at (visit-ranges FileForm.Newest) ns r 3 (omega arith))))
+      ∙ ap₂ (λ (a d : ℕ). getD ns 0 0 ∷ getD ns 1 0 ∷ getD ns 2 0 ∷ status-number (eqb (getD ns 3 0) 1) ∷ getD ns 4 0 ∷ a ∷ getD ns 6 0 ∷ d ∷ [])
+      (sym (back-status (getD ns 5 0) (row-at (visit-ranges FileForm.Newest) ns r 5 (omega arith))))
+      (sym (back-status (getD ns 7 0) (row-at (visit-ranges FileForm.Newest) ns r 7 (omega arith))))
+
+  row-good : T (in-link-ok i) → T (out-link-ok o) → (form : FileForm) (ns : List ℕ) → RowIn (visit-ranges form) ns → T (visit-fits form (station-visit-of (with-mark form ns) i o))
+  unfolding station-visit-of visit-ranges visit-ok visit-said mark-range mark-said with-mark
+  row-good u v FileForm.Earlier ns r =
+      let t₁ = in-test 1 16 (getD ns 0 0) (row-at (visit-ranges FileForm.Earlier) ns r 0 (omega arith)) in
+      let t₂ = in-test 1 9999 (getD ns 1 0) (row-at (visit-ranges FileForm.Earlier) ns r 1 (omega arith)) in
+      let t₃ = in-test 1 8 (getD ns 2 0) (row-at (visit-ranges FileForm.Earlier) ns r 2 (omega arith)) in
+      let t₄ = most-test 2879 (getD ns 3 0) (row-at (visit-ranges FileForm.Earlier) ns r 3 (omega arith)) in
+      let t₅ = most-test 2879 (getD ns 5 0) (row-at (visit-ranges FileForm.Earlier) ns r 5 (omega arith)) in
+      rw (getD-drop 3 ns 0 0, getD-drop 3 ns 2 0) (search both)
+  row-good u v FileForm.Newest ns r =
+      let t₁ = in-test 1 16 (getD ns 0 0) (row-at (visit-ranges FileForm.Newest) ns r 0 (omega arith)) in
+      let t₂ = in-test 1 9999 (getD ns 1 0) (row-at (visit-ranges FileForm.Newest) ns r 1 (omega arith)) in
+      let t₃ = in-test 1 8 (getD ns 2 0) (row-at (visit-ranges FileForm.Newest) ns r 2 (omega arith)) in
+      let t₄ = most-test 2879 (getD ns 4 0) (row-at (visit-ranges FileForm.Newest) ns r 4 (omega arith)) in
+      let t₅ = most-test 2879 (getD ns 6 0) (row-at (visit-ranges FileForm.Newest) ns r 6 (omega arith)) in
       search both
 
 -- the entry
 
--- in range, and its row above the floor
-abbrev pub VisitFits : List ℕ → StationVisit → Type 0
-VisitFits floor e = T (visit-ok e) × Over floor (visit-row e)
+module _ (form : FileForm) where
+  -- in range and in the form, and its row above the floor
+  abbrev pub VisitFits : List ℕ → StationVisit → Type 0
+  VisitFits floor e = T (visit-fits form e) × Over floor (visit-row form e)
 
-pub walks-visit : (floor : List ℕ) (p : ℕ) (e : StationVisit) → VisitFits floor e → walks (visit-entry floor) p (visit-numbers e) e
-unfolding visit-entry visit-numbers visit-ok
-walks-visit floor p e (t, o) =
-    let i = e .visit .inward in
-    let u = e .visit .outward in
-    let q = p + span (visit-row e) in
-    subst (walks (visit-entry floor) p (visit-numbers e)) (row-back e)
-    (walks-then (row visit-ranges floor) (λ ns. in-link-entry and-then (λ i. out-link-entry and-then (λ o. done (station-visit-of ns i o))))
-    p (visit-row e) (in-link-numbers i ++ out-link-numbers u) (visit-row e) _ (walks-row visit-ranges floor p (visit-row e) (row-in e t) o)
-    (walks-then in-link-entry (λ i. out-link-entry and-then (λ o. done (station-visit-of (visit-row e) i o)))
-    q (in-link-numbers i) (out-link-numbers u) i _ (walks-in q i (search parts))
-    (walks-made (station-visit-of (visit-row e) i) out-link-entry (q + span (in-link-numbers i)) (out-link-numbers u) u
-    (walks-out (q + span (in-link-numbers i)) u (search parts)))))
+  row-linked : (e : StationVisit) → visit-row form e ++ (in-link-numbers (e .visit .inward) ++ out-link-numbers (e .visit .outward)) ≡ visit-numbers form e
+  unfolding visit-numbers
+  row-linked e =
+      ap (λ (l : List ℕ). e .station .0 ∷ e .train .0 ∷ e .visit .track .0 ∷ l)
+      (append-assoc (mark-numbers form (e .visit .marked)) (times-row e) (in-link-numbers (e .visit .inward) ++ out-link-numbers (e .visit .outward)))
 
--- the numbers of the three parts, put together
-visit-parts : (floor xs ms ys zs : List ℕ) (i : InLink) (o : OutLink) → xs ≡ ms → RowIn visit-ranges ms → Over floor ms → ys ≡ in-link-numbers i → T (in-link-ok i)
-    → zs ≡ out-link-numbers o → T (out-link-ok o) → (xs ++ (ys ++ zs) ≡ visit-numbers (station-visit-of ms i o)) × VisitFits floor (station-visit-of ms i o)
-unfolding visit-numbers station-visit-of
-visit-parts floor xs ms ys zs i o x y z a b c d =
-    let m : ms ≡ visit-row (station-visit-of ms i o) = row-written ms y i o in
-    (ap₂ _++_ (x ∙ m) (ap₂ _++_ a c), (row-good ms y i o b d, subst (Over floor) m z))
+  pub walks-visit : (floor : List ℕ) (p : ℕ) (e : StationVisit) → VisitFits floor e → walks (visit-entry form floor) p (visit-numbers form e) e
+  unfolding visit-entry visit-ok
+  walks-visit floor p e (t, o) =
+      let i = e .visit .inward in
+      let u = e .visit .outward in
+      let q = p + span (visit-row form e) in
+      let ms = with-mark form (visit-row form e) in
+      let g : T (visit-ok e) = and-r (said form e) (visit-ok e) t in
+      subst (λ (l : List ℕ). walks (visit-entry form floor) p l e) (row-linked e)
+      (subst (walks (visit-entry form floor) p (visit-row form e ++ (in-link-numbers i ++ out-link-numbers u))) (row-back form e (and-l (said form e) (visit-ok e) t))
+      (walks-then (row (visit-ranges form) floor) (λ ns. in-link-entry and-then (λ i. out-link-entry and-then (λ o. done (station-visit-of (with-mark form ns) i o))))
+      p (visit-row form e) (in-link-numbers i ++ out-link-numbers u) (visit-row form e) _ (walks-row (visit-ranges form) floor p (visit-row form e) (row-in form e g) o)
+      (walks-then in-link-entry (λ i. out-link-entry and-then (λ o. done (station-visit-of ms i o)))
+      q (in-link-numbers i) (out-link-numbers u) i _ (walks-in q i (search parts))
+      (walks-made (station-visit-of ms i) out-link-entry (q + span (in-link-numbers i)) (out-link-numbers u) u
+      (walks-out (q + span (in-link-numbers i)) u (search parts))))))
 
-pub visit-walks : (floor : List ℕ) (p : ℕ) (ns : List ℕ) (e : StationVisit) → walks (visit-entry floor) p ns e → (ns ≡ visit-numbers e) × VisitFits floor e
-unfolding visit-entry
-visit-walks floor p ns e w =
-    let s = then-walks (row visit-ranges floor) (λ ns. in-link-entry and-then (λ i. out-link-entry and-then (λ o. done (station-visit-of ns i o)))) p ns e w in
-    let r = then-walks in-link-entry (λ i. out-link-entry and-then (λ o. done (station-visit-of (s .value) i o))) (p + span (s .before)) (s .behind) e (s .second) in
-    let (o, v, q) = made-walks (station-visit-of (s .value) (r .value)) out-link-entry (p + span (s .before) + span (r .before)) (r .behind) e (r .second) in
-    let (x, y, z) = row-walks visit-ranges floor p (s .before) (s .value) (s .first) in
-    let (a, b) = in-walks (p + span (s .before)) (r .before) (r .value) (r .first) in
-    let (c, d) = out-walks (p + span (s .before) + span (r .before)) (r .behind) o v in
-    let (k, f) = visit-parts floor (s .before) (s .value) (r .before) (r .behind) (r .value) o x y z a b c d in
-    let l : ns ≡ s .before ++ (r .before ++ r .behind) = s .whole ∙ ap (λ (l : List ℕ). s .before ++ l) (r .whole) in
-    (l ∙ k ∙ ap visit-numbers q, subst (VisitFits floor) q f)
+  -- the numbers of the three parts, put together
+  visit-parts : (floor xs ms ys zs : List ℕ) (i : InLink) (o : OutLink) → xs ≡ ms → RowIn (visit-ranges form) ms → Over floor ms → ys ≡ in-link-numbers i → T (in-link-ok i)
+      → zs ≡ out-link-numbers o → T (out-link-ok o)
+      → (xs ++ (ys ++ zs) ≡ visit-numbers form (station-visit-of (with-mark form ms) i o)) × VisitFits floor (station-visit-of (with-mark form ms) i o)
+  unfolding station-visit-of
+  visit-parts floor xs ms ys zs i o x y z a b c d =
+      let m : ms ≡ visit-row form (station-visit-of (with-mark form ms) i o) = row-written i o form ms y in
+      (ap₂ _++_ (x ∙ m) (ap₂ _++_ a c) ∙ row-linked (station-visit-of (with-mark form ms) i o), (row-good i o b d form ms y, subst (Over floor) m z))
 
-pub visit-law : Entry visit-entry visit-numbers VisitFits
-visit-law = record { walk = walks-visit; back = visit-walks }
+  pub visit-walks : (floor : List ℕ) (p : ℕ) (ns : List ℕ) (e : StationVisit) → walks (visit-entry form floor) p ns e → (ns ≡ visit-numbers form e) × VisitFits floor e
+  unfolding visit-entry
+  visit-walks floor p ns e w =
+      let s = then-walks (row (visit-ranges form) floor) (λ ns. in-link-entry and-then (λ i. out-link-entry and-then (λ o. done (station-visit-of (with-mark form ns) i o)))) p ns e w in
+      let ms = with-mark form (s .value) in
+      let r = then-walks in-link-entry (λ i. out-link-entry and-then (λ o. done (station-visit-of ms i o))) (p + span (s .before)) (s .behind) e (s .second) in
+      let (o, v, q) = made-walks (station-visit-of ms (r .value)) out-link-entry (p + span (s .before) + span (r .before)) (r .behind) e (r .second) in
+      let (x, y, z) = row-walks (visit-ranges form) floor p (s .before) (s .value) (s .first) in
+      let (a, b) = in-walks (p + span (s .before)) (r .before) (r .value) (r .first) in
+      let (c, d) = out-walks (p + span (s .before) + span (r .before)) (r .behind) o v in
+      let (k, f) = visit-parts floor (s .before) (s .value) (r .before) (r .behind) (r .value) o x y z a b c d in
+      let l : ns ≡ s .before ++ (r .before ++ r .behind) = s .whole ∙ ap (λ (l : List ℕ). s .before ++ l) (r .whole) in
+      (l ∙ k ∙ ap (visit-numbers form) q, subst (VisitFits floor) q f)
+
+  pub visit-law : Entry (visit-entry form) (visit-numbers form) VisitFits
+  visit-law = record { walk = walks-visit; back = visit-walks }

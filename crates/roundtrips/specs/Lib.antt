@@ -1,3 +1,4 @@
 pub mod Types
 pub mod RoundTrips
 pub mod Turning
+pub mod Earlier

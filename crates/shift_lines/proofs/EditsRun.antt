@@ -9,6 +9,7 @@ use lib.Dec.{leb}
 use lib.ListN.{length, getD, drop}
 use borrow.Author.Tests.{eq-eqb, le-leb}
 use Rattle.base.specs.Runs.{answers}
+use Rattle.timetable.specs.FileForms.{newest-form}
 use Rattle.timetable.specs.Outputs.{output-after}
 use Rattle.machine.specs.Calls.{division-after}
 use Rattle.edit_calls.specs.Lists.{answer-numbers, answers-of, division-of, division-left, answers-left, run-division, run-answers}
@@ -36,22 +37,22 @@ answers-back (a ∷ as′) rest xs i h =
 module _ (n : Network) (file : List ℕ) (first count : ℕ) (f : EditsFile file first count) (division out : List ℕ) (size : length division ≡ 49152)
     (room : length out ≡ 2000) where
   abbrev es : List Edit
-  es = edits-at count file first
+  es = edits-at newest-form count file first
 
   fits : leb (length (answers-of n es division)) (length out) ≡ true
   fits = le-leb (length (answers-of n es division)) (length out) (omega (arith, answers-length n es division, f .0, f .2, room))
 
-  pub division-run : run-division n file division out ≡ division-of n es division
+  pub division-run : run-division newest-form n file division out ≡ division-of n es division
   unfolding run-division division-left
   division-run = rw (eq-eqb (length division) 49152 size, f .3, fits)
 
-  answers-run : run-answers n file division out ≡ answers-of n es division ++ drop (length (answers-of n es division)) out
+  answers-run : run-answers newest-form n file division out ≡ answers-of n es division ++ drop (length (answers-of n es division)) out
   unfolding run-answers answers-left output-after
   answers-run = rw (eq-eqb (length division) 49152 size, f .3, fits)
 
-  pub answers-told : answers-from count (run-answers n file division out) 0 ≡ told n es division
+  pub answers-told : answers-from count (run-answers newest-form n file division out) 0 ≡ told n es division
   unfolding answers-of told
   answers-told =
-      ap (λ (k : ℕ). answers-from k (run-answers n file division out) 0) (sym (told-many n es division ∙ f .2))
-      ∙ answers-back (told n es division) (drop (length (answers-of n es division)) out) (run-answers n file division out) 0
+      ap (λ (k : ℕ). answers-from k (run-answers newest-form n file division out) 0) (sym (told-many n es division ∙ f .2))
+      ∙ answers-back (told n es division) (drop (length (answers-of n es division)) out) (run-answers newest-form n file division out) 0
       (λ j. ap₂ (λ (l : ℕ) (xs : List ℕ). getD xs l 0) (omega arith) answers-run)

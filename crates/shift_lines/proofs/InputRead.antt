@@ -15,9 +15,10 @@ use Rattle.railway.specs.Edits.{edit-ok}
 use Rattle.network.specs.Networks.{network-refusal}
 use Rattle.timetable.specs.Formats.{Outcome, accepted, refused, read, read-file, ended, bytes-of, Placed, number, place-of, value-or}
 use Rattle.timetable.specs.NetworkFile.{network-of, network-numbers, network-fault, unless-fault}
+use Rattle.timetable.specs.FileForms.{newest-form}
 use Rattle.timetable.specs.EditsFile.{read-edits, edits-numbers, Shift, Input, shift-format, read-shift}
 use Rattle.roundtrips.specs.RoundTrips.{Bytes}
-use Rattle.roundtrips.proofs.EditTrips.{edits-trip}
+use Rattle.roundtrips.proofs.EditTrips.{edits-trip, edits-said-newest}
 use Rattle.roundtrips.proofs.NetworkTrips.{shift-trip}
 use Rattle.edit_files.specs.Answers.{edits-answer, shift-answer}
 use Rattle.edit_files.specs.declared.list.EditsRead.{EditsRead}
@@ -50,31 +51,31 @@ pub record Held (file : List ℕ) (r : ShiftRead) : Type 0 where
   pub within : r .first - width (r .count) ≤ length file
   pub edits : EditsFile (drop (r .first - width (r .count)) file) (width (r .count)) (r .count)
   pub text-is : length file ≤ 16384
-      → shift-text file ≡ run-text (r .network) (edits-at (r .count) (drop (r .first - width (r .count)) file) (width (r .count)))
+      → shift-text file ≡ run-text (r .network) (edits-at newest-form (r .count) (drop (r .first - width (r .count)) file) (width (r .count)))
 
 -- the file of edits is read as these
-written-edits : (es : List Edit) (b : List ℕ) → b ≡ bytes-of (edits-numbers es) → length es ≤ 1000 → T (every edit-ok es)
-    → EditsFile b (width (length es)) (length es) × (edits-at (length es) b (width (length es)) ≡ es)
+written-edits : (es : List Edit) (b : List ℕ) → b ≡ bytes-of (edits-numbers newest-form es) → length es ≤ 1000 → T (every edit-ok es)
+    → EditsFile b (width (length es)) (length es) × (edits-at newest-form (length es) b (width (length es)) ≡ es)
 unfolding edits-answer number place-of value-or
 written-edits es b is few fine =
-    let back : read-edits b ≡ accepted (record { place = width (length es); entry = es }) (length b) = rw is (edits-trip .back es few fine) in
+    let back : read-edits b ≡ accepted (record { place = width (length es); entry = es }) (length b) = rw is (edits-trip newest-form .back es few fine (edits-said-newest es)) in
     let r : EditsRead = record { refusal = 0; place = length b; first = width (length es); count = length es } in
-    let h = held b r (sym (ap edits-answer back)) refl in
+    let h = held newest-form b r (sym (ap edits-answer back)) refl in
     let same : record { place = width (length es); entry = es } ≡ h .edits = taken-same (record { place = width (length es); entry = es }) (h .edits) (length b) (h .next) (sym back ∙ h .outcome) in
-    let are : edits-at (length es) b (width (length es)) ≡ es = h .are ∙ sym (ap (λ (x : Placed (List Edit)). x .entry) same) in
+    let are : edits-at newest-form (length es) b (width (length es)) ≡ es = h .are ∙ sym (ap (λ (x : Placed (List Edit)). x .entry) same) in
     ((few, h .readable, ap length are, back ∙ ap (λ (l : List Edit). accepted (record { place = width (length es); entry = l }) (length b)) (sym are)), are)
 
 -- "network, then edits": where the input is read, the part behind its network is an edits file by itself, with the same
 -- edits
 behind-network : (file : List ℕ) (x : Shift) (next : ℕ) → Bytes file → read-shift file ≡ accepted x next
-    → (drop (x .edits .place - width (length (x .edits .entry))) file ≡ bytes-of (edits-numbers (x .edits .entry)))
+    → (drop (x .edits .place - width (length (x .edits .entry))) file ≡ bytes-of (edits-numbers newest-form (x .edits .entry)))
     × (x .edits .place - width (length (x .edits .entry)) ≤ length file)
 unfolding bytes-of
 behind-network file x next bytes f =
     let s = shift-trip .only file x next bytes f in
     let a : List ℕ = bytes-of (network-numbers (x .network)) in
-    let b : List ℕ = bytes-of (edits-numbers (x .edits .entry)) in
-    let whole : file ≡ a ++ b = s .file-is ∙ flat-append write-number (network-numbers (x .network)) (edits-numbers (x .edits .entry)) in
+    let b : List ℕ = bytes-of (edits-numbers newest-form (x .edits .entry)) in
+    let whole : file ≡ a ++ b = s .file-is ∙ flat-append write-number (network-numbers (x .network)) (edits-numbers newest-form (x .edits .entry)) in
     let at : x .edits .place - width (length (x .edits .entry)) ≡ length a = omega (arith, s .first) in
     (ap₂ (λ (k : ℕ) (l : List ℕ). drop k l) at whole ∙ drop-append-seam a b, omega (arith, at, ap length whole, length-append a b))
 
@@ -94,14 +95,14 @@ module _ (file : List ℕ) (r : ShiftRead) (e : r ≡ shift-answer (read-shift f
           let at : r .first - width (r .count) ≡ x .edits .place - width (length es) = ap₂ (λ (k l : ℕ). k - width l) place many in
           let (cut, there) = behind-network file x next bytes f in
           let rest : List ℕ = drop (r .first - width (r .count)) file in
-          let is : rest ≡ bytes-of (edits-numbers es) = ap (λ (k : ℕ). drop k file) at ∙ cut in
+          let is : rest ≡ bytes-of (edits-numbers newest-form es) = ap (λ (k : ℕ). drop k file) at ∙ cut in
           let (listed, are) = written-edits es rest is (s .few) (s .edits-good) in
           record {
             good = ap network-refusal same ∙ s .good;
             counted = omega (arith, place, s .first, ap width many);
             within = omega (arith, at, there);
             edits = subst (λ (k : ℕ). EditsFile rest (width k) k) (sym many) listed;
-            text-is = λ h. accepted-text x next f h ∙ sym (ap₂ run-text same (ap (λ (k : ℕ). edits-at k rest (width k)) many ∙ are));
+            text-is = λ h. accepted-text x next f h ∙ sym (ap₂ run-text same (ap (λ (k : ℕ). edits-at newest-form k rest (width k)) many ∙ are));
           }
         where
           accepted-text : (x : Shift) (next : ℕ) → read-shift file ≡ accepted x next → length file ≤ 16384 → shift-text file ≡ run-text (x .network) (x .edits .entry)

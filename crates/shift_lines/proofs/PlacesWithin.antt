@@ -7,6 +7,7 @@ use native.Mathlib.Omega.{arith}
 use lib.ListN.{length}
 use Rattle.timetable.specs.Formats.{done, Outcome, accepted, refused, _and-then_, behind, read, ended, read-file}
 use Rattle.timetable.specs.NetworkFile.{network-format, network-of, network-fault, unless-fault}
+use Rattle.timetable.specs.FileForms.{newest-form}
 use Rattle.timetable.specs.EditsFile.{Shift, Input, edits-format, shift-format, read-shift}
 use Rattle.timetable.proofs.OutcomeLaws.{ended-taken}
 use Rattle.fields.proofs.EntryLaws.{then-taken}
@@ -25,8 +26,8 @@ module _ (file : List ℕ) where
       go (refused k p) e h = h
       go (accepted x next) e h =
           let r = ended-taken file (read shift-format file 0) x next e in
-          let (y, p, u, v) = then-taken network-format (λ y. edits-format and-then (λ es. done (record { listed = y; edits = es }))) file 0 x next r in
-          let (es, q, w, z) = then-taken edits-format (λ es. done (record { listed = y; edits = es })) file p x next v in
+          let (y, p, u, v) = then-taken network-format (λ y. edits-format newest-form and-then (λ es. done (record { listed = y; edits = es }))) file 0 x next r in
+          let (es, q, w, z) = then-taken (edits-format newest-form) (λ es. done (record { listed = y; edits = es })) file p x next v in
           let i : record { listed = y; edits = es } ≡ x = taken-same _ x q next z in
           rw (← i) (network-within file y p u (accepted (record { network = network-of y; edits = es }) next) h)
 

@@ -7,6 +7,7 @@ ghost use lib.ListN.{length};
 ghost use Rattle.timetable.specs.Outputs.{Puts};
 ghost use Rattle.timetable.specs.Count.{zero-tally, raise-all};
 ghost use Rattle.timetable.specs.Formats.{read};
+ghost use Rattle.timetable.specs.FileForms.{newest-form};
 ghost use Rattle.timetable.specs.EditsFile.{edit-entry};
 ghost use Rattle.edit_calls.specs.between.Taken.{edits-at, can-be-read};
 ghost use Rattle.listings.specs.Text.{line};
@@ -17,6 +18,7 @@ use edit_files::edit::Cursor;
 use edit_files::edit::NextEdit;
 use text::line;
 use timetable::Answer;
+use timetable::FileForm;
 use timetable::Tally;
 
 // The place behind the lines, and the tally.
@@ -59,10 +61,10 @@ struct Counted {
 // The edit at the cursor and its answer, counted; one that cannot be read counts nothing.
 fn count_next(file: &[u8], cursor: Cursor, a: Answer, tally: Tally) -> Counted
     ensures { λ r. ⌜
-        (r .tally ≡ next-tally (read edit-entry (now (file .entry)) (cursor .at)) a tally)
-        × (r .cursor .at ≡ next-place (read edit-entry (now (file .entry)) (cursor .at)) (cursor .at)) ⌝ }
+        (r .tally ≡ next-tally (read (edit-entry newest-form) (now (file .entry)) (cursor .at)) a tally)
+        × (r .cursor .at ≡ next-place (read (edit-entry newest-form) (now (file .entry)) (cursor .at)) (cursor .at)) ⌝ }
 {
-    let next = edit::next_edit(file, cursor);
+    let next = edit::next_edit(file, cursor, FileForm::Newest);
     match next {
         NextEdit::Refused(_k, _p) => Counted {
             tally: tally,
@@ -88,10 +90,10 @@ pub(crate) fn put_answers(
     count: u32,
     answers: &[u8],
 ) -> Progress
-    requires { ⌜ (count ≤ 1000) × (2 * count ≤ length (now answers)) × (can-be-read count (now file) first ≡ true) ⌝ }
+    requires { ⌜ (count ≤ 1000) × (2 * count ≤ length (now answers)) × (can-be-read newest-form count (now file) first ≡ true) ⌝ }
     ensures { λ r. ⌜
         Puts 0 (answers-text 1 (answers-from count (now (answers .entry)) 0)) (now (out .entry)) (r .at) (now (out .exit)) (68 * count)
-        × (r .tally ≡ raise-all zero-tally (edits-at count (now (file .entry)) first) (answers-from count (now (answers .entry)) 0)) ⌝ }
+        × (r .tally ≡ raise-all zero-tally (edits-at newest-form count (now (file .entry)) first) (answers-from count (now (answers .entry)) 0)) ⌝ }
 {
     let mut tally = Tally {
         accepted: 0,

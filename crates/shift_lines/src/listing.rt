@@ -4,6 +4,7 @@ ghost use mathlib.Core.Bool.{true};
 ghost use Prim.Native.Nat.{_+_, _*_, _≤_};
 ghost use lib.ListN.{length};
 ghost use Rattle.network.specs.Networks.{network-refusal};
+ghost use Rattle.timetable.specs.FileForms.{newest-form};
 ghost use Rattle.timetable.specs.Listing.{tally-line};
 ghost use Rattle.timetable.specs.Outputs.{Puts, reply, output, output-after};
 ghost use Rattle.sheet.specs.Sheets.{decode-sheet, merged};
@@ -22,6 +23,7 @@ use sheet_lines::whole;
 use text::draft;
 use text::line;
 use text::refusal;
+use timetable::FileForm;
 use timetable::Output;
 use timetable::Tally;
 
@@ -87,9 +89,9 @@ fn run_in(
         × EditsFile (now file) first count
         × (length (now answers) ≡ 2000)
         × (now division ≡ zeros 49152) ⌝ }
-    ensures { λ r. ⌜ Puts 0 (run-text n (edits-at count (now (file .entry)) first)) (now (out .entry)) r (now (out .exit)) shift-most ⌝ }
+    ensures { λ r. ⌜ Puts 0 (run-text n (edits-at newest-form count (now (file .entry)) first)) (now (out .entry)) r (now (out .exit)) shift-most ⌝ }
 {
-    edit_calls::run_list(division, n, file, answers);
+    edit_calls::run_list(division, n, file, FileForm::Newest, answers);
     let progress = answers::put_answers(out, file, first, count, answers);
     put_end(out, progress.at, division, n, progress.tally)
 }
@@ -97,7 +99,7 @@ fn run_in(
 // "network, then edits, from an empty division": the edits' file, from the place of its first edit on.
 fn put_run(out: &mut [u8], file: &[u8], n: Network, first: usize, count: u32) -> usize
     requires { ⌜ (network-refusal n ≡ 0) × EditsFile (now file) first count ⌝ }
-    ensures { λ r. ⌜ Puts 0 (run-text n (edits-at count (now (file .entry)) first)) (now (out .entry)) r (now (out .exit)) shift-most ⌝ }
+    ensures { λ r. ⌜ Puts 0 (run-text n (edits-at newest-form count (now (file .entry)) first)) (now (out .entry)) r (now (out .exit)) shift-most ⌝ }
 {
     let mut answers = [0u8; 2000];
     let mut division = [0u8; 49152];

@@ -8,6 +8,7 @@ use edit_files::edit::EditRead;
 use railway::edit::Cancellation;
 use railway::edit::Edit;
 use railway::sorts::Train;
+use timetable::FileForm;
 
 // Refusal 0 with the edit and the place behind it; or a refusal's number and place beside an edit of zeros.
 pub struct OneEdit {
@@ -45,7 +46,7 @@ fn ended_edit(file: &[u8], e: Edit, next: usize) -> OneEdit
 pub fn one_edit(file: &[u8]) -> OneEdit
     ensures { λ r. ⌜ r ≡ edit-answer (read-one (now (file .entry))) ⌝ }
 {
-    let read = edit::read_edit(file, 0);
+    let read = edit::read_edit(file, 0, FileForm::Newest);
     match read {
         EditRead::Refused(k, p) => refused_edit(k, p),
         EditRead::Entry(e, next) => ended_edit(file, e, next),

@@ -20,7 +20,7 @@ use Rattle.projection.specs.Calls.{project-answer, project-after}
 use Rattle.replies.specs.Replies.{plain, placed, of-reply-in, of-reply, of-outcome, by-file, told, left}
 use Rattle.edit_replies.specs.Replies.{named-under, one-reply, one-left, sheet-one-reply, sheet-one-left}
 use Rattle.edit_replies.specs.Rechecks as rechecks
-use Rattle.strakewhip.specs.Types.{Area, NetworkForm, Reply}
+use Rattle.strakewhip.specs.Types.{Area, NetworkForm, FileForm, Reply}
 
 abbrev pub is-sheet : List ℕ → Bool
 is-sheet sheet = eqb (length sheet) 8192
@@ -66,17 +66,17 @@ module _ (network edit sheet : List ℕ) where
   unfoldable pub sheet-edit-left : List ℕ
   sheet-edit-left = left (is-sheet sheet) (read-network network) sheet (λ n. sheet-one-left n edit sheet)
 
--- a list of edits
+-- a list of edits, in a form
 
-module _ (network edits division answers : List ℕ) where
+module _ (form : FileForm) (network edits division answers : List ℕ) where
   unfoldable pub run-reply : Reply
-  run-reply = told (is-division division) (read-network network) (λ n. of-reply (run-answer n edits division answers))
+  run-reply = told (is-division division) (read-network network) (λ n. of-reply (run-answer form n edits division answers))
 
   unfoldable pub run-left : List ℕ
-  run-left = left (is-division division) (read-network network) division (λ n. run-division n edits division answers)
+  run-left = left (is-division division) (read-network network) division (λ n. run-division form n edits division answers)
 
   unfoldable pub answers-left : List ℕ
-  answers-left = left (is-division division) (read-network network) answers (λ n. run-answers n edits division answers)
+  answers-left = left (is-division division) (read-network network) answers (λ n. run-answers form n edits division answers)
 
 -- dividing and merging
 
@@ -148,12 +148,12 @@ module _ (network sheet edit : List ℕ) (a : ℕ) (list out : List ℕ) where
 
 -- timetable files
 
-module _ (network timetable sheet : List ℕ) where
+module _ (form : FileForm) (network timetable sheet : List ℕ) where
   unfoldable pub read-reply : Reply
-  read-reply = told (is-sheet sheet) (read-network network) (λ n. of-outcome 2 (read-answer n timetable sheet))
+  read-reply = told (is-sheet sheet) (read-network network) (λ n. of-outcome 2 (read-answer form n timetable sheet))
 
   unfoldable pub read-left : List ℕ
-  read-left = left (is-sheet sheet) (read-network network) sheet (λ n. read-after n timetable sheet)
+  read-left = left (is-sheet sheet) (read-network network) sheet (λ n. read-after form n timetable sheet)
 
 module _ (network sheet out : List ℕ) where
   unfoldable pub write-reply : Reply

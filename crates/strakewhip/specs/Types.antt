@@ -3,4 +3,5 @@ pub use Rattle.network.specs.declared.Network.{Network}
 pub use Rattle.railway.specs.declared.sorts.Area.{Area}
 pub use Rattle.network_files.specs.declared.reading.NetworkRead.{NetworkRead}
 pub use Rattle.timetable.specs.declared.NetworkForm.{NetworkForm}
+pub use Rattle.timetable.specs.declared.FileForm.{FileForm}
 pub use Rattle.replies.specs.declared.Reply.{Reply}

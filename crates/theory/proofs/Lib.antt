@@ -19,3 +19,8 @@ pub mod StandingAlone
 pub mod FreightAlike
 pub mod ListsTogether
 pub mod Rechecked
+pub mod Forgotten
+pub mod Forgetting
+pub mod Unmarked
+pub mod ReleasesMerge
+pub mod EarlyFiles

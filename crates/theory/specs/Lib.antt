@@ -6,3 +6,5 @@ pub mod Closures
 pub mod Standing
 pub mod Freight
 pub mod Rechecks
+pub mod Earlier
+pub mod Releases

@@ -22,10 +22,12 @@ use Rattle.timetable.specs.Types.{Station, Train, Line, Minute, InLink, 
 use Rattle.timetable.specs.Types.{Relation, Connection, Plan}
 use Rattle.timetable.specs.Types.{Edit, Place, Prepend, Append, DeleteFirst, DeleteLast}
 use Rattle.timetable.specs.Types.{ReportArrival, ReportDeparture, AddRelation, RemoveRelation, DeleteTrain}
-use Rattle.timetable.specs.Types.{StationRow, LineRow, Closure, Network, NetworkForm, Answer, Finding, Row, Tally}
+use Rattle.timetable.specs.Types.{StationRow, LineRow, Closure, Network, NetworkForm, FileForm, Answer, Finding, Row, Tally}
 use Rattle.timetable.specs.Refusals as Refusals
 use Rattle.timetable.specs.Formats as Formats
 use Rattle.timetable.specs.Formats.{Outcome, accepted, refused, Placed}
+use Rattle.timetable.specs.FileForms as FileForms
+use Rattle.timetable.specs.FileForms.{newest-form}
 use Rattle.timetable.specs.NetworkFile as NetworkFile
 use Rattle.timetable.specs.NetworkFile.{network-with, network-numbers, read-network}
 use Rattle.timetable.specs.Outputs as Outputs
@@ -33,9 +35,9 @@ use Rattle.timetable.specs.Outputs.{Reply}
 use Rattle.timetable.specs.Turning as Turning
 use Rattle.timetable.specs.Turning.{turn-reply, turn-after}
 use Rattle.timetable.specs.EditsFile as EditsFile
-use Rattle.timetable.specs.EditsFile.{Shift, edits-numbers, read-edits, read-shift}
+use Rattle.timetable.specs.EditsFile.{Shift, edits-numbers, read-edits-as, read-edits, read-shift}
 use Rattle.timetable.specs.TimetableFile as TimetableFile
-use Rattle.timetable.specs.TimetableFile.{read-timetable, timetable-numbers}
+use Rattle.timetable.specs.TimetableFile.{read-timetable-as, read-timetable, timetable-numbers}
 use Rattle.timetable.specs.Pieces as Pieces
 use Rattle.timetable.specs.Visits as Visits
 use Rattle.timetable.specs.Tables as Tables
@@ -72,8 +74,12 @@ ln l = record { 0 = l }
 unfoldable pub at : ℕ → Minute
 at m = record { 0 = m }
 
+-- with its mark; without one
+unfoldable pub marked-plan : ℕ → ℕ → ℕ → Bool → ℕ → ℕ → Plan
+marked-plan s t k m a d = record { station = st s; train = tr t; track = record { 0 = k }; marked = m; arrival = at a; departure = at d }
+
 unfoldable pub plan : ℕ → ℕ → ℕ → ℕ → ℕ → Plan
-plan s t k a d = record { station = st s; train = tr t; track = record { 0 = k }; arrival = at a; departure = at d }
+plan s t k a d = marked-plan s t k false a d
 
 -- s, t, track, arrival, departure
 unfoldable pub place : ℕ → ℕ → ℕ → ℕ → ℕ → Edit
@@ -181,12 +187,15 @@ unfoldable pub connections : ℕ → List Edit
 connections zero = []
 connections (suc k) = relate (Connection k (two 7 8)) ∷ connections k
 
--- a visit on track 1, given directly, with its statuses and links
-unfoldable pub visiting : ℕ → ℕ → Bool → ℕ → Bool → InLink → OutLink → Entry
-visiting t a x d y i o = record {
+-- a visit on track 1, given directly, with its mark, statuses and links; without a mark
+unfoldable pub stopping : ℕ → Bool → ℕ → Bool → ℕ → Bool → InLink → OutLink → Entry
+stopping t m a x d y i o = record {
   train = tr t;
-  visit = record { track = record { 0 = 1 }; arrival = at a; arrived = x; departure = at d; departed = y; inward = i; outward = o };
+  visit = record { track = record { 0 = 1 }; marked = m; arrival = at a; arrived = x; departure = at d; departed = y; inward = i; outward = o };
 }
+
+unfoldable pub visiting : ℕ → ℕ → Bool → ℕ → Bool → InLink → OutLink → Entry
+visiting t a x d y i o = stopping t false a x d y i o
 
 -- links: station and line; outwards with the running time
 unfoldable pub by : ℕ → ℕ → InLink
@@ -204,6 +213,16 @@ standing one two = put (st 1) one (put (st 2) two nothing-placed)
 
 unfoldable pub bare : Table
 bare = tabled [] []
+
+-- train 7 arrives at station 1 and goes on in one minute, marked or not, arrived or not; train 8 stops there meanwhile;
+-- one relation
+unfoldable pub request : Bool → Bool → Relation → Timetable
+request m x r =
+    standing (tabled (stopping 7 m 110 x 110 false (by 2 1) (to 2 1 12) ∷ visiting 8 105 false 112 false InLink.Nothing OutLink.Nothing ∷ []) (r ∷ [])) bare
+
+-- the listing's timetable after edits
+unfoldable pub later : Timetable → List Edit → Timetable
+later m es = run (after net) es m
 
 unfoldable pub counted : ℕ → ℕ → ℕ → ℕ → Tally
 counted a r d m = record { accepted = a; refused = r; added = d; removed = m }
@@ -240,6 +259,9 @@ pub data Case : Type 0 where
   edits-file : List ℕ → List ℕ → Case
   shift-file : List ℕ → List ℕ → Case
   timetable-file : Network → List ℕ → List ℕ → Case
+  -- the same of files in the earlier form; the numbers of what was read are those of the newest
+  early-edits-file : List ℕ → List ℕ → Case
+  early-timetable-file : Network → List ℕ → List ℕ → Case
   -- after the edits on an empty timetable the finding is listed, or not
   found : Network → List Edit → Finding → Bool → Case
   -- in the timetable, given directly, the finding is listed, or not
@@ -305,7 +327,7 @@ outcome-numbers f (accepted a next) = 0 ∷ next ∷ f a
 outcome-numbers f (refused k p) = k ∷ p ∷ []
 
 unfoldable pub placed-edits : Placed (List Edit) → List ℕ
-placed-edits p = p .place ∷ edits-numbers (p .entry)
+placed-edits p = p .place ∷ edits-numbers newest-form (p .entry)
 
 unfoldable pub shift-numbers : Shift → List ℕ
 shift-numbers x = network-numbers (x .network) ++ placed-edits (x .edits)
@@ -326,6 +348,8 @@ passes (turning bs out ks left) =
 passes (edits-file bs ks) = same ks (outcome-numbers placed-edits (read-edits bs))
 passes (shift-file bs ks) = same ks (outcome-numbers shift-numbers (read-shift bs))
 passes (timetable-file n bs ks) = same ks (outcome-numbers (timetable-numbers n) (read-timetable n bs))
+passes (early-edits-file bs ks) = same ks (outcome-numbers placed-edits (read-edits-as FileForm.Earlier bs))
+passes (early-timetable-file n bs ks) = same ks (outcome-numbers (timetable-numbers n) (read-timetable-as FileForm.Earlier n bs))
 passes (found n es f b) = Bool·beq b (lists f (findings n (run-in n es)))
 passes (stands n m f b) = Bool·beq b (lists f (findings n m))
 passes (related es rs) = same (flatMap key (run-of es (st 1) .relations)) (flatMap key rs)
@@ -355,10 +379,10 @@ failing k (c ∷ cs) = if passes c then failing (suc k) cs else k ∷ failing (s
 
 -- The key ring of this module and of all that it computes with.
 unfoldable pub opened : Unit {0}
-unfolding st tr ln at plan place prepend append delete-first delete-last arrives departs relate unrelate delete-train four two pair station timed-line line network closure closed-lines closed windows
-    timed with-capacity net branch leaving inbound crowd connections visiting by to tabled standing bare counted told run-in run-of area-part listed-edits
+unfolding st tr ln at marked-plan plan place prepend append delete-first delete-last arrives departs relate unrelate delete-train four two pair station timed-line line network closure closed-lines closed windows
+    timed with-capacity net branch leaving inbound crowd connections stopping visiting by to tabled standing bare request later counted told run-in run-of area-part listed-edits
     outcome-numbers placed-edits shift-numbers reads-as reads-refused lists answer-numbers signed row-numbers each-before along reply-numbers passes failing
     Lists.opened Runs.opened Numbers.opened Relations.opened Edits.opened Networks.opened
-    Refusals.opened Formats.opened NetworkFile.opened Outputs.opened Turning.opened EditsFile.opened TimetableFile.opened Pieces.opened
+    Refusals.opened Formats.opened FileForms.opened NetworkFile.opened Outputs.opened Turning.opened EditsFile.opened TimetableFile.opened Pieces.opened
     Visits.opened Tables.opened Machine.opened Groups.opened Good.opened Rules.opened Findings.opened Recheck.opened Projection.opened Count.opened Listing.opened
 opened = tt

@@ -1,20 +1,22 @@
 -- The edits file, and the input of `shift`. Document 01, "Files": "Edits: count (0..1000), then kind and fields; a
 -- relation is kind (1, 2, 3), interval, count of trains, trains (rising, except arriver, departer, whose count is 2)."
--- Assumes nothing.
+-- Document 02, W6: a stop mark "after its track in every edit that carries a track"; an edit is read and written in a
+-- form. Assumes nothing.
 use Prim.Native.Nat.{ℕ, zero, suc, _+_}
-use mathlib.Core.Bool.{Bool, not}
+use mathlib.Core.Bool.{Bool, false, not, _||_}
 use mathlib.Core.List.{List, [], _∷_, _++_, map, flatMap}
-use lib.Dec.{eqb}
+use lib.Dec.{leb, eqb}
 use lib.ListN.{length, getD}
 use Rattle.base.specs.Choice.{if_then_else_, _if_else_}
 use Rattle.railway.specs.Ranges.{last-minute}
 use Rattle.railway.specs.Relations.{used}
-use Rattle.timetable.specs.Types.{Trains, Pair, Relation, Connection, Disconnection, Dependency, Network}
+use Rattle.timetable.specs.Types.{Trains, Pair, Relation, Connection, Disconnection, Dependency, Network, FileForm}
 use Rattle.timetable.specs.Types.{Plan, Extension, Deletion, Report, StationRelation}
 use Rattle.timetable.specs.Types.{Edit, Place, Prepend, Append, DeleteFirst, DeleteLast, Amend}
 use Rattle.timetable.specs.Types.{ReportArrival, ReportDeparture, AddRelation, RemoveRelation, DeleteTrain}
 use Rattle.timetable.specs.Tables.{packed}
 use Rattle.timetable.specs.Formats.{Format, done, field, _and-then_, Outcome, accepted, behind, read-file, Range, _to_, compared, row, entries, Placed, placed}
+use Rattle.timetable.specs.FileForms.{newest-form, mark-range, mark-numbers, mark-said, with-mark}
 use Rattle.timetable.specs.NetworkFile.{Listed, network-format, network-of, network-fault, unless-fault}
 
 -- relations
@@ -72,31 +74,33 @@ station-relation-numbers r = r .station .0 ∷ relation-numbers (r .relation)
 
 -- edits
 
--- "(s, t, track, arrival, departure)"
-unfoldable pub plan-ranges : List Range
-plan-ranges = 1 to 16 ∷ 1 to 9999 ∷ 1 to 8 ∷ 0 to last-minute ∷ 0 to last-minute ∷ []
+-- "(s, t, track, arrival, departure)", the mark after the track
+unfoldable pub plan-ranges : FileForm → List Range
+plan-ranges form = 1 to 16 ∷ 1 to 9999 ∷ 1 to 8 ∷ (mark-range form ++ (0 to last-minute ∷ 0 to last-minute ∷ []))
 
+-- of the numbers that the newest form has
 unfoldable pub plan-of : List ℕ → Plan
 plan-of ns = record {
   station = record { 0 = getD ns 0 0 };
   train = record { 0 = getD ns 1 0 };
   track = record { 0 = getD ns 2 0 };
-  arrival = record { 0 = getD ns 3 0 };
-  departure = record { 0 = getD ns 4 0 };
+  marked = eqb (getD ns 3 0) 1;
+  arrival = record { 0 = getD ns 4 0 };
+  departure = record { 0 = getD ns 5 0 };
 }
 
-unfoldable pub plan-numbers : Plan → List ℕ
-plan-numbers p = p .station .0 ∷ p .train .0 ∷ p .track .0 ∷ p .arrival .0 ∷ p .departure .0 ∷ []
+unfoldable pub plan-numbers : FileForm → Plan → List ℕ
+plan-numbers form p = p .station .0 ∷ p .train .0 ∷ p .track .0 ∷ (mark-numbers form (p .marked) ++ (p .arrival .0 ∷ p .departure .0 ∷ []))
 
 -- "(as 1, then p, line, running time)"
-unfoldable pub extension-ranges : List Range
-extension-ranges = plan-ranges ++ (1 to 16 ∷ 1 to 32 ∷ 1 to 240 ∷ [])
+unfoldable pub extension-ranges : FileForm → List Range
+extension-ranges form = plan-ranges form ++ (1 to 16 ∷ 1 to 32 ∷ 1 to 240 ∷ [])
 
 unfoldable pub extension-of : List ℕ → Extension
-extension-of ns = record { plan = plan-of ns; other = record { 0 = getD ns 5 0 }; line = record { 0 = getD ns 6 0 }; run = getD ns 7 0 }
+extension-of ns = record { plan = plan-of ns; other = record { 0 = getD ns 6 0 }; line = record { 0 = getD ns 7 0 }; run = getD ns 8 0 }
 
-unfoldable pub extension-numbers : Extension → List ℕ
-extension-numbers x = plan-numbers (x .plan) ++ (x .other .0 ∷ x .line .0 ∷ x .run ∷ [])
+unfoldable pub extension-numbers : FileForm → Extension → List ℕ
+extension-numbers form x = plan-numbers form (x .plan) ++ (x .other .0 ∷ x .line .0 ∷ x .run ∷ [])
 
 -- "(s, t, p)"
 unfoldable pub deletion-ranges : List Range
@@ -120,14 +124,14 @@ report-numbers r = r .station .0 ∷ r .train .0 ∷ r .time .0 ∷ []
 
 -- the ranges of an edit's fields, and the edit of such fields, by the kind; 9 and 10 hold a relation instead
 
-unfoldable pub edit-ranges : ℕ → List Range
-edit-ranges kind =
-    if eqb kind 1 then plan-ranges
-    else if eqb kind 2 then extension-ranges
-    else if eqb kind 3 then extension-ranges
+unfoldable pub edit-ranges : FileForm → ℕ → List Range
+edit-ranges form kind =
+    if eqb kind 1 then plan-ranges form
+    else if eqb kind 2 then extension-ranges form
+    else if eqb kind 3 then extension-ranges form
     else if eqb kind 4 then deletion-ranges
     else if eqb kind 5 then deletion-ranges
-    else if eqb kind 6 then plan-ranges
+    else if eqb kind 6 then plan-ranges form
     else if eqb kind 7 then report-ranges
     else if eqb kind 8 then report-ranges
     else (1 to 9999 ∷ [])
@@ -144,42 +148,72 @@ edit-of kind ns =
     else if eqb kind 8 then ReportDeparture (report-of ns)
     else DeleteTrain (record { train = record { 0 = getD ns 0 0 } })
 
-unfoldable pub edit-fields : ℕ → Format Edit
-edit-fields kind =
+-- "every edit that carries a track"
+unfoldable pub has-track : ℕ → Bool
+has-track kind = leb kind 3 || eqb kind 6
+
+-- what the earlier form lacks of such fields is supplied
+unfoldable pub supplied : FileForm → ℕ → List ℕ → List ℕ
+supplied form kind ns = if has-track kind then with-mark form ns else ns
+
+unfoldable pub edit-fields : FileForm → ℕ → Format Edit
+edit-fields form kind =
     if eqb kind 9 then (station-relation-entry [] and-then (λ r. done (AddRelation r)))
     else if eqb kind 10 then (station-relation-entry [] and-then (λ r. done (RemoveRelation r)))
-    else (row (edit-ranges kind) [] and-then (λ ns. done (edit-of kind ns)))
+    else (row (edit-ranges form kind) [] and-then (λ ns. done (edit-of kind (supplied form kind ns))))
 
-unfoldable pub edit-entry : Format Edit
-edit-entry = field 1 11 edit-fields
+unfoldable pub edit-entry : FileForm → Format Edit
+edit-entry form = field 1 11 (edit-fields form)
 
-unfoldable pub edit-numbers : Edit → List ℕ
-edit-numbers (Place p) = 1 ∷ plan-numbers p
-edit-numbers (Prepend x) = 2 ∷ extension-numbers x
-edit-numbers (Append x) = 3 ∷ extension-numbers x
-edit-numbers (DeleteFirst d) = 4 ∷ deletion-numbers d
-edit-numbers (DeleteLast d) = 5 ∷ deletion-numbers d
-edit-numbers (Amend p) = 6 ∷ plan-numbers p
-edit-numbers (ReportArrival r) = 7 ∷ report-numbers r
-edit-numbers (ReportDeparture r) = 8 ∷ report-numbers r
-edit-numbers (AddRelation r) = 9 ∷ station-relation-numbers r
-edit-numbers (RemoveRelation r) = 10 ∷ station-relation-numbers r
-edit-numbers (DeleteTrain c) = 11 ∷ c .train .0 ∷ []
+unfoldable pub edit-numbers : FileForm → Edit → List ℕ
+edit-numbers form (Place p) = 1 ∷ plan-numbers form p
+edit-numbers form (Prepend x) = 2 ∷ extension-numbers form x
+edit-numbers form (Append x) = 3 ∷ extension-numbers form x
+edit-numbers form (DeleteFirst d) = 4 ∷ deletion-numbers d
+edit-numbers form (DeleteLast d) = 5 ∷ deletion-numbers d
+edit-numbers form (Amend p) = 6 ∷ plan-numbers form p
+edit-numbers form (ReportArrival r) = 7 ∷ report-numbers r
+edit-numbers form (ReportDeparture r) = 8 ∷ report-numbers r
+edit-numbers form (AddRelation r) = 9 ∷ station-relation-numbers r
+edit-numbers form (RemoveRelation r) = 10 ∷ station-relation-numbers r
+edit-numbers form (DeleteTrain c) = 11 ∷ c .train .0 ∷ []
+
+-- the mark that an edit carries, 0 where it carries no track
+unfoldable pub mark-of : Edit → Bool
+mark-of (Place p) = p .marked
+mark-of (Prepend x) = x .plan .marked
+mark-of (Append x) = x .plan .marked
+mark-of (DeleteFirst d) = false
+mark-of (DeleteLast d) = false
+mark-of (Amend p) = p .marked
+mark-of (ReportArrival r) = false
+mark-of (ReportDeparture r) = false
+mark-of (AddRelation r) = false
+mark-of (RemoveRelation r) = false
+mark-of (DeleteTrain c) = false
+
+-- a form can say it: the earlier one only what has the values that it is supplied with
+unfoldable pub edit-said : FileForm → Edit → Bool
+edit-said form e = mark-said form (mark-of e)
 
 -- lists of edits: edits have no order
 
-unfoldable pub edits-on : ℕ → Format (List Edit)
-edits-on k = entries (λ floor. edit-entry) (λ e. []) k []
+unfoldable pub edits-on : FileForm → ℕ → Format (List Edit)
+edits-on form k = entries (λ floor. edit-entry form) (λ e. []) k []
 
 -- the edits, with the place of the first
-unfoldable pub edits-format : Format (Placed (List Edit))
-edits-format = field 0 1000 (λ k. placed (edits-on k))
+unfoldable pub edits-format : FileForm → Format (Placed (List Edit))
+edits-format form = field 0 1000 (λ k. placed (edits-on form k))
 
-unfoldable pub read-edits : List ℕ → Outcome (Placed (List Edit))
-read-edits file = read-file edits-format file
+unfoldable pub read-edits-as : FileForm → List ℕ → Outcome (Placed (List Edit))
+read-edits-as form file = read-file (edits-format form) file
 
-unfoldable pub edits-numbers : List Edit → List ℕ
-edits-numbers es = length es ∷ flatMap edit-numbers es
+abbrev pub read-edits : List ℕ → Outcome (Placed (List Edit))
+read-edits file = read-edits-as newest-form file
+
+-- "what is written is the new form"
+unfoldable pub edits-numbers : FileForm → List Edit → List ℕ
+edits-numbers form es = length es ∷ flatMap (edit-numbers form) es
 
 -- the input of `shift`: "network, then edits"
 
@@ -193,7 +227,7 @@ pub record Input : Type 0 where
   pub edits : Placed (List Edit)
 
 unfoldable pub shift-format : Format Input
-shift-format = network-format and-then (λ x. edits-format and-then (λ es. done (record { listed = x; edits = es })))
+shift-format = network-format and-then (λ x. edits-format newest-form and-then (λ es. done (record { listed = x; edits = es })))
 
 unfoldable pub read-shift : List ℕ → Outcome Shift
 read-shift file =
@@ -204,5 +238,5 @@ read-shift file =
 unfoldable pub opened : Unit {0}
 unfolding trains-format pair-of group-of relation-of most-trains trains-part train-count-part interval-part relation-entry group-numbers relation-numbers station-relation-entry station-relation-numbers
     plan-ranges plan-of plan-numbers extension-ranges extension-of extension-numbers deletion-ranges deletion-of deletion-numbers report-ranges report-of
-    report-numbers edit-ranges edit-of edit-fields edit-entry edit-numbers edits-on edits-format read-edits edits-numbers shift-format read-shift
+    report-numbers edit-ranges edit-of has-track supplied edit-fields edit-entry edit-numbers mark-of edit-said edits-on edits-format read-edits-as edits-numbers shift-format read-shift
 opened = tt

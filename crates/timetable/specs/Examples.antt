@@ -5,19 +5,19 @@ use mathlib.Core.Path.{_≡_, refl}
 use mathlib.Core.Bool.{true, false}
 use mathlib.Core.List.{List, [], _∷_, _++_}
 use lib.ListN.{replicate}
-use Rattle.timetable.specs.Types.{Connection, Disconnection, Dependency, InLink, OutLink, Amend}
+use Rattle.timetable.specs.Types.{Connection, Disconnection, Dependency, InLink, OutLink, Place, Amend}
 use Rattle.timetable.specs.Findings.{finding}
 use Rattle.timetable.specs.Machine.{nothing-placed}
 use Rattle.timetable.specs.Formats.{bytes-of}
 use Rattle.timetable.specs.Pieces.{cut, size, station-row, timed-row, line-row, old-row, up-to-lines, network-row, one-station, headway-place, joined-by, first-line, second-line, closure-row, up-to-closures, closed-row, closed-by, first-closure, second-closure, old-file, old-second, old-closure, two-stations}
-use Rattle.timetable.specs.Pieces.{net-numbers, loop-numbers, listed-numbers, each-kind, crowd-visits, connected}
+use Rattle.timetable.specs.Pieces.{marked-row, extension-row, edit-row, net-numbers, loop-numbers, listed-numbers, each-with, each-kind, crowd-visits, connected}
 use Rattle.timetable.specs.Cases as Cases
 use Rattle.timetable.specs.Cases.{st, plan, place, prepend, append, delete-first, delete-last, arrives, departs, relate, unrelate, delete-train}
 use Rattle.timetable.specs.Cases.{four, two, pair, station, line, network, closure, closed-lines, closed, windows, timed, with-capacity, net, branch, leaving, inbound, crowd, connections}
-use Rattle.timetable.specs.Cases.{visiting, by, to, tabled, standing, bare, counted, told}
+use Rattle.timetable.specs.Cases.{marked-plan, request, later, visiting, by, to, tabled, standing, bare, counted, told}
 use Rattle.timetable.specs.Cases.{Case, bytes, unread, found, stands, related, answered, answered-on, ordered, network-is, naming, table-is}
-use Rattle.timetable.specs.Cases.{network-file, turning, edits-file, shift-file, timetable-file}
-use Rattle.timetable.specs.Cases.{area-has, pair-has, rechecks, rechecks-area, rechecks-other, rechecks-other-area, list-is, projected, tallied, printed, failing, run-of, listed-edits}
+use Rattle.timetable.specs.Cases.{network-file, turning, edits-file, shift-file, timetable-file, early-edits-file, early-timetable-file}
+use Rattle.timetable.specs.Cases.{area-has, pair-has, rechecks, rechecks-area, rechecks-other, rechecks-other-area, list-is, projected, tallied, printed, failing, run-in, run-of, listed-edits}
 
 -- document 01, "Examples on the edges" and "A run of the program `shift`"
 pub document : List Case
@@ -375,17 +375,28 @@ files =
     ∷ edits-file (bytes-of (1 ∷ 0 ∷ [])) (3 ∷ 1 ∷ [])
     ∷ edits-file (bytes-of (1 ∷ 12 ∷ [])) (3 ∷ 1 ∷ [])
     -- ranges of edits, at the first faulty number
-    ∷ edits-file (bytes-of (1 ∷ 1 ∷ 17 ∷ 7 ∷ 1 ∷ 100 ∷ 102 ∷ [])) (3 ∷ 2 ∷ [])
-    ∷ edits-file (bytes-of (1 ∷ 1 ∷ 16 ∷ 10000 ∷ 9 ∷ 2880 ∷ 2880 ∷ [])) (3 ∷ 3 ∷ [])
-    ∷ edits-file (bytes-of (1 ∷ 1 ∷ 16 ∷ 9999 ∷ 9 ∷ 2880 ∷ 2880 ∷ [])) (3 ∷ 5 ∷ [])
-    ∷ edits-file (bytes-of (1 ∷ 1 ∷ 16 ∷ 9999 ∷ 8 ∷ 2880 ∷ 2880 ∷ [])) (3 ∷ 6 ∷ [])
-    ∷ edits-file (bytes-of (1 ∷ 1 ∷ 16 ∷ 9999 ∷ 8 ∷ 2879 ∷ 2880 ∷ [])) (3 ∷ 8 ∷ [])
-    ∷ edits-file (bytes-of (1 ∷ 1 ∷ 16 ∷ 9999 ∷ 8 ∷ 2879 ∷ 2879 ∷ [])) (0 ∷ 10 ∷ 1 ∷ 1 ∷ 1 ∷ 16 ∷ 9999 ∷ 8 ∷ 2879 ∷ 2879 ∷ [])
-    ∷ edits-file (bytes-of (1 ∷ 2 ∷ 1 ∷ 7 ∷ 1 ∷ 1 ∷ 1 ∷ 17 ∷ 33 ∷ 0 ∷ [])) (3 ∷ 7 ∷ [])
-    ∷ edits-file (bytes-of (1 ∷ 2 ∷ 1 ∷ 7 ∷ 1 ∷ 1 ∷ 1 ∷ 16 ∷ 33 ∷ 0 ∷ [])) (3 ∷ 8 ∷ [])
-    ∷ edits-file (bytes-of (1 ∷ 2 ∷ 1 ∷ 7 ∷ 1 ∷ 1 ∷ 1 ∷ 16 ∷ 32 ∷ 0 ∷ [])) (3 ∷ 9 ∷ [])
-    ∷ edits-file (bytes-of (1 ∷ 2 ∷ 1 ∷ 7 ∷ 1 ∷ 1 ∷ 1 ∷ 16 ∷ 32 ∷ 241 ∷ [])) (3 ∷ 9 ∷ [])
-    ∷ edits-file (bytes-of (1 ∷ 3 ∷ 1 ∷ 7 ∷ 1 ∷ 1 ∷ 1 ∷ 0 ∷ 32 ∷ 1 ∷ [])) (3 ∷ 7 ∷ [])
+    ∷ edits-file (bytes-of (1 ∷ 1 ∷ 17 ∷ 7 ∷ 1 ∷ 0 ∷ 100 ∷ 102 ∷ [])) (3 ∷ 2 ∷ [])
+    ∷ early-edits-file (bytes-of (1 ∷ 1 ∷ 17 ∷ 7 ∷ 1 ∷ 100 ∷ 102 ∷ [])) (3 ∷ 2 ∷ [])
+    ∷ edits-file (bytes-of (1 ∷ 1 ∷ 16 ∷ 10000 ∷ 9 ∷ 0 ∷ 2880 ∷ 2880 ∷ [])) (3 ∷ 3 ∷ [])
+    ∷ early-edits-file (bytes-of (1 ∷ 1 ∷ 16 ∷ 10000 ∷ 9 ∷ 2880 ∷ 2880 ∷ [])) (3 ∷ 3 ∷ [])
+    ∷ edits-file (bytes-of (1 ∷ 1 ∷ 16 ∷ 9999 ∷ 9 ∷ 0 ∷ 2880 ∷ 2880 ∷ [])) (3 ∷ 5 ∷ [])
+    ∷ early-edits-file (bytes-of (1 ∷ 1 ∷ 16 ∷ 9999 ∷ 9 ∷ 2880 ∷ 2880 ∷ [])) (3 ∷ 5 ∷ [])
+    ∷ edits-file (bytes-of (1 ∷ 1 ∷ 16 ∷ 9999 ∷ 8 ∷ 0 ∷ 2880 ∷ 2880 ∷ [])) (3 ∷ 7 ∷ [])
+    ∷ early-edits-file (bytes-of (1 ∷ 1 ∷ 16 ∷ 9999 ∷ 8 ∷ 2880 ∷ 2880 ∷ [])) (3 ∷ 6 ∷ [])
+    ∷ edits-file (bytes-of (1 ∷ 1 ∷ 16 ∷ 9999 ∷ 8 ∷ 0 ∷ 2879 ∷ 2880 ∷ [])) (3 ∷ 9 ∷ [])
+    ∷ early-edits-file (bytes-of (1 ∷ 1 ∷ 16 ∷ 9999 ∷ 8 ∷ 2879 ∷ 2880 ∷ [])) (3 ∷ 8 ∷ [])
+    ∷ edits-file (bytes-of (1 ∷ 1 ∷ 16 ∷ 9999 ∷ 8 ∷ 0 ∷ 2879 ∷ 2879 ∷ [])) (0 ∷ 11 ∷ 1 ∷ 1 ∷ 1 ∷ 16 ∷ 9999 ∷ 8 ∷ 0 ∷ 2879 ∷ 2879 ∷ [])
+    ∷ early-edits-file (bytes-of (1 ∷ 1 ∷ 16 ∷ 9999 ∷ 8 ∷ 2879 ∷ 2879 ∷ [])) (0 ∷ 10 ∷ 1 ∷ 1 ∷ 1 ∷ 16 ∷ 9999 ∷ 8 ∷ 0 ∷ 2879 ∷ 2879 ∷ [])
+    ∷ edits-file (bytes-of (1 ∷ 2 ∷ 1 ∷ 7 ∷ 1 ∷ 0 ∷ 1 ∷ 1 ∷ 17 ∷ 33 ∷ 0 ∷ [])) (3 ∷ 8 ∷ [])
+    ∷ early-edits-file (bytes-of (1 ∷ 2 ∷ 1 ∷ 7 ∷ 1 ∷ 1 ∷ 1 ∷ 17 ∷ 33 ∷ 0 ∷ [])) (3 ∷ 7 ∷ [])
+    ∷ edits-file (bytes-of (1 ∷ 2 ∷ 1 ∷ 7 ∷ 1 ∷ 0 ∷ 1 ∷ 1 ∷ 16 ∷ 33 ∷ 0 ∷ [])) (3 ∷ 9 ∷ [])
+    ∷ early-edits-file (bytes-of (1 ∷ 2 ∷ 1 ∷ 7 ∷ 1 ∷ 1 ∷ 1 ∷ 16 ∷ 33 ∷ 0 ∷ [])) (3 ∷ 8 ∷ [])
+    ∷ edits-file (bytes-of (1 ∷ 2 ∷ 1 ∷ 7 ∷ 1 ∷ 0 ∷ 1 ∷ 1 ∷ 16 ∷ 32 ∷ 0 ∷ [])) (3 ∷ 10 ∷ [])
+    ∷ early-edits-file (bytes-of (1 ∷ 2 ∷ 1 ∷ 7 ∷ 1 ∷ 1 ∷ 1 ∷ 16 ∷ 32 ∷ 0 ∷ [])) (3 ∷ 9 ∷ [])
+    ∷ edits-file (bytes-of (1 ∷ 2 ∷ 1 ∷ 7 ∷ 1 ∷ 0 ∷ 1 ∷ 1 ∷ 16 ∷ 32 ∷ 241 ∷ [])) (3 ∷ 10 ∷ [])
+    ∷ early-edits-file (bytes-of (1 ∷ 2 ∷ 1 ∷ 7 ∷ 1 ∷ 1 ∷ 1 ∷ 16 ∷ 32 ∷ 241 ∷ [])) (3 ∷ 9 ∷ [])
+    ∷ edits-file (bytes-of (1 ∷ 3 ∷ 1 ∷ 7 ∷ 1 ∷ 0 ∷ 1 ∷ 1 ∷ 0 ∷ 32 ∷ 1 ∷ [])) (3 ∷ 8 ∷ [])
+    ∷ early-edits-file (bytes-of (1 ∷ 3 ∷ 1 ∷ 7 ∷ 1 ∷ 1 ∷ 1 ∷ 0 ∷ 32 ∷ 1 ∷ [])) (3 ∷ 7 ∷ [])
     ∷ edits-file (bytes-of (1 ∷ 4 ∷ 1 ∷ 7 ∷ 0 ∷ [])) (3 ∷ 4 ∷ [])
     ∷ edits-file (bytes-of (1 ∷ 7 ∷ 1 ∷ 7 ∷ 2880 ∷ [])) (3 ∷ 4 ∷ [])
     ∷ edits-file (bytes-of (1 ∷ 11 ∷ 0 ∷ [])) (3 ∷ 2 ∷ [])
@@ -410,25 +421,37 @@ files =
     ∷ shift-file (bytes-of (net-numbers ++ (1 ∷ 1 ∷ 7 ∷ []))) (1 ∷ (size net-numbers + 3) ∷ [])
     ∷ shift-file [] (1 ∷ 0 ∷ [])
     -- timetables: visits with their links and statuses, and relations; none
-    ∷ timetable-file net (bytes-of (3 ∷ 1 ∷ 7 ∷ 1 ∷ 100 ∷ 1 ∷ 102 ∷ 0 ∷ 0 ∷ 2 ∷ 1 ∷ 12 ∷ 1 ∷ 8 ∷ 2 ∷ 100 ∷ 0 ∷ 102 ∷ 0 ∷ 0 ∷ 0 ∷ 2 ∷ 7 ∷ 1 ∷ 115 ∷ 0 ∷ 115 ∷ 0 ∷ 1 ∷ 1 ∷ 0 ∷ 3 ∷ 1 ∷ 1 ∷ 5 ∷ 2 ∷ 7 ∷ 9 ∷ 1 ∷ 1 ∷ 5 ∷ 3 ∷ 7 ∷ 8 ∷ 9 ∷ 2 ∷ 3 ∷ 0 ∷ 2 ∷ 7 ∷ 7 ∷ [])) (0 ∷ 51 ∷ 3 ∷ 1 ∷ 7 ∷ 1 ∷ 100 ∷ 1 ∷ 102 ∷ 0 ∷ 0 ∷ 2 ∷ 1 ∷ 12 ∷ 1 ∷ 8 ∷ 2 ∷ 100 ∷ 0 ∷ 102 ∷ 0 ∷ 0 ∷ 0 ∷ 2 ∷ 7 ∷ 1 ∷ 115 ∷ 0 ∷ 115 ∷ 0 ∷ 1 ∷ 1 ∷ 0 ∷ 3 ∷ 1 ∷ 1 ∷ 5 ∷ 2 ∷ 7 ∷ 9 ∷ 1 ∷ 1 ∷ 5 ∷ 3 ∷ 7 ∷ 8 ∷ 9 ∷ 2 ∷ 3 ∷ 0 ∷ 2 ∷ 7 ∷ 7 ∷ [])
+    ∷ timetable-file net (bytes-of (3 ∷ 1 ∷ 7 ∷ 1 ∷ 0 ∷ 100 ∷ 1 ∷ 102 ∷ 0 ∷ 0 ∷ 2 ∷ 1 ∷ 12 ∷ 1 ∷ 8 ∷ 2 ∷ 0 ∷ 100 ∷ 0 ∷ 102 ∷ 0 ∷ 0 ∷ 0 ∷ 2 ∷ 7 ∷ 1 ∷ 0 ∷ 115 ∷ 0 ∷ 115 ∷ 0 ∷ 1 ∷ 1 ∷ 0 ∷ 3 ∷ 1 ∷ 1 ∷ 5 ∷ 2 ∷ 7 ∷ 9 ∷ 1 ∷ 1 ∷ 5 ∷ 3 ∷ 7 ∷ 8 ∷ 9 ∷ 2 ∷ 3 ∷ 0 ∷ 2 ∷ 7 ∷ 7 ∷ [])) (0 ∷ 54 ∷ 3 ∷ 1 ∷ 7 ∷ 1 ∷ 0 ∷ 100 ∷ 1 ∷ 102 ∷ 0 ∷ 0 ∷ 2 ∷ 1 ∷ 12 ∷ 1 ∷ 8 ∷ 2 ∷ 0 ∷ 100 ∷ 0 ∷ 102 ∷ 0 ∷ 0 ∷ 0 ∷ 2 ∷ 7 ∷ 1 ∷ 0 ∷ 115 ∷ 0 ∷ 115 ∷ 0 ∷ 1 ∷ 1 ∷ 0 ∷ 3 ∷ 1 ∷ 1 ∷ 5 ∷ 2 ∷ 7 ∷ 9 ∷ 1 ∷ 1 ∷ 5 ∷ 3 ∷ 7 ∷ 8 ∷ 9 ∷ 2 ∷ 3 ∷ 0 ∷ 2 ∷ 7 ∷ 7 ∷ [])
+    ∷ early-timetable-file net (bytes-of (3 ∷ 1 ∷ 7 ∷ 1 ∷ 100 ∷ 1 ∷ 102 ∷ 0 ∷ 0 ∷ 2 ∷ 1 ∷ 12 ∷ 1 ∷ 8 ∷ 2 ∷ 100 ∷ 0 ∷ 102 ∷ 0 ∷ 0 ∷ 0 ∷ 2 ∷ 7 ∷ 1 ∷ 115 ∷ 0 ∷ 115 ∷ 0 ∷ 1 ∷ 1 ∷ 0 ∷ 3 ∷ 1 ∷ 1 ∷ 5 ∷ 2 ∷ 7 ∷ 9 ∷ 1 ∷ 1 ∷ 5 ∷ 3 ∷ 7 ∷ 8 ∷ 9 ∷ 2 ∷ 3 ∷ 0 ∷ 2 ∷ 7 ∷ 7 ∷ [])) (0 ∷ 51 ∷ 3 ∷ 1 ∷ 7 ∷ 1 ∷ 0 ∷ 100 ∷ 1 ∷ 102 ∷ 0 ∷ 0 ∷ 2 ∷ 1 ∷ 12 ∷ 1 ∷ 8 ∷ 2 ∷ 0 ∷ 100 ∷ 0 ∷ 102 ∷ 0 ∷ 0 ∷ 0 ∷ 2 ∷ 7 ∷ 1 ∷ 0 ∷ 115 ∷ 0 ∷ 115 ∷ 0 ∷ 1 ∷ 1 ∷ 0 ∷ 3 ∷ 1 ∷ 1 ∷ 5 ∷ 2 ∷ 7 ∷ 9 ∷ 1 ∷ 1 ∷ 5 ∷ 3 ∷ 7 ∷ 8 ∷ 9 ∷ 2 ∷ 3 ∷ 0 ∷ 2 ∷ 7 ∷ 7 ∷ [])
     ∷ timetable-file net (bytes-of (0 ∷ 0 ∷ [])) (0 ∷ 2 ∷ 0 ∷ 0 ∷ [])
     ∷ timetable-file net (bytes-of (0 ∷ [])) (1 ∷ 1 ∷ [])
     ∷ timetable-file net (bytes-of (0 ∷ 0 ∷ 0 ∷ [])) (1 ∷ 2 ∷ [])
     ∷ timetable-file net (bytes-of (385 ∷ [])) (3 ∷ 0 ∷ [])
     ∷ timetable-file net (bytes-of (0 ∷ 97 ∷ [])) (3 ∷ 1 ∷ [])
     -- visits out of order: s falls; t falls, t is equal where s is; a falling number comes before a fault behind it
-    ∷ timetable-file net (bytes-of (2 ∷ 2 ∷ 7 ∷ 1 ∷ 115 ∷ 0 ∷ 115 ∷ 0 ∷ 1 ∷ 1 ∷ 0 ∷ 1 ∷ 7 ∷ 1 ∷ 100 ∷ 1 ∷ 102 ∷ 0 ∷ 0 ∷ 2 ∷ 1 ∷ 12 ∷ 0 ∷ [])) (3 ∷ 11 ∷ [])
-    ∷ timetable-file net (bytes-of (2 ∷ 1 ∷ 8 ∷ 2 ∷ 100 ∷ 0 ∷ 102 ∷ 0 ∷ 0 ∷ 0 ∷ 1 ∷ 7 ∷ 1 ∷ 100 ∷ 1 ∷ 102 ∷ 0 ∷ 0 ∷ 2 ∷ 1 ∷ 12 ∷ 0 ∷ [])) (3 ∷ 11 ∷ [])
-    ∷ timetable-file net (bytes-of (2 ∷ 1 ∷ 8 ∷ 2 ∷ 100 ∷ 0 ∷ 102 ∷ 0 ∷ 0 ∷ 0 ∷ 1 ∷ 8 ∷ 2 ∷ 100 ∷ 0 ∷ 102 ∷ 0 ∷ 0 ∷ 0 ∷ 0 ∷ [])) (3 ∷ 11 ∷ [])
-    ∷ timetable-file net (bytes-of (2 ∷ 1 ∷ 8 ∷ 2 ∷ 100 ∷ 0 ∷ 102 ∷ 0 ∷ 0 ∷ 0 ∷ 2 ∷ 1 ∷ 1 ∷ 115 ∷ 0 ∷ 115 ∷ 0 ∷ 1 ∷ 1 ∷ 0 ∷ 0 ∷ [])) (0 ∷ 21 ∷ 2 ∷ 1 ∷ 8 ∷ 2 ∷ 100 ∷ 0 ∷ 102 ∷ 0 ∷ 0 ∷ 0 ∷ 2 ∷ 1 ∷ 1 ∷ 115 ∷ 0 ∷ 115 ∷ 0 ∷ 1 ∷ 1 ∷ 0 ∷ 0 ∷ [])
-    ∷ timetable-file net (bytes-of (2 ∷ 2 ∷ 7 ∷ 1 ∷ 115 ∷ 0 ∷ 115 ∷ 0 ∷ 1 ∷ 1 ∷ 0 ∷ 1 ∷ 0 ∷ 1 ∷ 100 ∷ 1 ∷ 102 ∷ 0 ∷ 0 ∷ 2 ∷ 1 ∷ 12 ∷ 0 ∷ [])) (3 ∷ 11 ∷ [])
+    ∷ timetable-file net (bytes-of (2 ∷ 2 ∷ 7 ∷ 1 ∷ 0 ∷ 115 ∷ 0 ∷ 115 ∷ 0 ∷ 1 ∷ 1 ∷ 0 ∷ 1 ∷ 7 ∷ 1 ∷ 0 ∷ 100 ∷ 1 ∷ 102 ∷ 0 ∷ 0 ∷ 2 ∷ 1 ∷ 12 ∷ 0 ∷ [])) (3 ∷ 12 ∷ [])
+    ∷ early-timetable-file net (bytes-of (2 ∷ 2 ∷ 7 ∷ 1 ∷ 115 ∷ 0 ∷ 115 ∷ 0 ∷ 1 ∷ 1 ∷ 0 ∷ 1 ∷ 7 ∷ 1 ∷ 100 ∷ 1 ∷ 102 ∷ 0 ∷ 0 ∷ 2 ∷ 1 ∷ 12 ∷ 0 ∷ [])) (3 ∷ 11 ∷ [])
+    ∷ timetable-file net (bytes-of (2 ∷ 1 ∷ 8 ∷ 2 ∷ 0 ∷ 100 ∷ 0 ∷ 102 ∷ 0 ∷ 0 ∷ 0 ∷ 1 ∷ 7 ∷ 1 ∷ 0 ∷ 100 ∷ 1 ∷ 102 ∷ 0 ∷ 0 ∷ 2 ∷ 1 ∷ 12 ∷ 0 ∷ [])) (3 ∷ 12 ∷ [])
+    ∷ early-timetable-file net (bytes-of (2 ∷ 1 ∷ 8 ∷ 2 ∷ 100 ∷ 0 ∷ 102 ∷ 0 ∷ 0 ∷ 0 ∷ 1 ∷ 7 ∷ 1 ∷ 100 ∷ 1 ∷ 102 ∷ 0 ∷ 0 ∷ 2 ∷ 1 ∷ 12 ∷ 0 ∷ [])) (3 ∷ 11 ∷ [])
+    ∷ timetable-file net (bytes-of (2 ∷ 1 ∷ 8 ∷ 2 ∷ 0 ∷ 100 ∷ 0 ∷ 102 ∷ 0 ∷ 0 ∷ 0 ∷ 1 ∷ 8 ∷ 2 ∷ 0 ∷ 100 ∷ 0 ∷ 102 ∷ 0 ∷ 0 ∷ 0 ∷ 0 ∷ [])) (3 ∷ 12 ∷ [])
+    ∷ early-timetable-file net (bytes-of (2 ∷ 1 ∷ 8 ∷ 2 ∷ 100 ∷ 0 ∷ 102 ∷ 0 ∷ 0 ∷ 0 ∷ 1 ∷ 8 ∷ 2 ∷ 100 ∷ 0 ∷ 102 ∷ 0 ∷ 0 ∷ 0 ∷ 0 ∷ [])) (3 ∷ 11 ∷ [])
+    ∷ timetable-file net (bytes-of (2 ∷ 1 ∷ 8 ∷ 2 ∷ 0 ∷ 100 ∷ 0 ∷ 102 ∷ 0 ∷ 0 ∷ 0 ∷ 2 ∷ 1 ∷ 1 ∷ 0 ∷ 115 ∷ 0 ∷ 115 ∷ 0 ∷ 1 ∷ 1 ∷ 0 ∷ 0 ∷ [])) (0 ∷ 23 ∷ 2 ∷ 1 ∷ 8 ∷ 2 ∷ 0 ∷ 100 ∷ 0 ∷ 102 ∷ 0 ∷ 0 ∷ 0 ∷ 2 ∷ 1 ∷ 1 ∷ 0 ∷ 115 ∷ 0 ∷ 115 ∷ 0 ∷ 1 ∷ 1 ∷ 0 ∷ 0 ∷ [])
+    ∷ early-timetable-file net (bytes-of (2 ∷ 1 ∷ 8 ∷ 2 ∷ 100 ∷ 0 ∷ 102 ∷ 0 ∷ 0 ∷ 0 ∷ 2 ∷ 1 ∷ 1 ∷ 115 ∷ 0 ∷ 115 ∷ 0 ∷ 1 ∷ 1 ∷ 0 ∷ 0 ∷ [])) (0 ∷ 21 ∷ 2 ∷ 1 ∷ 8 ∷ 2 ∷ 0 ∷ 100 ∷ 0 ∷ 102 ∷ 0 ∷ 0 ∷ 0 ∷ 2 ∷ 1 ∷ 1 ∷ 0 ∷ 115 ∷ 0 ∷ 115 ∷ 0 ∷ 1 ∷ 1 ∷ 0 ∷ 0 ∷ [])
+    ∷ timetable-file net (bytes-of (2 ∷ 2 ∷ 7 ∷ 1 ∷ 0 ∷ 115 ∷ 0 ∷ 115 ∷ 0 ∷ 1 ∷ 1 ∷ 0 ∷ 1 ∷ 0 ∷ 1 ∷ 0 ∷ 100 ∷ 1 ∷ 102 ∷ 0 ∷ 0 ∷ 2 ∷ 1 ∷ 12 ∷ 0 ∷ [])) (3 ∷ 12 ∷ [])
+    ∷ early-timetable-file net (bytes-of (2 ∷ 2 ∷ 7 ∷ 1 ∷ 115 ∷ 0 ∷ 115 ∷ 0 ∷ 1 ∷ 1 ∷ 0 ∷ 1 ∷ 0 ∷ 1 ∷ 100 ∷ 1 ∷ 102 ∷ 0 ∷ 0 ∷ 2 ∷ 1 ∷ 12 ∷ 0 ∷ [])) (3 ∷ 11 ∷ [])
     -- ranges of visits and links
-    ∷ timetable-file net (bytes-of (1 ∷ 17 ∷ 7 ∷ 1 ∷ 100 ∷ 1 ∷ 102 ∷ 0 ∷ 0 ∷ 2 ∷ 1 ∷ 12 ∷ 0 ∷ [])) (3 ∷ 1 ∷ [])
-    ∷ timetable-file net (bytes-of (1 ∷ 1 ∷ 7 ∷ 1 ∷ 100 ∷ 2 ∷ 102 ∷ 0 ∷ 0 ∷ 0 ∷ 0 ∷ [])) (3 ∷ 5 ∷ [])
-    ∷ timetable-file net (bytes-of (1 ∷ 1 ∷ 7 ∷ 1 ∷ 100 ∷ 1 ∷ 102 ∷ 2 ∷ 0 ∷ 0 ∷ 0 ∷ [])) (3 ∷ 7 ∷ [])
-    ∷ timetable-file net (bytes-of (1 ∷ 1 ∷ 7 ∷ 1 ∷ 100 ∷ 0 ∷ 102 ∷ 0 ∷ 17 ∷ 1 ∷ 0 ∷ 0 ∷ [])) (3 ∷ 8 ∷ [])
-    ∷ timetable-file net (bytes-of (1 ∷ 1 ∷ 7 ∷ 1 ∷ 100 ∷ 0 ∷ 102 ∷ 0 ∷ 2 ∷ 33 ∷ 0 ∷ 0 ∷ [])) (3 ∷ 9 ∷ [])
-    ∷ timetable-file net (bytes-of (1 ∷ 1 ∷ 7 ∷ 1 ∷ 100 ∷ 0 ∷ 102 ∷ 0 ∷ 0 ∷ 2 ∷ 1 ∷ 0 ∷ 0 ∷ [])) (3 ∷ 11 ∷ [])
+    ∷ timetable-file net (bytes-of (1 ∷ 17 ∷ 7 ∷ 1 ∷ 0 ∷ 100 ∷ 1 ∷ 102 ∷ 0 ∷ 0 ∷ 2 ∷ 1 ∷ 12 ∷ 0 ∷ [])) (3 ∷ 1 ∷ [])
+    ∷ early-timetable-file net (bytes-of (1 ∷ 17 ∷ 7 ∷ 1 ∷ 100 ∷ 1 ∷ 102 ∷ 0 ∷ 0 ∷ 2 ∷ 1 ∷ 12 ∷ 0 ∷ [])) (3 ∷ 1 ∷ [])
+    ∷ timetable-file net (bytes-of (1 ∷ 1 ∷ 7 ∷ 1 ∷ 0 ∷ 100 ∷ 2 ∷ 102 ∷ 0 ∷ 0 ∷ 0 ∷ 0 ∷ [])) (3 ∷ 6 ∷ [])
+    ∷ early-timetable-file net (bytes-of (1 ∷ 1 ∷ 7 ∷ 1 ∷ 100 ∷ 2 ∷ 102 ∷ 0 ∷ 0 ∷ 0 ∷ 0 ∷ [])) (3 ∷ 5 ∷ [])
+    ∷ timetable-file net (bytes-of (1 ∷ 1 ∷ 7 ∷ 1 ∷ 0 ∷ 100 ∷ 1 ∷ 102 ∷ 2 ∷ 0 ∷ 0 ∷ 0 ∷ [])) (3 ∷ 8 ∷ [])
+    ∷ early-timetable-file net (bytes-of (1 ∷ 1 ∷ 7 ∷ 1 ∷ 100 ∷ 1 ∷ 102 ∷ 2 ∷ 0 ∷ 0 ∷ 0 ∷ [])) (3 ∷ 7 ∷ [])
+    ∷ timetable-file net (bytes-of (1 ∷ 1 ∷ 7 ∷ 1 ∷ 0 ∷ 100 ∷ 0 ∷ 102 ∷ 0 ∷ 17 ∷ 1 ∷ 0 ∷ 0 ∷ [])) (3 ∷ 9 ∷ [])
+    ∷ early-timetable-file net (bytes-of (1 ∷ 1 ∷ 7 ∷ 1 ∷ 100 ∷ 0 ∷ 102 ∷ 0 ∷ 17 ∷ 1 ∷ 0 ∷ 0 ∷ [])) (3 ∷ 8 ∷ [])
+    ∷ timetable-file net (bytes-of (1 ∷ 1 ∷ 7 ∷ 1 ∷ 0 ∷ 100 ∷ 0 ∷ 102 ∷ 0 ∷ 2 ∷ 33 ∷ 0 ∷ 0 ∷ [])) (3 ∷ 10 ∷ [])
+    ∷ early-timetable-file net (bytes-of (1 ∷ 1 ∷ 7 ∷ 1 ∷ 100 ∷ 0 ∷ 102 ∷ 0 ∷ 2 ∷ 33 ∷ 0 ∷ 0 ∷ [])) (3 ∷ 9 ∷ [])
+    ∷ timetable-file net (bytes-of (1 ∷ 1 ∷ 7 ∷ 1 ∷ 0 ∷ 100 ∷ 0 ∷ 102 ∷ 0 ∷ 0 ∷ 2 ∷ 1 ∷ 0 ∷ 0 ∷ [])) (3 ∷ 12 ∷ [])
+    ∷ early-timetable-file net (bytes-of (1 ∷ 1 ∷ 7 ∷ 1 ∷ 100 ∷ 0 ∷ 102 ∷ 0 ∷ 0 ∷ 2 ∷ 1 ∷ 0 ∷ 0 ∷ [])) (3 ∷ 11 ∷ [])
     -- relations out of order: by station, kind, interval, count, each train; equal ones at the last train
     ∷ timetable-file net (bytes-of (0 ∷ 2 ∷ 2 ∷ 3 ∷ 0 ∷ 2 ∷ 7 ∷ 7 ∷ 1 ∷ 1 ∷ 5 ∷ 2 ∷ 7 ∷ 9 ∷ [])) (3 ∷ 8 ∷ [])
     ∷ timetable-file net (bytes-of (0 ∷ 2 ∷ 1 ∷ 2 ∷ 0 ∷ 2 ∷ 7 ∷ 8 ∷ 1 ∷ 1 ∷ 5 ∷ 2 ∷ 7 ∷ 9 ∷ [])) (3 ∷ 9 ∷ [])
@@ -440,22 +463,34 @@ files =
     ∷ timetable-file net (bytes-of (0 ∷ 2 ∷ 1 ∷ 1 ∷ 5 ∷ 2 ∷ 7 ∷ 9 ∷ 1 ∷ 1 ∷ 5 ∷ 2 ∷ 8 ∷ 8 ∷ [])) (3 ∷ 13 ∷ [])
     ∷ timetable-file net (bytes-of (0 ∷ 2 ∷ 1 ∷ 3 ∷ 5 ∷ 2 ∷ 7 ∷ 9 ∷ 1 ∷ 3 ∷ 5 ∷ 2 ∷ 8 ∷ 2 ∷ [])) (0 ∷ 14 ∷ 0 ∷ 2 ∷ 1 ∷ 3 ∷ 5 ∷ 2 ∷ 7 ∷ 9 ∷ 1 ∷ 3 ∷ 5 ∷ 2 ∷ 8 ∷ 2 ∷ [])
     -- 7 and 12 at the entry's first byte, entry by entry; not before a faulty number, not without one entry too many
-    ∷ timetable-file net (bytes-of (1 ∷ 3 ∷ 7 ∷ 1 ∷ 100 ∷ 0 ∷ 102 ∷ 0 ∷ 0 ∷ 0 ∷ 0 ∷ [])) (7 ∷ 1 ∷ [])
-    ∷ timetable-file net (bytes-of (1 ∷ 1 ∷ 7 ∷ 3 ∷ 100 ∷ 0 ∷ 102 ∷ 0 ∷ 0 ∷ 0 ∷ 0 ∷ [])) (7 ∷ 1 ∷ [])
-    ∷ timetable-file net (bytes-of (2 ∷ 1 ∷ 8 ∷ 2 ∷ 100 ∷ 0 ∷ 102 ∷ 0 ∷ 0 ∷ 0 ∷ 2 ∷ 7 ∷ 2 ∷ 100 ∷ 0 ∷ 102 ∷ 0 ∷ 0 ∷ 0 ∷ 0 ∷ [])) (7 ∷ 10 ∷ [])
-    ∷ timetable-file net (bytes-of (1 ∷ 1 ∷ 7 ∷ 1 ∷ 100 ∷ 0 ∷ 102 ∷ 0 ∷ 2 ∷ 2 ∷ 0 ∷ 0 ∷ [])) (7 ∷ 1 ∷ [])
-    ∷ timetable-file net (bytes-of (1 ∷ 1 ∷ 7 ∷ 1 ∷ 100 ∷ 0 ∷ 102 ∷ 0 ∷ 3 ∷ 1 ∷ 0 ∷ 0 ∷ [])) (7 ∷ 1 ∷ [])
-    ∷ timetable-file net (bytes-of (1 ∷ 1 ∷ 7 ∷ 1 ∷ 100 ∷ 0 ∷ 102 ∷ 0 ∷ 0 ∷ 3 ∷ 1 ∷ 12 ∷ 0 ∷ [])) (7 ∷ 1 ∷ [])
-    ∷ timetable-file net (bytes-of (1 ∷ 1 ∷ 7 ∷ 1 ∷ 100 ∷ 0 ∷ 102 ∷ 0 ∷ 0 ∷ 1 ∷ 1 ∷ 12 ∷ 0 ∷ [])) (7 ∷ 1 ∷ [])
-    ∷ timetable-file branch (bytes-of (1 ∷ 2 ∷ 7 ∷ 1 ∷ 100 ∷ 0 ∷ 102 ∷ 0 ∷ 1 ∷ 1 ∷ 0 ∷ 0 ∷ [])) (0 ∷ 12 ∷ 1 ∷ 2 ∷ 7 ∷ 1 ∷ 100 ∷ 0 ∷ 102 ∷ 0 ∷ 1 ∷ 1 ∷ 0 ∷ 0 ∷ [])
-    ∷ timetable-file branch (bytes-of (1 ∷ 1 ∷ 7 ∷ 1 ∷ 100 ∷ 0 ∷ 102 ∷ 0 ∷ 2 ∷ 1 ∷ 0 ∷ 0 ∷ [])) (7 ∷ 1 ∷ [])
-    ∷ timetable-file branch (bytes-of (1 ∷ 1 ∷ 7 ∷ 1 ∷ 100 ∷ 0 ∷ 102 ∷ 0 ∷ 0 ∷ 2 ∷ 1 ∷ 12 ∷ 0 ∷ [])) (0 ∷ 13 ∷ 1 ∷ 1 ∷ 7 ∷ 1 ∷ 100 ∷ 0 ∷ 102 ∷ 0 ∷ 0 ∷ 2 ∷ 1 ∷ 12 ∷ 0 ∷ [])
-    ∷ timetable-file branch (bytes-of (1 ∷ 2 ∷ 7 ∷ 1 ∷ 100 ∷ 0 ∷ 102 ∷ 0 ∷ 0 ∷ 1 ∷ 1 ∷ 12 ∷ 0 ∷ [])) (7 ∷ 1 ∷ [])
+    ∷ timetable-file net (bytes-of (1 ∷ 3 ∷ 7 ∷ 1 ∷ 0 ∷ 100 ∷ 0 ∷ 102 ∷ 0 ∷ 0 ∷ 0 ∷ 0 ∷ [])) (7 ∷ 1 ∷ [])
+    ∷ early-timetable-file net (bytes-of (1 ∷ 3 ∷ 7 ∷ 1 ∷ 100 ∷ 0 ∷ 102 ∷ 0 ∷ 0 ∷ 0 ∷ 0 ∷ [])) (7 ∷ 1 ∷ [])
+    ∷ timetable-file net (bytes-of (1 ∷ 1 ∷ 7 ∷ 3 ∷ 0 ∷ 100 ∷ 0 ∷ 102 ∷ 0 ∷ 0 ∷ 0 ∷ 0 ∷ [])) (7 ∷ 1 ∷ [])
+    ∷ early-timetable-file net (bytes-of (1 ∷ 1 ∷ 7 ∷ 3 ∷ 100 ∷ 0 ∷ 102 ∷ 0 ∷ 0 ∷ 0 ∷ 0 ∷ [])) (7 ∷ 1 ∷ [])
+    ∷ timetable-file net (bytes-of (2 ∷ 1 ∷ 8 ∷ 2 ∷ 0 ∷ 100 ∷ 0 ∷ 102 ∷ 0 ∷ 0 ∷ 0 ∷ 2 ∷ 7 ∷ 2 ∷ 0 ∷ 100 ∷ 0 ∷ 102 ∷ 0 ∷ 0 ∷ 0 ∷ 0 ∷ [])) (7 ∷ 11 ∷ [])
+    ∷ early-timetable-file net (bytes-of (2 ∷ 1 ∷ 8 ∷ 2 ∷ 100 ∷ 0 ∷ 102 ∷ 0 ∷ 0 ∷ 0 ∷ 2 ∷ 7 ∷ 2 ∷ 100 ∷ 0 ∷ 102 ∷ 0 ∷ 0 ∷ 0 ∷ 0 ∷ [])) (7 ∷ 10 ∷ [])
+    ∷ timetable-file net (bytes-of (1 ∷ 1 ∷ 7 ∷ 1 ∷ 0 ∷ 100 ∷ 0 ∷ 102 ∷ 0 ∷ 2 ∷ 2 ∷ 0 ∷ 0 ∷ [])) (7 ∷ 1 ∷ [])
+    ∷ early-timetable-file net (bytes-of (1 ∷ 1 ∷ 7 ∷ 1 ∷ 100 ∷ 0 ∷ 102 ∷ 0 ∷ 2 ∷ 2 ∷ 0 ∷ 0 ∷ [])) (7 ∷ 1 ∷ [])
+    ∷ timetable-file net (bytes-of (1 ∷ 1 ∷ 7 ∷ 1 ∷ 0 ∷ 100 ∷ 0 ∷ 102 ∷ 0 ∷ 3 ∷ 1 ∷ 0 ∷ 0 ∷ [])) (7 ∷ 1 ∷ [])
+    ∷ early-timetable-file net (bytes-of (1 ∷ 1 ∷ 7 ∷ 1 ∷ 100 ∷ 0 ∷ 102 ∷ 0 ∷ 3 ∷ 1 ∷ 0 ∷ 0 ∷ [])) (7 ∷ 1 ∷ [])
+    ∷ timetable-file net (bytes-of (1 ∷ 1 ∷ 7 ∷ 1 ∷ 0 ∷ 100 ∷ 0 ∷ 102 ∷ 0 ∷ 0 ∷ 3 ∷ 1 ∷ 12 ∷ 0 ∷ [])) (7 ∷ 1 ∷ [])
+    ∷ early-timetable-file net (bytes-of (1 ∷ 1 ∷ 7 ∷ 1 ∷ 100 ∷ 0 ∷ 102 ∷ 0 ∷ 0 ∷ 3 ∷ 1 ∷ 12 ∷ 0 ∷ [])) (7 ∷ 1 ∷ [])
+    ∷ timetable-file net (bytes-of (1 ∷ 1 ∷ 7 ∷ 1 ∷ 0 ∷ 100 ∷ 0 ∷ 102 ∷ 0 ∷ 0 ∷ 1 ∷ 1 ∷ 12 ∷ 0 ∷ [])) (7 ∷ 1 ∷ [])
+    ∷ early-timetable-file net (bytes-of (1 ∷ 1 ∷ 7 ∷ 1 ∷ 100 ∷ 0 ∷ 102 ∷ 0 ∷ 0 ∷ 1 ∷ 1 ∷ 12 ∷ 0 ∷ [])) (7 ∷ 1 ∷ [])
+    ∷ timetable-file branch (bytes-of (1 ∷ 2 ∷ 7 ∷ 1 ∷ 0 ∷ 100 ∷ 0 ∷ 102 ∷ 0 ∷ 1 ∷ 1 ∷ 0 ∷ 0 ∷ [])) (0 ∷ 13 ∷ 1 ∷ 2 ∷ 7 ∷ 1 ∷ 0 ∷ 100 ∷ 0 ∷ 102 ∷ 0 ∷ 1 ∷ 1 ∷ 0 ∷ 0 ∷ [])
+    ∷ early-timetable-file branch (bytes-of (1 ∷ 2 ∷ 7 ∷ 1 ∷ 100 ∷ 0 ∷ 102 ∷ 0 ∷ 1 ∷ 1 ∷ 0 ∷ 0 ∷ [])) (0 ∷ 12 ∷ 1 ∷ 2 ∷ 7 ∷ 1 ∷ 0 ∷ 100 ∷ 0 ∷ 102 ∷ 0 ∷ 1 ∷ 1 ∷ 0 ∷ 0 ∷ [])
+    ∷ timetable-file branch (bytes-of (1 ∷ 1 ∷ 7 ∷ 1 ∷ 0 ∷ 100 ∷ 0 ∷ 102 ∷ 0 ∷ 2 ∷ 1 ∷ 0 ∷ 0 ∷ [])) (7 ∷ 1 ∷ [])
+    ∷ early-timetable-file branch (bytes-of (1 ∷ 1 ∷ 7 ∷ 1 ∷ 100 ∷ 0 ∷ 102 ∷ 0 ∷ 2 ∷ 1 ∷ 0 ∷ 0 ∷ [])) (7 ∷ 1 ∷ [])
+    ∷ timetable-file branch (bytes-of (1 ∷ 1 ∷ 7 ∷ 1 ∷ 0 ∷ 100 ∷ 0 ∷ 102 ∷ 0 ∷ 0 ∷ 2 ∷ 1 ∷ 12 ∷ 0 ∷ [])) (0 ∷ 14 ∷ 1 ∷ 1 ∷ 7 ∷ 1 ∷ 0 ∷ 100 ∷ 0 ∷ 102 ∷ 0 ∷ 0 ∷ 2 ∷ 1 ∷ 12 ∷ 0 ∷ [])
+    ∷ early-timetable-file branch (bytes-of (1 ∷ 1 ∷ 7 ∷ 1 ∷ 100 ∷ 0 ∷ 102 ∷ 0 ∷ 0 ∷ 2 ∷ 1 ∷ 12 ∷ 0 ∷ [])) (0 ∷ 13 ∷ 1 ∷ 1 ∷ 7 ∷ 1 ∷ 0 ∷ 100 ∷ 0 ∷ 102 ∷ 0 ∷ 0 ∷ 2 ∷ 1 ∷ 12 ∷ 0 ∷ [])
+    ∷ timetable-file branch (bytes-of (1 ∷ 2 ∷ 7 ∷ 1 ∷ 0 ∷ 100 ∷ 0 ∷ 102 ∷ 0 ∷ 0 ∷ 1 ∷ 1 ∷ 12 ∷ 0 ∷ [])) (7 ∷ 1 ∷ [])
+    ∷ early-timetable-file branch (bytes-of (1 ∷ 2 ∷ 7 ∷ 1 ∷ 100 ∷ 0 ∷ 102 ∷ 0 ∷ 0 ∷ 1 ∷ 1 ∷ 12 ∷ 0 ∷ [])) (7 ∷ 1 ∷ [])
     ∷ timetable-file net (bytes-of (0 ∷ 1 ∷ 3 ∷ 1 ∷ 5 ∷ 2 ∷ 7 ∷ 8 ∷ [])) (7 ∷ 2 ∷ [])
-    ∷ timetable-file net (bytes-of (1 ∷ 3 ∷ 7 ∷ 1 ∷ 100 ∷ 0 ∷ 102 ∷ 0 ∷ 0 ∷ 0 ∷ 1 ∷ 1 ∷ 1 ∷ 5 ∷ 2 ∷ 8 ∷ 7 ∷ [])) (3 ∷ 16 ∷ [])
-    ∷ timetable-file net (bytes-of (24 ∷ (crowd-visits 1 24 ++ (0 ∷ [])))) (0 ∷ 218 ∷ 24 ∷ (crowd-visits 1 24 ++ (0 ∷ [])))
-    ∷ timetable-file net (bytes-of (25 ∷ (crowd-visits 1 25 ++ (0 ∷ [])))) (12 ∷ 217 ∷ [])
-    ∷ timetable-file net (bytes-of (26 ∷ (crowd-visits 1 25 ++ (3 ∷ 1 ∷ 1 ∷ 1 ∷ 0 ∷ 1 ∷ 0 ∷ 0 ∷ 0 ∷ 0 ∷ [])))) (12 ∷ 217 ∷ [])
+    ∷ timetable-file net (bytes-of (1 ∷ 3 ∷ 7 ∷ 1 ∷ 0 ∷ 100 ∷ 0 ∷ 102 ∷ 0 ∷ 0 ∷ 0 ∷ 1 ∷ 1 ∷ 1 ∷ 5 ∷ 2 ∷ 8 ∷ 7 ∷ [])) (3 ∷ 17 ∷ [])
+    ∷ early-timetable-file net (bytes-of (1 ∷ 3 ∷ 7 ∷ 1 ∷ 100 ∷ 0 ∷ 102 ∷ 0 ∷ 0 ∷ 0 ∷ 1 ∷ 1 ∷ 1 ∷ 5 ∷ 2 ∷ 8 ∷ 7 ∷ [])) (3 ∷ 16 ∷ [])
+    ∷ timetable-file net (bytes-of (24 ∷ (crowd-visits 1 24 ++ (0 ∷ [])))) (0 ∷ 242 ∷ 24 ∷ (crowd-visits 1 24 ++ (0 ∷ [])))
+    ∷ timetable-file net (bytes-of (25 ∷ (crowd-visits 1 25 ++ (0 ∷ [])))) (12 ∷ 241 ∷ [])
+    ∷ timetable-file net (bytes-of (26 ∷ (crowd-visits 1 25 ++ (3 ∷ 1 ∷ 1 ∷ 0 ∷ 1 ∷ 0 ∷ 1 ∷ 0 ∷ 0 ∷ 0 ∷ 0 ∷ [])))) (12 ∷ 241 ∷ [])
     ∷ timetable-file net (bytes-of (0 ∷ 6 ∷ connected 1 6)) (0 ∷ 38 ∷ 0 ∷ 6 ∷ connected 1 6)
     ∷ timetable-file net (bytes-of (0 ∷ 7 ∷ connected 1 7)) (12 ∷ 38 ∷ [])
     -- the network's own refusals: 3 before the file's, 4 behind them, both at 0
@@ -647,9 +682,58 @@ recheck =
     ∷ list-is (1 ∷ 2 ∷ 3 ∷ 4 ∷ 5 ∷ []) false
     ∷ []
 
+-- document 02, W6
+pub request-stops : List Case
+request-stops =
+    -- "A request stop arrives and departs in one minute, and connections there are reported unmet": with the mark met;
+    -- unmet by the interval
+    stands net (request false false (Connection 0 (two 7 8))) (finding (st 1) 4 1 0) true
+    ∷ stands net (request true false (Connection 0 (two 7 8))) (finding (st 1) 4 1 0) false
+    ∷ stands net (request true false (Connection 1 (two 7 8))) (finding (st 1) 4 1 0) true
+    -- a disconnection that the mark makes unmet, and a dependency that it makes met
+    ∷ stands net (request false false (Disconnection 5 (two 7 8))) (finding (st 1) 4 1 0) false
+    ∷ stands net (request true false (Disconnection 5 (two 7 8))) (finding (st 1) 4 1 0) true
+    ∷ stands net (request false false (Dependency 0 (pair 8 7))) (finding (st 1) 4 1 0) true
+    ∷ stands net (request true false (Dependency 0 (pair 8 7))) (finding (st 1) 4 1 0) false
+    -- "amending sets it anew", after an occurred arrival too; reports and links keep it
+    ∷ answered-on (request false true (Connection 0 (two 7 8))) (Amend (marked-plan 1 7 1 true 110 110) ∷ []) (0 ∷ 0 ∷ [])
+    ∷ stands net (later (request false true (Connection 0 (two 7 8))) (Amend (marked-plan 1 7 1 true 110 110) ∷ [])) (finding (st 1) 4 1 0) false
+    ∷ stands net (later (request true true (Connection 0 (two 7 8))) (Amend (plan 1 7 1 110 110) ∷ [])) (finding (st 1) 4 1 0) true
+    ∷ stands net (later (request true false (Connection 0 (two 7 8))) (arrives 1 7 110 ∷ departs 1 7 110 ∷ [])) (finding (st 1) 4 1 0) false
+    ∷ stands net (later (request true false (Connection 0 (two 7 8))) (arrives 1 7 109 ∷ [])) (finding (st 1) 4 1 0) false
+    -- each edit with a track carries it: placed, prepended, appended; a link set later keeps it
+    ∷ projected (run-of (Place (marked-plan 1 7 1 true 100 100) ∷ [])) 7 1 105 (1 ∷ 105 ∷ 106 ∷ 0 ∷ 5 ∷ [])
+    ∷ projected (run-in branch (place 3 7 1 122 122 ∷ prepend (marked-plan 2 7 1 true 110 110) 3 4 12 ∷ prepend (plan 1 7 1 98 98) 2 1 12 ∷ [])) 7 2 105
+    (2 ∷ 105 ∷ 110 ∷ 1 ∷ 5 ∷ 3 ∷ 122 ∷ 123 ∷ 0 ∷ 0 ∷ [])
+    ∷ projected (run-in branch (place 1 7 1 98 98 ∷ append (marked-plan 2 7 1 true 110 110) 1 1 12 ∷ append (plan 3 7 1 122 122) 2 4 12 ∷ [])) 7 2 105
+    (2 ∷ 105 ∷ 110 ∷ 1 ∷ 5 ∷ 3 ∷ 122 ∷ 123 ∷ 0 ∷ 0 ∷ [])
+    -- "where only the mark makes a stop, projected departure is the larger of planned departure and arrival": above it
+    -- and below it, and where the visit stops anyway; an occurred arrival stands
+    ∷ projected (request false false (Connection 0 (two 7 8))) 7 1 105 (1 ∷ 105 ∷ 105 ∷ 1 ∷ 5 ∷ [])
+    ∷ projected (request true false (Connection 0 (two 7 8))) 7 1 105 (1 ∷ 105 ∷ 110 ∷ 1 ∷ 5 ∷ [])
+    ∷ projected (request true false (Connection 0 (two 7 8))) 7 1 110 (1 ∷ 110 ∷ 110 ∷ 0 ∷ 0 ∷ [])
+    ∷ projected (request true false (Connection 0 (two 7 8))) 7 1 115 (1 ∷ 115 ∷ 115 ∷ 0 ∷ 5 ∷ [])
+    ∷ projected (request true true (Connection 0 (two 7 8))) 7 1 115 (1 ∷ 110 ∷ 110 ∷ 0 ∷ 0 ∷ [])
+    ∷ projected (run-of (Place (marked-plan 1 7 1 true 100 102) ∷ [])) 7 1 105 (1 ∷ 105 ∷ 106 ∷ 0 ∷ 5 ∷ [])
+    -- a mark on a visit that stops anyway is kept: two such files differ
+    ∷ timetable-file net (bytes-of (1 ∷ 1 ∷ 7 ∷ 1 ∷ 1 ∷ 100 ∷ 0 ∷ 102 ∷ 0 ∷ 0 ∷ 0 ∷ 0 ∷ [])) (0 ∷ 12 ∷ 1 ∷ 1 ∷ 7 ∷ 1 ∷ 1 ∷ 100 ∷ 0 ∷ 102 ∷ 0 ∷ 0 ∷ 0 ∷ 0 ∷ [])
+    -- a mark of 2; a fault behind it, in both forms; the newest form is not the earlier one
+    ∷ edits-file (bytes-of (each-with (marked-row 1 7 1 1 100 102))) (0 ∷ size each-kind ∷ 1 ∷ each-with (marked-row 1 7 1 1 100 102))
+    ∷ early-edits-file (bytes-of (each-with (1 ∷ 7 ∷ 1 ∷ 100 ∷ 102 ∷ []))) (0 ∷ (size each-kind - 4) ∷ 1 ∷ each-kind)
+    ∷ edits-file (bytes-of (1 ∷ edit-row 1 (marked-row 1 7 1 2 100 102))) (3 ∷ 5 ∷ [])
+    ∷ edits-file (bytes-of (1 ∷ edit-row 6 (marked-row 1 7 1 2 100 102))) (3 ∷ 5 ∷ [])
+    ∷ edits-file (bytes-of (1 ∷ edit-row 2 (extension-row (marked-row 1 7 1 2 100 102) 2 1 12))) (3 ∷ 5 ∷ [])
+    ∷ edits-file (bytes-of (1 ∷ edit-row 6 (marked-row 1 7 1 1 100 2880))) (3 ∷ 7 ∷ [])
+    ∷ early-edits-file (bytes-of (1 ∷ 6 ∷ 1 ∷ 7 ∷ 1 ∷ 100 ∷ 2880 ∷ [])) (3 ∷ 6 ∷ [])
+    ∷ early-edits-file (bytes-of (1 ∷ edit-row 1 (marked-row 1 7 1 0 100 102))) (1 ∷ 7 ∷ [])
+    ∷ edits-file (bytes-of (1 ∷ 1 ∷ 1 ∷ 7 ∷ 1 ∷ 0 ∷ 102 ∷ [])) (1 ∷ 7 ∷ [])
+    ∷ timetable-file net (bytes-of (1 ∷ 1 ∷ 7 ∷ 1 ∷ 2 ∷ 100 ∷ 0 ∷ 102 ∷ 0 ∷ 0 ∷ 0 ∷ 0 ∷ [])) (3 ∷ 4 ∷ [])
+    ∷ early-timetable-file net (bytes-of (1 ∷ 1 ∷ 7 ∷ 1 ∷ 0 ∷ 100 ∷ 0 ∷ 102 ∷ 0 ∷ 0 ∷ 0 ∷ 0 ∷ [])) (3 ∷ 5 ∷ [])
+    ∷ []
+
 pub table : List Case
-unfolding document ranges edits rules relations others files closures standing-trains freight recheck
-table = document ++ (ranges ++ (edits ++ (rules ++ (relations ++ (others ++ (files ++ (closures ++ (standing-trains ++ (freight ++ recheck)))))))))
+unfolding document ranges edits rules relations others files closures standing-trains freight recheck request-stops
+table = document ++ (ranges ++ (edits ++ (rules ++ (relations ++ (others ++ (files ++ (closures ++ (standing-trains ++ (freight ++ (recheck ++ request-stops))))))))))
 
 pub examples-hold : failing 1 table ≡ []
 unfolding table Cases.opened

@@ -5,6 +5,7 @@ use mathlib.Core.List.{List}
 use Rattle.timetable.specs.Types.{Network}
 use Rattle.timetable.specs.Machine.{Timetable}
 use Rattle.timetable.specs.Formats.{Format, done, _and-then_, Outcome, accepted, behind, read-file, Placed, placed}
+use Rattle.timetable.specs.FileForms.{newest-form}
 use Rattle.timetable.specs.NetworkFile.{Listed, network-format, network-of, network-fault, unless-fault}
 use Rattle.timetable.specs.TimetableFile.{Entries, timetable-format, timetable-of}
 
@@ -20,7 +21,7 @@ pub record Both : Type 0 where
   pub entries : Placed Entries
 
 unfoldable pub inspect-format : Format Both
-inspect-format = network-format and-then (λ x. placed timetable-format and-then (λ es. done (record { listed = x; entries = es })))
+inspect-format = network-format and-then (λ x. placed (timetable-format newest-form) and-then (λ es. done (record { listed = x; entries = es })))
 
 unfoldable pub inspection : Both → ℕ → Outcome Inspection
 inspection x next =

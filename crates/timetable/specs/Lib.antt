@@ -2,6 +2,7 @@ pub mod Types
 pub mod Outputs
 pub mod Refusals
 pub mod Formats
+pub mod FileForms
 pub mod Visits
 pub mod Tables
 pub mod Machine

@@ -100,9 +100,12 @@ old-closure = size (up-to-closures two-stations 3 (old-row 1 1 2 3 10 1 ∷ []) 
 
 -- edits: the kind, then the fields
 
--- s, t, track, arrival, departure
+-- s, t, track, mark, arrival, departure; with mark 0
+unfoldable pub marked-row : ℕ → ℕ → ℕ → ℕ → ℕ → ℕ → List ℕ
+marked-row s t k m a d = s ∷ t ∷ k ∷ m ∷ a ∷ d ∷ []
+
 unfoldable pub plan-row : ℕ → ℕ → ℕ → ℕ → ℕ → List ℕ
-plan-row s t k a d = s ∷ t ∷ k ∷ a ∷ d ∷ []
+plan-row s t k a d = marked-row s t k 0 a d
 
 -- the plan, then p, line, running time
 unfoldable pub extension-row : List ℕ → ℕ → ℕ → ℕ → List ℕ
@@ -125,14 +128,15 @@ listed-numbers =
     ∷ [])
 
 -- an edit of each kind, and of each kind of relation
-unfoldable pub each-kind : List ℕ
-each-kind =
-    13 ∷ all (edit-row 1 (plan-row 1 7 1 100 102)
-    ∷ edit-row 2 (extension-row (plan-row 1 7 1 100 102) 2 1 12)
-    ∷ edit-row 3 (extension-row (plan-row 1 7 1 100 102) 2 1 12)
+-- with such a plan
+unfoldable pub each-with : List ℕ → List ℕ
+each-with plan =
+    13 ∷ all (edit-row 1 plan
+    ∷ edit-row 2 (extension-row plan 2 1 12)
+    ∷ edit-row 3 (extension-row plan 2 1 12)
     ∷ edit-row 4 (1 ∷ 7 ∷ 2 ∷ [])
     ∷ edit-row 5 (1 ∷ 7 ∷ 2 ∷ [])
-    ∷ edit-row 6 (plan-row 1 7 1 100 102)
+    ∷ edit-row 6 plan
     ∷ edit-row 7 (report-row 1 7 100)
     ∷ edit-row 8 (report-row 1 7 100)
     ∷ edit-row 9 (1 ∷ 1 ∷ 5 ∷ 3 ∷ 7 ∷ 8 ∷ 9 ∷ [])
@@ -142,12 +146,15 @@ each-kind =
     ∷ edit-row 11 (9999 ∷ [])
     ∷ [])
 
+unfoldable pub each-kind : List ℕ
+each-kind = each-with (plan-row 1 7 1 100 102)
+
 -- timetables
 
 -- visits at station 1, of k trains from the given number on: each 10 bytes
 unfoldable pub crowd-visits : ℕ → ℕ → List ℕ
 crowd-visits from zero = []
-crowd-visits from (suc k) = 1 ∷ from ∷ 1 ∷ 100 ∷ 0 ∷ 102 ∷ 0 ∷ 0 ∷ 0 ∷ crowd-visits (suc from) k
+crowd-visits from (suc k) = 1 ∷ from ∷ 1 ∷ 0 ∷ 100 ∷ 0 ∷ 102 ∷ 0 ∷ 0 ∷ 0 ∷ crowd-visits (suc from) k
 
 -- connections at station 1: each 6 bytes
 unfoldable pub connected : ℕ → ℕ → List ℕ
@@ -157,5 +164,5 @@ connected from (suc k) = 1 ∷ 1 ∷ from ∷ 2 ∷ 7 ∷ 8 ∷ connected (suc f
 -- The key ring of this module: `unfolding opened` opens every definition above.
 unfoldable pub opened : Unit {0}
 unfolding all cut size station-row timed-row line-row old-row up-to-lines closure-row up-to-closures closed-row network-row one-station headway-place two-stations joined-by first-line second-line net-numbers loop-numbers closed-by first-closure second-closure old-file old-second old-closure
-    plan-row extension-row report-row edit-row listed-numbers each-kind crowd-visits connected flatMap
+    marked-row plan-row extension-row report-row edit-row listed-numbers each-with each-kind crowd-visits connected flatMap
 opened = tt

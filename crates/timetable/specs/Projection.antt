@@ -5,7 +5,7 @@ use mathlib.Core.Option.{none, some}
 use lib.IntN.{subℕ}
 use Rattle.base.specs.Choice.{if_then_else_}
 use Rattle.timetable.specs.Types.{Station, Train, OutLink, Visit, Row}
-use Rattle.timetable.specs.Visits.{arr, dep, stops}
+use Rattle.timetable.specs.Visits.{arr, dep, stops-anyway}
 use Rattle.timetable.specs.Tables.{visit-of}
 use Rattle.timetable.specs.Machine.{Timetable}
 use Rattle.timetable.specs.Rules.{out-answered}
@@ -14,9 +14,14 @@ use Rattle.timetable.specs.Rules.{out-answered}
 unfoldable pub expected-arrival : Visit → ℕ → ℕ
 expected-arrival v a = if v .arrived then arr v else a
 
--- "Otherwise departure is the arrival if the train doesn't stop, else the larger of planned departure and arrival + 1"
+-- "Otherwise departure is the arrival if the train doesn't stop, else the larger of planned departure and arrival + 1";
+-- document 02, W6: "where only the mark makes a stop, projected departure is the larger of planned departure and arrival"
 unfoldable pub expected-departure : Visit → ℕ → ℕ
-expected-departure v a = if v .departed then dep v else if stops v then max (dep v) (a + 1) else a
+expected-departure v a =
+    if v .departed then dep v
+    else if stops-anyway v then max (dep v) (a + 1)
+    else if v .marked then max (dep v) a
+    else a
 
 -- "Each visit's row is station, expected arrival, expected departure and lateness: expected less standing arrival,
 -- negative if early."

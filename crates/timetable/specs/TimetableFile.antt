@@ -1,6 +1,7 @@
 -- The timetable file. Document 01, "Files": "Timetable: count of visits (0..384), each s, t, track, arrival, status,
 -- departure, status, in-link, out-link (fields as listed, or a single 0 for none), rising by s and t alone; count of
--- relations (0..96), each with its station before it, rising." Assumes nothing.
+-- relations (0..96), each with its station before it, rising." Document 02, W6: a visit's stop mark "after its track
+-- .. in the timetable file"; a file is read in a form that is named. Assumes nothing.
 use Prim.Native.Nat.{ℕ}
 use mathlib.Core.Bool.{Bool, not, _&&_}
 use mathlib.Core.List.{List, [], _∷_, _++_, map, flatMap}
@@ -9,11 +10,12 @@ use lib.ListN.{length, getD}
 use Rattle.base.specs.Choice.{if_then_else_, _if_else_}
 use Rattle.railway.specs.Ranges.{last-minute}
 use Rattle.network.specs.Networks.{stations-of, listed, track-known, network-refusal}
-use Rattle.timetable.specs.Types.{Station, Train, InLink, OutLink, Visit, StationRelation, Network}
+use Rattle.timetable.specs.Types.{Station, Train, InLink, OutLink, Visit, StationRelation, Network, FileForm}
 use Rattle.timetable.specs.Tables.{add-visit, add-relation, full-visits, full-relations}
 use Rattle.timetable.specs.Machine.{Timetable, put, nothing-placed}
 use Rattle.timetable.specs.Good.{links-good}
 use Rattle.timetable.specs.Formats.{Format, done, field, _and-then_, Outcome, accepted, refused, behind, read-file, Range, _to_, row, entries, Placed, placed}
+use Rattle.timetable.specs.FileForms.{newest-form, status-number, mark-range, mark-numbers, mark-said, with-mark}
 use Rattle.timetable.specs.NetworkFile.{under}
 use Rattle.timetable.specs.EditsFile.{station-relation-entry, station-relation-numbers}
 
@@ -25,13 +27,9 @@ pub record StationVisit : Type 0 where
   pub train : Train
   pub visit : Visit
 
--- "s, t, track, arrival, status, departure, status"
-unfoldable pub visit-ranges : List Range
-visit-ranges = 1 to 16 ∷ 1 to 9999 ∷ 1 to 8 ∷ 0 to last-minute ∷ 0 to 1 ∷ 0 to last-minute ∷ 0 to 1 ∷ []
-
--- "pending (0) or occurred (1)"
-unfoldable pub status-number : Bool → ℕ
-status-number b = 1 if b else 0
+-- "s, t, track, arrival, status, departure, status", the mark after the track
+unfoldable pub visit-ranges : FileForm → List Range
+visit-ranges form = 1 to 16 ∷ 1 to 9999 ∷ 1 to 8 ∷ (mark-range form ++ (0 to last-minute ∷ 0 to 1 ∷ 0 to last-minute ∷ 0 to 1 ∷ []))
 
 -- "(fields as listed, or a single 0 for none)"
 unfoldable pub in-link-entry : Format InLink
@@ -54,31 +52,39 @@ unfoldable pub out-link-numbers : OutLink → List ℕ
 out-link-numbers OutLink.Nothing = 0 ∷ []
 out-link-numbers (OutLink.To o) = o .station .0 ∷ o .line .0 ∷ o .run ∷ []
 
+-- of the numbers that the newest form has
 unfoldable pub station-visit-of : List ℕ → InLink → OutLink → StationVisit
 station-visit-of ns i o = record {
   station = record { 0 = getD ns 0 0 };
   train = record { 0 = getD ns 1 0 };
   visit = record {
     track = record { 0 = getD ns 2 0 };
-    arrival = record { 0 = getD ns 3 0 };
-    arrived = eqb (getD ns 4 0) 1;
-    departure = record { 0 = getD ns 5 0 };
-    departed = eqb (getD ns 6 0) 1;
+    marked = eqb (getD ns 3 0) 1;
+    arrival = record { 0 = getD ns 4 0 };
+    arrived = eqb (getD ns 5 0) 1;
+    departure = record { 0 = getD ns 6 0 };
+    departed = eqb (getD ns 7 0) 1;
     inward = i;
     outward = o;
   };
 }
 
-unfoldable pub visit-entry : List ℕ → Format StationVisit
-visit-entry floor =
-    row visit-ranges floor and-then (λ ns. in-link-entry and-then (λ i. out-link-entry and-then (λ o. done (station-visit-of ns i o))))
+unfoldable pub visit-entry : FileForm → List ℕ → Format StationVisit
+visit-entry form floor =
+    row (visit-ranges form) floor and-then (λ ns.
+    in-link-entry and-then (λ i. out-link-entry and-then (λ o. done (station-visit-of (with-mark form ns) i o))))
 
-unfoldable pub visit-numbers : StationVisit → List ℕ
-visit-numbers e =
+unfoldable pub visit-numbers : FileForm → StationVisit → List ℕ
+visit-numbers form e =
     e .station .0 ∷ e .train .0 ∷ e .visit .track .0
-    ∷ e .visit .arrival .0 ∷ status-number (e .visit .arrived)
+    ∷ (mark-numbers form (e .visit .marked)
+    ++ (e .visit .arrival .0 ∷ status-number (e .visit .arrived)
     ∷ e .visit .departure .0 ∷ status-number (e .visit .departed)
-    ∷ (in-link-numbers (e .visit .inward) ++ out-link-numbers (e .visit .outward))
+    ∷ (in-link-numbers (e .visit .inward) ++ out-link-numbers (e .visit .outward))))
+
+-- a form can say it
+unfoldable pub visit-said : FileForm → Visit → Bool
+visit-said form v = mark-said form (v .marked)
 
 -- the file
 
@@ -95,15 +101,15 @@ pub record Entries : Type 0 where
   pub visits : List (Placed StationVisit)
   pub relations : List (Placed StationRelation)
 
-unfoldable pub visits-format : ℕ → Format (List (Placed StationVisit))
-visits-format k = entries (λ floor. placed (visit-entry floor)) visit-floor k []
+unfoldable pub visits-format : FileForm → ℕ → Format (List (Placed StationVisit))
+visits-format form k = entries (λ floor. placed (visit-entry form floor)) visit-floor k []
 
 unfoldable pub relations-format : ℕ → Format (List (Placed StationRelation))
 relations-format k = entries (λ floor. placed (station-relation-entry floor)) relation-floor k []
 
-unfoldable pub timetable-format : Format Entries
-timetable-format =
-    field 0 384 (λ k. visits-format k and-then (λ vs.
+unfoldable pub timetable-format : FileForm → Format Entries
+timetable-format form =
+    field 0 384 (λ k. visits-format form k and-then (λ vs.
     field 0 96 (λ m. relations-format m and-then (λ rs.
     done (record { visits = vs; relations = rs })))))
 
@@ -145,11 +151,11 @@ timetable-of n x next =
     entered (relation-refusal n) enter-relation (x .relations) m next)
 
 -- under a network in memory, "(.. 5, or a network not read from a file: 0)", and by a form that is named
-unfoldable pub read-timetable-as : Format Entries → Network → List ℕ → Outcome Timetable
-read-timetable-as form n file = under (network-refusal n) (read-file form file) (timetable-of n)
+unfoldable pub read-timetable-as : FileForm → Network → List ℕ → Outcome Timetable
+read-timetable-as form n file = under (network-refusal n) (read-file (timetable-format form) file) (timetable-of n)
 
-unfoldable pub read-timetable : Network → List ℕ → Outcome Timetable
-read-timetable n file = read-timetable-as timetable-format n file
+abbrev pub read-timetable : Network → List ℕ → Outcome Timetable
+read-timetable n file = read-timetable-as newest-form n file
 
 -- writing
 
@@ -160,15 +166,19 @@ unfoldable pub relations-at : Timetable → Station → List StationRelation
 relations-at m s = map (λ r. record { station = s; relation = r }) (m s .relations)
 
 -- the stations of the network rise
-unfoldable pub timetable-numbers : Network → Timetable → List ℕ
-timetable-numbers n m =
+unfoldable pub timetable-numbers-as : FileForm → Network → Timetable → List ℕ
+timetable-numbers-as form n m =
     let vs : List StationVisit = flatMap (visits-at m) (stations-of n) in
     let rs : List StationRelation = flatMap (relations-at m) (stations-of n) in
-    length vs ∷ (flatMap visit-numbers vs ++ (length rs ∷ flatMap station-relation-numbers rs))
+    length vs ∷ (flatMap (visit-numbers form) vs ++ (length rs ∷ flatMap station-relation-numbers rs))
+
+-- "what is written is the new form"
+abbrev pub timetable-numbers : Network → Timetable → List ℕ
+timetable-numbers n m = timetable-numbers-as newest-form n m
 
 -- The key ring of this module: `unfolding opened` opens every definition above.
 unfoldable pub opened : Unit {0}
-unfolding visit-ranges status-number in-link-entry out-link-entry in-link-numbers out-link-numbers station-visit-of visit-entry visit-numbers visit-floor relation-floor
-    visits-format relations-format timetable-format visit-refusal relation-refusal enter-visit enter-relation entered timetable-of read-timetable-as read-timetable
-    visits-at relations-at timetable-numbers
+unfolding visit-ranges in-link-entry out-link-entry in-link-numbers out-link-numbers station-visit-of visit-entry visit-numbers visit-said visit-floor relation-floor
+    visits-format relations-format timetable-format visit-refusal relation-refusal enter-visit enter-relation entered timetable-of read-timetable-as
+    visits-at relations-at timetable-numbers-as
 opened = tt

@@ -34,4 +34,5 @@ pub use Rattle.timetable.specs.declared.Row.{Row}
 pub use Rattle.timetable.specs.declared.Tally.{Tally}
 pub use Rattle.timetable.specs.declared.Output.{Output}
 pub use Rattle.timetable.specs.declared.NetworkForm.{NetworkForm}
+pub use Rattle.timetable.specs.declared.FileForm.{FileForm}
 pub use Rattle.timetable.specs.declared.Fault.{Fault}

@@ -1,5 +1,5 @@
--- A visit's links and times, and a visit with another link or time. Document 01, "The railway and its numbers" and "The
--- central machine". Assumes nothing.
+-- A visit's links and times, whether it stops, and a visit with another link or time. Document 01, "The railway and its
+-- numbers" and "The central machine"; document 02, W6. Assumes nothing.
 use Prim.Native.Nat.{ℕ}
 use mathlib.Core.Bool.{Bool, true, false, not, _&&_, _||_}
 use mathlib.Core.List.{List, [], _∷_}
@@ -42,14 +42,19 @@ unfoldable pub outs : Visit → List Outward
 outs v = elim (v .outward) [ OutLink.Nothing ↦ [] | OutLink.To o ↦ o ∷ [] ]
 
 -- "A visit stops if it departs later than it arrives or lacks a link."
+unfoldable pub stops-anyway : Visit → Bool
+stops-anyway v = ltb (arr v) (dep v) || (lacks-in v || lacks-out v)
+
+-- document 02, W6: "A marked visit stops even if the old condition doesn't hold."
 unfoldable pub stops : Visit → Bool
-stops v = ltb (arr v) (dep v) || (lacks-in v || lacks-out v)
+stops v = stops-anyway v || v .marked
 
 -- visits with another link or time
 
 unfoldable pub with-in : InLink → Visit → Visit
 with-in i v = record {
   track = v .track;
+  marked = v .marked;
   arrival = v .arrival;
   arrived = v .arrived;
   departure = v .departure;
@@ -61,6 +66,7 @@ with-in i v = record {
 unfoldable pub with-out : OutLink → Visit → Visit
 with-out o v = record {
   track = v .track;
+  marked = v .marked;
   arrival = v .arrival;
   arrived = v .arrived;
   departure = v .departure;
@@ -73,6 +79,7 @@ with-out o v = record {
 unfoldable pub planned : Plan → Visit
 planned p = record {
   track = p .track;
+  marked = p .marked;
   arrival = p .arrival;
   arrived = false;
   departure = p .departure;
@@ -81,10 +88,11 @@ planned p = record {
   outward = OutLink.Nothing;
 }
 
--- edit 6: "new track and times, statuses and links kept"
+-- edit 6: "new track and times, statuses and links kept"; of the mark "amending sets it anew"
 unfoldable pub amended : Plan → Visit → Visit
 amended p v = record {
   track = p .track;
+  marked = p .marked;
   arrival = p .arrival;
   arrived = v .arrived;
   departure = p .departure;
@@ -97,6 +105,7 @@ amended p v = record {
 unfoldable pub arrived-at : Minute → Visit → Visit
 arrived-at m v = record {
   track = v .track;
+  marked = v .marked;
   arrival = m;
   arrived = true;
   departure = v .departure;
@@ -108,6 +117,7 @@ arrived-at m v = record {
 unfoldable pub departed-at : Minute → Visit → Visit
 departed-at m v = record {
   track = v .track;
+  marked = v .marked;
   arrival = v .arrival;
   arrived = v .arrived;
   departure = m;
@@ -141,6 +151,6 @@ alters p v =
 
 -- The key ring of this module: `unfolding opened` opens every definition above.
 unfoldable pub opened : Unit {0}
-unfolding lacks-in lacks-out comes leaves comes-from leaves-to ins outs stops with-in with-out planned amended arrived-at departed-at from onward
+unfolding lacks-in lacks-out comes leaves comes-from leaves-to ins outs stops-anyway stops with-in with-out planned amended arrived-at departed-at from onward
     first-stands last-stands alters
 opened = tt

@@ -49,6 +49,14 @@ pub enum NetworkForm {
     TwoTimes,
 }
 
+// The forms of timetable files and edits files; a later one is one more case.
+pub enum FileForm {
+    // Document 01's: a visit has no stop mark.
+    Earlier,
+    // The newest: the mark stands after the track.
+    Newest,
+}
+
 // What only the whole of a file shows, by document 01's number and the place of its entry's first byte; number 0 where
 // there is none.
 pub struct Fault {

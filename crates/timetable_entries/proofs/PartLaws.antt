@@ -9,6 +9,7 @@ use lib.Dec.{T, eqb}
 use Rattle.base.specs.Choice.{if_then_else_}
 use Rattle.base.specs.Lists.{every}
 use Rattle.railway.specs.Ranges.{station-ok}
+use Rattle.timetable.specs.declared.FileForm.{FileForm}
 use Rattle.timetable.specs.Formats.{Format, done, Outcome, accepted, refused, _and-then_, field-at, read, Placed}
 use Rattle.timetable.specs.EditsFile.{station-relation-entry}
 use Rattle.timetable.specs.Machine.{Timetable}
@@ -60,15 +61,16 @@ module _ (n : Network) (g : Progress) (o : Outcome Entries) (r : EntriesRead) (e
 
 -- a count and its entries
 
+module _ (form : FileForm) (file : List ℕ) (at : ℕ) where
+  pub visit-part-stop : (k p : ℕ) → field-at 0 384 file at ≡ refused k p → read (visit-part form) file at ≡ refused k p
+  unfolding visit-part
+  visit-part-stop k p e = field-stop 0 384 (visits-format form) file at k p e
+
+  pub visit-part-then : (k next : ℕ) → field-at 0 384 file at ≡ accepted k next → read (visit-part form) file at ≡ read (visits-format form k) file next
+  unfolding visit-part
+  visit-part-then k next e = field-on 0 384 (visits-format form) file at k next e
+
 module _ (file : List ℕ) (at : ℕ) where
-  pub visit-part-stop : (k p : ℕ) → field-at 0 384 file at ≡ refused k p → read visit-part file at ≡ refused k p
-  unfolding visit-part
-  visit-part-stop k p e = field-stop 0 384 visits-format file at k p e
-
-  pub visit-part-then : (k next : ℕ) → field-at 0 384 file at ≡ accepted k next → read visit-part file at ≡ read (visits-format k) file next
-  unfolding visit-part
-  visit-part-then k next e = field-on 0 384 visits-format file at k next e
-
   pub relation-part-stop : (k p : ℕ) → field-at 0 96 file at ≡ refused k p → read relation-part file at ≡ refused k p
   unfolding relation-part
   relation-part-stop k p e = field-stop 0 96 relations-format file at k p e
@@ -85,28 +87,28 @@ both-parts vs rs = done (record { visits = vs; relations = rs })
 abbrev behind-visits : List (Placed StationVisit) → Format Entries
 behind-visits vs = relation-part and-then both-parts vs
 
-parts : timetable-format ≡ (visit-part and-then behind-visits)
+parts : (form : FileForm) → timetable-format form ≡ (visit-part form and-then behind-visits)
 unfolding timetable-format visit-part relation-part _and-then_
-parts = refl
+parts form = refl
 
-module _ (file : List ℕ) (at : ℕ) where
-  pub visits-refused : (k p : ℕ) → read visit-part file at ≡ refused k p → read timetable-format file at ≡ refused k p
-  visits-refused k p e = ap (λ (f : Format Entries). read f file at) parts ∙ then-stop visit-part behind-visits file at k p e
+module _ (form : FileForm) (file : List ℕ) (at : ℕ) where
+  pub visits-refused : (k p : ℕ) → read (visit-part form) file at ≡ refused k p → read (timetable-format form) file at ≡ refused k p
+  visits-refused k p e = ap (λ (f : Format Entries). read f file at) (parts form) ∙ then-stop (visit-part form) behind-visits file at k p e
 
-  module _ (vs : List (Placed StationVisit)) (next : ℕ) (e : read visit-part file at ≡ accepted vs next) where
-    visits-then : read timetable-format file at ≡ read (behind-visits vs) file next
-    visits-then = ap (λ (f : Format Entries). read f file at) parts ∙ then-on visit-part behind-visits file at vs next e
+  module _ (vs : List (Placed StationVisit)) (next : ℕ) (e : read (visit-part form) file at ≡ accepted vs next) where
+    visits-then : read (timetable-format form) file at ≡ read (behind-visits vs) file next
+    visits-then = ap (λ (f : Format Entries). read f file at) (parts form) ∙ then-on (visit-part form) behind-visits file at vs next e
 
     -- the answer and the sheet of the relations are those of the file
     module _ (n : Network) (g later : Progress) (is : later ≡ through (visit-step n) vs g) where
-      pub joined : (entries-read (relation-step n) later (read relation-part file next) ≡ timetable-entries n g (read timetable-format file at))
-          × (entries-sheet (relation-step n) later (read relation-part file next) ≡ timetable-sheet n g (read timetable-format file at))
+      pub joined : (entries-read (relation-step n) later (read relation-part file next) ≡ timetable-entries n g (read (timetable-format form) file at))
+          × (entries-sheet (relation-step n) later (read relation-part file next) ≡ timetable-sheet n g (read (timetable-format form) file at))
       unfolding entries-read entries-sheet timetable-entries timetable-sheet all-through read
       joined = go (read relation-part file next) refl
         where
           go : (o : Outcome (List (Placed StationRelation))) → read relation-part file next ≡ o
-              → (entries-read (relation-step n) later o ≡ timetable-entries n g (read timetable-format file at))
-              × (entries-sheet (relation-step n) later o ≡ timetable-sheet n g (read timetable-format file at))
+              → (entries-read (relation-step n) later o ≡ timetable-entries n g (read (timetable-format form) file at))
+              × (entries-sheet (relation-step n) later o ≡ timetable-sheet n g (read (timetable-format form) file at))
           go (accepted rs end) q =
               let w = visits-then ∙ then-on relation-part (both-parts vs) file next rs end q in
               (rw is (sym (ap (timetable-entries n g) w)), rw is (sym (ap (timetable-sheet n g) w)))
@@ -116,16 +118,16 @@ module _ (file : List ℕ) (at : ℕ) where
 
 -- stations of all entries
 
-pub stations-fit : (file : List ℕ) (at : ℕ) (x : Entries) (next : ℕ) → read timetable-format file at ≡ accepted x next
+pub stations-fit : (form : FileForm) (file : List ℕ) (at : ℕ) (x : Entries) (next : ℕ) → read (timetable-format form) file at ≡ accepted x next
     → T (every (λ p. station-ok (p .entry .station)) (x .visits)) × T (every (λ p. station-ok (p .entry .station)) (x .relations))
 unfolding read visit-part relation-part visits-format relations-format
-stations-fit file at x next e =
-    let (vs, p, u, v) = then-taken visit-part behind-visits file at x next (sym (ap (λ (f : Format Entries). read f file at) parts) ∙ e) in
+stations-fit form file at x next e =
+    let (vs, p, u, v) = then-taken (visit-part form) behind-visits file at x next (sym (ap (λ (f : Format Entries). read f file at) (parts form)) ∙ e) in
     let (rs, q, w, y) = then-taken relation-part (both-parts vs) file p x next v in
-    let (k, r, a, b) = behind-taken (field-at 0 384 file at) (λ k p. read (visits-format k) file p) vs p u in
+    let (k, r, a, b) = behind-taken (field-at 0 384 file at) (λ k p. read (visits-format form k) file p) vs p u in
     let (j, s, c, d) = behind-taken (field-at 0 96 file p) (λ k p. read (relations-format k) file p) rs q w in
     let z : record { visits = vs; relations = rs } ≡ x = cc in (
-      rw (← z) (entries-all visit-entry visit-floor file (λ e. station-ok (e .station)) (λ floor at a next. visit-station floor file at a next) k [] r vs p b),
+      rw (← z) (entries-all (visit-entry form) visit-floor file (λ e. station-ok (e .station)) (λ floor at a next. visit-station form floor file at a next) k [] r vs p b),
       rw (← z) (entries-all station-relation-entry relation-floor file (λ e. station-ok (e .station)) (λ floor at a next. relation-station floor file at a next) j [] s rs q d),
     )
 

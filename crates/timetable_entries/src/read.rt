@@ -19,6 +19,7 @@ use relation_files::reading;
 use relation_files::reading::RelationRead;
 use relation_files::row;
 use timetable::Fault;
+use timetable::FileForm;
 use visit_files::visit;
 use visit_files::visit::VisitRead;
 
@@ -58,6 +59,7 @@ fn refused_entries(refusal: u8, place: usize) -> EntriesRead
 fn visits(
     file: &[u8],
     at: usize,
+    form: FileForm,
     count: usize,
     n: Network,
     sheet: &mut [u8],
@@ -65,8 +67,8 @@ fn visits(
 ) -> EntriesRead
     requires { ⌜ (length (now sheet) ≡ 8192) × (count ≤ 384) ⌝ }
     ensures { λ r. ⌜
-        (r ≡ entries-read (visit-step n) (record { sheet = now (sheet .entry); fault = fault }) (read (visits-format count) (now (file .entry)) at))
-        × (r .accepted ≡ true → now (sheet .exit) ≡ entries-sheet (visit-step n) (record { sheet = now (sheet .entry); fault = fault }) (read (visits-format count) (now (file .entry)) at)) ⌝ }
+        (r ≡ entries-read (visit-step n) (record { sheet = now (sheet .entry); fault = fault }) (read (visits-format form count) (now (file .entry)) at))
+        × (r .accepted ≡ true → now (sheet .exit) ≡ entries-sheet (visit-step n) (record { sheet = now (sheet .entry); fault = fault }) (read (visits-format form count) (now (file .entry)) at)) ⌝ }
 {
     let mut place = at;
     let mut station = Station(0);
@@ -74,7 +76,7 @@ fn visits(
     let mut first = fault;
     let mut i: usize = 0;
     while i < count {
-        let found = visit::visit_entry(file, place, station, train);
+        let found = visit::visit_entry(file, place, form, station, train);
         match found {
             VisitRead::Refused(k, p) => {
                 return refused_entries(k, p);
@@ -126,16 +128,23 @@ fn relations(
 }
 
 // "count of visits (0..384)", and the visits.
-fn visit_part(file: &[u8], at: usize, n: Network, sheet: &mut [u8], fault: Fault) -> EntriesRead
+fn visit_part(
+    file: &[u8],
+    at: usize,
+    form: FileForm,
+    n: Network,
+    sheet: &mut [u8],
+    fault: Fault,
+) -> EntriesRead
     requires { ⌜ length (now sheet) ≡ 8192 ⌝ }
     ensures { λ r. ⌜
-        (r ≡ entries-read (visit-step n) (record { sheet = now (sheet .entry); fault = fault }) (read visit-part (now (file .entry)) at))
-        × (r .accepted ≡ true → now (sheet .exit) ≡ entries-sheet (visit-step n) (record { sheet = now (sheet .entry); fault = fault }) (read visit-part (now (file .entry)) at)) ⌝ }
+        (r ≡ entries-read (visit-step n) (record { sheet = now (sheet .entry); fault = fault }) (read (visit-part form) (now (file .entry)) at))
+        × (r .accepted ≡ true → now (sheet .exit) ≡ entries-sheet (visit-step n) (record { sheet = now (sheet .entry); fault = fault }) (read (visit-part form) (now (file .entry)) at)) ⌝ }
 {
     let count = field(file, at, 0, 384);
     match count {
         FieldRead::Refused(k, p) => refused_entries(k, p),
-        FieldRead::Value(k, next) => visits(file, next, k as usize, n, sheet, fault),
+        FieldRead::Value(k, next) => visits(file, next, form, k as usize, n, sheet, fault),
     }
 }
 
@@ -154,17 +163,23 @@ fn relation_part(file: &[u8], at: usize, n: Network, sheet: &mut [u8], fault: Fa
 }
 
 // All entries from a place of the file on, put into the sheet.
-pub(crate) fn entries(file: &[u8], at: usize, n: Network, sheet: &mut [u8]) -> EntriesRead
+pub(crate) fn entries(
+    file: &[u8],
+    at: usize,
+    form: FileForm,
+    n: Network,
+    sheet: &mut [u8],
+) -> EntriesRead
     requires { ⌜ length (now sheet) ≡ 8192 ⌝ }
     ensures { λ r. ⌜
-        (r ≡ timetable-entries n (record { sheet = now (sheet .entry); fault = no-fault }) (read timetable-format (now (file .entry)) at))
-        × (r .accepted ≡ true → now (sheet .exit) ≡ timetable-sheet n (record { sheet = now (sheet .entry); fault = no-fault }) (read timetable-format (now (file .entry)) at)) ⌝ }
+        (r ≡ timetable-entries n (record { sheet = now (sheet .entry); fault = no-fault }) (read (timetable-format form) (now (file .entry)) at))
+        × (r .accepted ≡ true → now (sheet .exit) ≡ timetable-sheet n (record { sheet = now (sheet .entry); fault = no-fault }) (read (timetable-format form) (now (file .entry)) at)) ⌝ }
 {
     let none = Fault {
         number: 0,
         place: 0,
     };
-    let found = visit_part(file, at, n, sheet, none);
+    let found = visit_part(file, at, form, n, sheet, none);
     if found.accepted {
         return relation_part(file, found.place, n, sheet, found.fault);
     }

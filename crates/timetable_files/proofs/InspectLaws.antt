@@ -13,6 +13,7 @@ use Rattle.timetable.specs.declared.Fault.{Fault}
 use Rattle.timetable.specs.Formats.{Format, done, Outcome, accepted, refused, _and-then_, behind, read, ended, read-file, number, place-of, value-or, Placed, placed}
 use Rattle.timetable.specs.NetworkFile.{Listed, network-format, network-of, network-fault, unless-fault}
 use Rattle.timetable.specs.Machine.{Timetable}
+use Rattle.timetable.specs.FileForms.{newest-form}
 use Rattle.timetable.specs.TimetableFile.{Entries, timetable-format, timetable-of}
 use Rattle.timetable.specs.InspectFile.{Inspection, Both, inspect-format, inspection, read-inspect}
 use Rattle.network_files.specs.declared.draft.Draft.{Draft}
@@ -38,7 +39,7 @@ abbrev both : Listed → ℕ → Entries → Both
 both x at es = record { listed = x; entries = record { place = at; entry = es } }
 
 abbrev behind-network : Listed → Format Both
-behind-network x = placed timetable-format and-then (λ es. done (record { listed = x; entries = es }))
+behind-network x = placed (timetable-format newest-form) and-then (λ es. done (record { listed = x; entries = es }))
 
 module _ (file sheet : List ℕ) where
   is-refused : (k p : ℕ) → inspect-outcome file sheet ≡ refused k p → Tells file sheet (inspect-read (refused k p)) sheet
@@ -59,11 +60,11 @@ module _ (file sheet : List ℕ) where
     module _ (t : d .accepted ≡ true) where
       -- the timetable decides
       decided : (x : Listed) → read network-format file 0 ≡ accepted x (d .place)
-          → read-inspect file ≡ behind (rest-of (network-of x) (network-fault x) file (d .place)) (beside (network-of x) (d .place))
+          → read-inspect file ≡ behind (rest-of newest-form (network-of x) (network-fault x) file (d .place)) (beside (network-of x) (d .place))
       unfolding read-inspect read-file rest-of behind ended inspect-format inspection unless-fault
       decided x o =
           ap (λ (z : Outcome Both). behind (ended file z) (λ x next. unless-fault (network-fault (x .listed)) (inspection x next))) (then-on network-format behind-network file 0 x (d .place) o)
-          ∙ go (read timetable-format file (d .place)) refl
+          ∙ go (read (timetable-format newest-form) file (d .place)) refl
         where
           fault : (b : Bool) (c : Outcome Timetable) (k p : ℕ) → (if b then behind c (beside (network-of x) (d .place)) else refused k p) ≡ behind (if b then c else refused k p) (beside (network-of x) (d .place))
           fault true c k p = refl
@@ -75,29 +76,29 @@ module _ (file sheet : List ℕ) where
           end true es next = fault (eqb (network-fault x .number) 0) (timetable-of (network-of x) es next) (network-fault x .number) (network-fault x .place)
           end false es next = refl
 
-          go : (o : Outcome Entries) → read timetable-format file (d .place) ≡ o
+          go : (o : Outcome Entries) → read (timetable-format newest-form) file (d .place) ≡ o
               → behind (ended file (read (behind-network x) file (d .place))) (λ x next. unless-fault (network-fault (x .listed)) (inspection x next))
               ≡ behind (behind (ended file o) (λ es next. unless-fault (network-fault x) (timetable-of (network-of x) es next))) (beside (network-of x) (d .place))
           go (accepted es next) q =
-              rw (made {A = Both} (λ (es : Placed Entries). record { listed = x; entries = es }) (placed timetable-format) file (d .place) _ next (placed-some timetable-format file (d .place) es next q))
+              rw (made {A = Both} (λ (es : Placed Entries). record { listed = x; entries = es }) (placed (timetable-format newest-form)) file (d .place) _ next (placed-some (timetable-format newest-form) file (d .place) es next q))
               (end (leb (length file) next) es next)
           go (refused k p) q =
-              rw (unmade {A = Both} (λ (es : Placed Entries). record { listed = x; entries = es }) (placed timetable-format) file (d .place) k p (placed-none timetable-format file (d .place) k p q)) refl
+              rw (unmade {A = Both} (λ (es : Placed Entries). record { listed = x; entries = es }) (placed (timetable-format newest-form)) file (d .place) k p (placed-none (timetable-format newest-form) file (d .place) k p q)) refl
 
-      as-rest : inspect-outcome file sheet ≡ behind (rest-outcome (d .network) (d .fault) file (d .place) sheet) (beside (d .network) (d .place))
+      as-rest : inspect-outcome file sheet ≡ behind (rest-outcome newest-form (d .network) (d .fault) file (d .place) sheet) (beside (d .network) (d .place))
       unfolding inspect-outcome rest-outcome behind
       as-rest =
           let (x, o, n, f) = draft-value (read network-format file 0) d e t in
-          go (eqb (length sheet) 8192) (decided x o ∙ ap₂ (λ (m : Network) (g : Fault). behind (rest-of m g file (d .place)) (beside m (d .place))) (sym n) (sym f))
+          go (eqb (length sheet) 8192) (decided x o ∙ ap₂ (λ (m : Network) (g : Fault). behind (rest-of newest-form m g file (d .place)) (beside m (d .place))) (sym n) (sym f))
         where
-          go : (b : Bool) → read-inspect file ≡ behind (rest-of (d .network) (d .fault) file (d .place)) (beside (d .network) (d .place))
+          go : (b : Bool) → read-inspect file ≡ behind (rest-of newest-form (d .network) (d .fault) file (d .place)) (beside (d .network) (d .place))
               → (if b then read-inspect file else refused 5 0)
-              ≡ behind (if b then rest-of (d .network) (d .fault) file (d .place) else refused 5 0) (beside (d .network) (d .place))
+              ≡ behind (if b then rest-of newest-form (d .network) (d .fault) file (d .place) else refused 5 0) (beside (d .network) (d .place))
           go true q = q
           go false q = refl
 
       abbrev rest : Outcome Timetable
-      rest = rest-outcome (d .network) (d .fault) file (d .place) sheet
+      rest = rest-outcome newest-form (d .network) (d .fault) file (d .place) sheet
 
       pub rest-refused : (k p : ℕ) → refused k p ≡ end-of rest → (later : List ℕ) → later ≡ sheet-of rest sheet → Tells file sheet (inspect-read (refused k p)) later
       unfolding behind sheet-of

@@ -12,11 +12,13 @@ use borrow.Author.Tests.{eqb-false}
 use Rattle.base.specs.Choice.{if_then_else_}
 use Rattle.base.specs.Lists.{first, within}
 use Rattle.base.proofs.Tests.{every-head, every-tail}
+use Rattle.timetable.specs.declared.FileForm.{FileForm}
 use Rattle.timetable.specs.Formats.{Format, done, field, Outcome, accepted, refused, _and-then_, field-at, behind, read, ended, read-file, entries, Placed, placed}
 use Rattle.timetable.specs.NetworkFile.{Listed, network-format}
 use Rattle.timetable.specs.NetworkFile.{network-of, network-fault, unless-fault}
 use Rattle.timetable.specs.EditsFile.{station-relation-entry}
 use Rattle.timetable.specs.Machine.{Timetable, nothing-placed}
+use Rattle.timetable.specs.FileForms.{newest-form}
 use Rattle.timetable.specs.TimetableFile.{StationVisit, Entries, visit-entry, visit-floor, relation-floor, visits-format, relations-format, timetable-format}
 use Rattle.timetable.specs.TimetableFile.{visit-refusal, relation-refusal, enter-visit, enter-relation, entered, timetable-of}
 use Rattle.timetable.specs.InspectFile.{Inspection, Both, inspect-format, inspection, read-inspect}
@@ -29,19 +31,19 @@ use Rattle.network_files.proofs.PlaceLaws.{Within, behind-within, read-within, 
 abbrev behind-visits : List (Placed StationVisit) → Format Entries
 behind-visits vs = field 0 96 (λ m. relations-format m and-then (λ rs. done (record { visits = vs; relations = rs })))
 
-timetable-within : (file : List ℕ) (at : ℕ) → at ≤ length file → (x : Entries) (next : ℕ) → read timetable-format file at ≡ accepted x next
+timetable-within : (form : FileForm) (file : List ℕ) (at : ℕ) → at ≤ length file → (x : Entries) (next : ℕ) → read (timetable-format form) file at ≡ accepted x next
     → Placed-within (length file) (x .visits) × Placed-within (length file) (x .relations)
 unfolding read timetable-format visits-format relations-format
-timetable-within file at h x next e =
-    let (k, p₁, u₁, v₁) = behind-taken (field-at 0 384 file at) (λ k p. read (visits-format k and-then behind-visits) file p) x next e in
-    let (vs, p₂, u₂, v₂) = then-taken (visits-format k) behind-visits file p₁ x next v₁ in
+timetable-within form file at h x next e =
+    let (k, p₁, u₁, v₁) = behind-taken (field-at 0 384 file at) (λ k p. read (visits-format form k and-then behind-visits) file p) x next e in
+    let (vs, p₂, u₂, v₂) = then-taken (visits-format form k) behind-visits file p₁ x next v₁ in
     let (m, p₃, u₃, v₃) = behind-taken (field-at 0 96 file p₂) (λ m p. read (relations-format m and-then (λ rs. done (record { visits = vs; relations = rs }))) file p) x next v₂ in
     let (rs, p₄, u₄, v₄) = then-taken (relations-format m) (λ rs. done (record { visits = vs; relations = rs })) file p₃ x next v₃ in
     let l₁ = number-within 0 384 file at h k p₁ u₁ in
-    let l₂ = next-within (visits-format k) file p₁ l₁ vs p₂ u₂ in
+    let l₂ = next-within (visits-format form k) file p₁ l₁ vs p₂ u₂ in
     let l₃ = number-within 0 96 file p₂ l₂ m p₃ u₃ in
     let z : record { visits = vs; relations = rs } ≡ x = cc in (
-      rw (← z) (entries-within visit-entry visit-floor file k [] p₁ l₁ vs p₂ u₂),
+      rw (← z) (entries-within (visit-entry form) visit-floor file k [] p₁ l₁ vs p₂ u₂),
       rw (← z) (entries-within station-relation-entry relation-floor file m [] p₃ l₃ rs p₄ u₄),
     )
 
@@ -61,7 +63,7 @@ entered-within refusal enter end (p ∷ ps) m next t h =
 -- the input of `inspect`
 
 abbrev behind-network : Listed → Format Both
-behind-network x = placed timetable-format and-then (λ es. done (record { listed = x; entries = es }))
+behind-network x = placed (timetable-format newest-form) and-then (λ es. done (record { listed = x; entries = es }))
 
 pub inspect-within : (file : List ℕ) → Within (length file) (read-inspect file)
 unfolding read-inspect read-file read behind inspect-format inspection timetable-of Within
@@ -88,11 +90,11 @@ inspect-within file =
     go (accepted x next) e h =
         let r = ended-taken file (read inspect-format file 0) x next e in
         let (y, p, u, v) = then-taken network-format behind-network file 0 x next r in
-        let (es, q, w, z) = then-taken (placed timetable-format) (λ es. done (record { listed = y; entries = es })) file p x next v in
-        let (b, l, s, t) = behind-taken (read timetable-format file p) (λ a next. accepted (record { place = p; entry = a }) next) es q (sym (placed-read timetable-format file p) ∙ w) in
+        let (es, q, w, z) = then-taken (placed (timetable-format newest-form)) (λ es. done (record { listed = y; entries = es })) file p x next v in
+        let (b, l, s, t) = behind-taken (read (timetable-format newest-form) file p) (λ a next. accepted (record { place = p; entry = a }) next) es q (sym (placed-read (timetable-format newest-form) file p) ∙ w) in
         let i : record { listed = y; entries = es } ≡ x = taken-same _ x q next z in
         let j : record { place = p; entry = b } ≡ es = taken-same _ es l q t in
-        let (c, d) = timetable-within file p (next-within network-format file 0 (omega arith) y p u) b l s in
+        let (c, d) = timetable-within newest-form file p (next-within network-format file 0 (omega arith) y p u) b l s in
         rw (← i, ← j) (tested (record { listed = y; entries = record { place = p; entry = b } }) p next u c d h)
 
 -- the timetable starts within the file
@@ -107,9 +109,9 @@ both-there : (file : List ℕ) (x : Both) (next : ℕ) → read inspect-format f
 unfolding read inspect-format
 both-there file x next e =
     let (l, i, a, b) = then-taken network-format behind-network file 0 x next e in
-    let (es, j, c, d) = then-taken (placed timetable-format) (λ es. done (record { listed = l; entries = es })) file i x next b in
+    let (es, j, c, d) = then-taken (placed (timetable-format newest-form)) (λ es. done (record { listed = l; entries = es })) file i x next b in
     let s : record { listed = l; entries = es } ≡ x = taken-same _ x j next d in
-    rw (← s, placed-there timetable-format file i es j c) (next-within network-format file 0 (omega arith) l i a)
+    rw (← s, placed-there (timetable-format newest-form) file i es j c) (next-within network-format file 0 (omega arith) l i a)
 
 tested-there : (x : Both) (p : ℕ) (y : Inspection) (next : ℕ) → inspection x p ≡ accepted y next → y .first ≡ x .entries .place
 unfolding inspection

@@ -6,24 +6,25 @@ use mathlib.Core.List.{List}
 use lib.Dec.{eqb}
 use lib.ListN.{length}
 use Rattle.base.specs.Choice.{if_then_else_}
+use Rattle.timetable.specs.declared.FileForm.{FileForm}
 use Rattle.timetable.specs.Formats.{Outcome, refused}
 use Rattle.timetable.specs.Machine.{Timetable}
-use Rattle.timetable.specs.TimetableFile.{read-timetable}
+use Rattle.timetable.specs.TimetableFile.{read-timetable-as}
 use Rattle.fields.specs.Outcomes.{end-of}
 use Rattle.timetable_entries.specs.Answers.{sheet-of}
 use Rattle.timetable_files.specs.Types.{Network}
 
--- the outcome of reading under a network: 5 comes before all else
-unfoldable pub read-outcome : Network → List ℕ → List ℕ → Outcome Timetable
-read-outcome n file sheet = if eqb (length sheet) 8192 then read-timetable n file else refused 5 0
+-- the outcome of reading under a network, in a form: 5 comes before all else
+unfoldable pub read-outcome : FileForm → Network → List ℕ → List ℕ → Outcome Timetable
+read-outcome form n file sheet = if eqb (length sheet) 8192 then read-timetable-as form n file else refused 5 0
 
 -- the answer tells the place alone; the sheet holds the timetable
-unfoldable pub read-answer : Network → List ℕ → List ℕ → Outcome (Unit {0})
-read-answer n file sheet = end-of (read-outcome n file sheet)
+unfoldable pub read-answer : FileForm → Network → List ℕ → List ℕ → Outcome (Unit {0})
+read-answer form n file sheet = end-of (read-outcome form n file sheet)
 
 -- "equal timetables are equal bytes": the sheet is that of the timetable read
-unfoldable pub read-after : Network → List ℕ → List ℕ → List ℕ
-read-after n file sheet = sheet-of (read-outcome n file sheet) sheet
+unfoldable pub read-after : FileForm → Network → List ℕ → List ℕ → List ℕ
+read-after form n file sheet = sheet-of (read-outcome form n file sheet) sheet
 
 -- The key ring of this module: `unfolding opened` opens every definition above.
 unfoldable pub opened : Unit {0}

@@ -4,6 +4,7 @@ ghost use Rattle.timetable.specs.Formats.{refused};
 ghost use Rattle.timetable_files.specs.Inspect.{inspect-read, inspect-answer, inspect-after};
 use network::Network;
 use network_files::draft;
+use timetable::FileForm;
 use timetable_entries::rest;
 use timetable_entries::rest::TimetableRead;
 
@@ -42,7 +43,7 @@ pub fn read_inspect(file: &[u8], sheet: &mut [u8]) -> InspectRead
         let network = head.network;
         let first = head.place;
         let fault = head.fault;
-        let found = rest::read_rest(file, first, network, fault, sheet);
+        let found = rest::read_rest(file, first, FileForm::Newest, network, fault, sheet);
         match found {
             TimetableRead::Refused(k, p) => refused_inspect(k, p),
             TimetableRead::Read(place) => InspectRead {

@@ -12,7 +12,8 @@ use Rattle.timetable.specs.Tables.{Entry}
 use Rattle.timetable.specs.Machine.{Timetable}
 use Rattle.timetable.specs.Formats.{bytes-of}
 use Rattle.timetable.specs.EditsFile.{station-relation-numbers}
-use Rattle.timetable.specs.TimetableFile.{StationVisit, visit-numbers, visits-at, relations-at, timetable-numbers}
+use Rattle.timetable.specs.FileForms.{newest-form}
+use Rattle.timetable.specs.TimetableFile.{StationVisit, visit-numbers, visits-at, relations-at, timetable-numbers-as, timetable-numbers}
 use Rattle.timetable.specs.Outputs.{put}
 use Rattle.timetable.proofs.BuffersFilled.{put-two, each-length, each-over}
 use Rattle.fields.specs.between.Putting.{Places}
@@ -62,13 +63,13 @@ module _ {A B : Type 0} (g : A → List B) (rows : List A) (k : ℕ) where
 -- the whole file: the places behind its four parts, and the buffer after each
 module _ (n : Network) (m : Timetable) (b b₁ b₂ b₃ b₄ : List ℕ) (p₁ p₂ p₃ p₄ : ℕ) where
   pub file-put : Places 0 (visit-total n m ∷ []) b p₁ b₁ 3 → Places p₁ (visit-part n m) b₁ p₂ b₂ 41472
-      → Places p₂ (relation-total n m ∷ []) b₂ p₃ b₃ 3 → Places p₃ (relation-part n m) b₃ p₄ b₄ 3456
+      → Places p₂ (relation-total n m ∷ []) b₂ p₃ b₃ 3 → Places p₃ (relation-part n m) b₃ p₄ b₄ 3744
       → (p₄ ≡ length (bytes-of (file-rows n m))) × (b₄ ≡ put 0 (bytes-of (file-rows n m)) b)
   unfolding file-rows
   file-put v vs r rs =
-      let x = writes-two p₂ p₃ p₄ (relation-total n m ∷ []) (relation-part n m) b₂ b₃ b₄ 3 3456 r rs in
-      let y = writes-two p₁ p₂ p₄ (visit-part n m) (relation-total n m ∷ relation-part n m) b₁ b₂ b₄ 41472 (3 + 3456) vs x in
-      let z = writes-two 0 p₁ p₄ (visit-total n m ∷ []) (visit-part n m ++ (relation-total n m ∷ relation-part n m)) b b₁ b₄ 3 (41472 + (3 + 3456)) v y in
+      let x = writes-two p₂ p₃ p₄ (relation-total n m ∷ []) (relation-part n m) b₂ b₃ b₄ 3 3744 r rs in
+      let y = writes-two p₁ p₂ p₄ (visit-part n m) (relation-total n m ∷ relation-part n m) b₁ b₂ b₄ 41472 (3 + 3744) vs x in
+      let z = writes-two 0 p₁ p₄ (visit-total n m ∷ []) (visit-part n m ++ (relation-total n m ∷ relation-part n m)) b b₁ b₄ 3 (41472 + (3 + 3744)) v y in
       (omega (arith, z .0), z .1)
 
 -- the parts are the numbers of the timetable
@@ -113,7 +114,7 @@ module _ {E L : Type 0} (q : Station → List E) (g : Station → E → L) where
 
 module _ (n : Network) (m : Timetable) where
   pub rows-numbers : file-rows n m ≡ timetable-numbers n m
-  unfolding file-rows timetable-numbers visit-total relation-total visit-part relation-part visits-here relations-here entry-numbers relation-row visits-at relations-at stations-of
+  unfolding file-rows timetable-numbers-as visit-total relation-total visit-part relation-part visits-here relations-here entry-numbers relation-row visits-at relations-at stations-of
   rows-numbers =
       let rows = station-rows n in
       let visit : Station → Entry → StationVisit = λ s e. record { station = s; train = e .train; visit = e .visit } in
@@ -122,6 +123,6 @@ module _ (n : Network) (m : Timetable) where
       (rw (
         many-rows (λ s. m s .visits) visit rows,
         many-rows (λ s. m s .relations) relation rows,
-        all-rows (λ s. m s .visits) visit visit-numbers entry-numbers (λ s. refl) rows,
+        all-rows (λ s. m s .visits) visit (visit-numbers newest-form) entry-numbers (λ s. refl) rows,
         all-rows (λ s. m s .relations) relation station-relation-numbers relation-row (λ s. refl) rows,
       ))

@@ -6,6 +6,7 @@ ghost use Prim.Native.Nat.{_≤_};
 ghost use lib.ListN.{length};
 ghost use Rattle.timetable.specs.Formats.{bytes-of};
 ghost use Rattle.timetable.specs.Outputs.{reply, put};
+ghost use Rattle.timetable.specs.FileForms.{newest-form};
 ghost use Rattle.timetable.specs.TimetableFile.{visit-numbers};
 ghost use Rattle.page.specs.between.Changes.{table-in};
 ghost use Rattle.sheet.specs.Sheets.{decode-sheet};
@@ -40,14 +41,14 @@ pub struct Totals {
 
 fn put_visit(out: &mut [u8], at: usize, s: Station, t: Train, v: Visit) -> usize
     requires { ⌜ at ≤ 800000000 ⌝ }
-    ensures { λ q. ⌜ Places at (visit-numbers (record { station = s; train = t; visit = v })) (now (out .entry)) q (now (out .exit)) 108 ⌝ }
+    ensures { λ q. ⌜ Places at (visit-numbers newest-form (record { station = s; train = t; visit = v })) (now (out .entry)) q (now (out .exit)) 108 ⌝ }
 {
     put::put_row(out, at, visit_numbers(s, t, v))
 }
 
 fn put_relation(out: &mut [u8], at: usize, s: Station, r: Relation) -> usize
     requires { ⌜ at ≤ 900000000 ⌝ }
-    ensures { λ q. ⌜ Places at (relation-row s r) (now (out .entry)) q (now (out .exit)) 36 ⌝ }
+    ensures { λ q. ⌜ Places at (relation-row s r) (now (out .entry)) q (now (out .exit)) 39 ⌝ }
 {
     let x = StationRelation {
         station: s,
@@ -77,7 +78,7 @@ fn put_visits(out: &mut [u8], at: usize, part: &[u8], s: Station) -> usize
 
 fn put_relations(out: &mut [u8], at: usize, part: &[u8], s: Station) -> usize
     requires { ⌜ at ≤ 700000000 ⌝ }
-    ensures { λ q. ⌜ Places at (relations-here s (table-in (now (part .entry)))) (now (out .entry)) q (now (out .exit)) 216 ⌝ }
+    ensures { λ q. ⌜ Places at (relations-here s (table-in (now (part .entry)))) (now (out .entry)) q (now (out .exit)) 234 ⌝ }
 {
     let k = page::relation_count(part);
     let mut next = at;
@@ -165,7 +166,7 @@ fn put_all_visits(out: &mut [u8], at: usize, sheet: &[u8], n: Network) -> usize
 
 fn put_all_relations(out: &mut [u8], at: usize, sheet: &[u8], n: Network) -> usize
     requires { ⌜ (length (now sheet) ≡ 8192) × (at ≤ 600000000) ⌝ }
-    ensures { λ q. ⌜ Places at (relation-part n (decode-sheet (now (sheet .entry)))) (now (out .entry)) q (now (out .exit)) 3456 ⌝ }
+    ensures { λ q. ⌜ Places at (relation-part n (decode-sheet (now (sheet .entry)))) (now (out .entry)) q (now (out .exit)) 3744 ⌝ }
 {
     let rows = n.stations;
     let k = in_use(n.stationcount, 16);

@@ -1,15 +1,17 @@
 // A visit entry of a timetable file: "s, t, track, arrival, status, departure, status, in-link, out-link (fields as
-// listed, or a single 0 for none)".
+// listed, or a single 0 for none)"; a stop mark "after its track", where the form has it.
 ghost use mathlib.Core.Path.{_≡_};
 ghost use mathlib.Core.List.{[], _∷_};
 ghost use Prim.Native.Nat.{_<_, _≤_};
 ghost use lib.ListN.{getD};
 ghost use Rattle.timetable.specs.Formats.{read};
+ghost use Rattle.timetable.specs.Formats as formats;
 ghost use Rattle.timetable.specs.TimetableFile.{in-link-entry, out-link-entry, visit-entry};
-ghost use Rattle.fields.specs.between.Answers.{ranges-of, row-of};
-ghost use Rattle.visit_files.specs.between.Answers.{in-outcome, out-fields, out-outcome, value-ranges, visit-in, visit-values, visit-outcome};
+ghost use Rattle.fields.specs.between.Answers.{ranges-of, row-of, row-read};
+ghost use Rattle.visit_files.specs.between.Answers.{in-outcome, out-fields, out-outcome, value-ranges, mark-in, arrival-at, visit-in, visit-values, visit-outcome};
 use fields::field::FieldRead;
 use fields::field::Numbers;
+use fields::field::RowRead;
 use fields::field::Span;
 use fields::field::Spans;
 use fields::field::field;
@@ -26,6 +28,7 @@ use railway::visit::Inward;
 use railway::visit::OutLink;
 use railway::visit::Outward;
 use railway::visit::Visit;
+use timetable::FileForm;
 
 pub enum InRead {
     Link(InLink, usize),
@@ -107,42 +110,100 @@ fn out_link(file: &[u8], at: usize) -> OutRead
     }
 }
 
-// "track, arrival, status, departure, status"
-fn value_spans() -> Spans
-    ensures { λ r. ⌜ ranges-of r ≡ value-ranges ⌝ }
+// "track, arrival, status, departure, status", the mark after the track where the form has it
+fn value_spans(form: FileForm) -> Spans
+    ensures { λ r. ⌜ ranges-of r ≡ value-ranges form ⌝ }
 {
     let none = Span { lo: 0, hi: 0 };
     let track = Span { lo: 1, hi: 8 };
+    let mark = Span { lo: 0, hi: 1 };
     let minute = Span {
         lo: 0,
         hi: Minute::LAST,
     };
     let status = Span { lo: 0, hi: 1 };
-    Spans {
-        count: 5,
-        spans: [track, minute, status, minute, status, none, none, none],
+    match form {
+        FileForm::Earlier => Spans {
+            count: 5,
+            spans: [
+                track,
+                minute,
+                status,
+                minute,
+                status,
+                none,
+                none,
+                none,
+                none,
+            ],
+        },
+        FileForm::Newest => Spans {
+            count: 6,
+            spans: [
+                track,
+                mark,
+                minute,
+                status,
+                minute,
+                status,
+                none,
+                none,
+                none,
+            ],
+        },
     }
 }
 
-fn visit_from(v: [u16; 12], i: InLink, o: OutLink) -> Visit
-    ensures { λ r. ⌜ (getD v 0 0 < 256 → r ≡ visit-in v i o) ⌝ }
+// The numbers of those values. Each form's ranges stand beside their reading, so that the compiler knows them there.
+fn value_numbers(file: &[u8], at: usize, form: FileForm) -> RowRead
+    ensures { λ r. ⌜ r ≡ row-read (read (formats.row (value-ranges form) []) (now (file .entry)) at) ⌝ }
 {
+    match form {
+        FileForm::Earlier => row(file, at, value_spans(FileForm::Earlier)),
+        FileForm::Newest => row(file, at, value_spans(FileForm::Newest)),
+    }
+}
+
+// The mark that stands behind the track, and where the arrival stands.
+fn mark_in(form: FileForm, v: [u16; 13]) -> bool
+    ensures { λ r. ⌜ r ≡ mark-in form v ⌝ }
+{
+    match form {
+        FileForm::Earlier => false,
+        FileForm::Newest => v[1] == 1,
+    }
+}
+
+fn arrival_at(form: FileForm) -> usize
+    ensures { λ r. ⌜ r ≡ arrival-at form ⌝ }
+{
+    match form {
+        FileForm::Earlier => 1,
+        FileForm::Newest => 2,
+    }
+}
+
+fn visit_from(form: FileForm, v: [u16; 13], i: InLink, o: OutLink) -> Visit
+    ensures { λ r. ⌜ (getD v 0 0 < 256 → r ≡ visit-in form v i o) ⌝ }
+{
+    let k = arrival_at(form);
     Visit {
         track: Track(narrow(v[0])),
-        arrival: Minute(v[1]),
-        arrived: v[2] == 1,
-        departure: Minute(v[3]),
-        departed: v[4] == 1,
+        marked: mark_in(form, v),
+        arrival: Minute(v[k]),
+        arrived: v[k + 1] == 1,
+        departure: Minute(v[k + 2]),
+        departed: v[k + 3] == 1,
         inward: i,
         outward: o,
     }
 }
 
 // Behind the station and the train.
-fn visit_values(file: &[u8], at: usize, s: u16, t: u16) -> VisitRead
-    ensures { λ r. ⌜ (s ≤ 16 → visit-outcome r ≡ read (visit-values s t) (now (file .entry)) at) ⌝ }
+fn visit_values(file: &[u8], at: usize, form: FileForm, s: u16, t: u16) -> VisitRead
+    ensures { λ r. ⌜ (s ≤ 16 → visit-outcome r ≡ read (visit-values form s t) (now (file .entry)) at) ⌝ }
 {
-    let values = row(file, at, value_spans());
+    let values = value_numbers(file, at, form);
     if values.accepted {
         let inward = in_link(file, values.place);
         match inward {
@@ -153,7 +214,12 @@ fn visit_values(file: &[u8], at: usize, s: u16, t: u16) -> VisitRead
                     OutRead::Refused(k, p) => VisitRead::Refused(k, p),
                     OutRead::Link(o, end) => {
                         let v = values.values;
-                        VisitRead::Entry(Station(narrow(s)), Train(t), visit_from(v, i, o), end)
+                        VisitRead::Entry(
+                            Station(narrow(s)),
+                            Train(t),
+                            visit_from(form, v, i, o),
+                            end,
+                        )
                     }
                 }
             }
@@ -170,20 +236,26 @@ fn visit_floor(s: Station, t: Train) -> Numbers
     Numbers {
         from: 0,
         to: 2,
-        values: [s.0 as u16, t.0, 0, 0, 0, 0, 0, 0, 0, 0, 0, 0],
+        values: [s.0 as u16, t.0, 0, 0, 0, 0, 0, 0, 0, 0, 0, 0, 0],
     }
 }
 
 // The visit entry at a place, behind the station and the train of the entry before; both 0 are below every entry.
-pub fn visit_entry(file: &[u8], at: usize, station: Station, train: Train) -> VisitRead
-    ensures { λ r. ⌜ visit-outcome r ≡ read (visit-entry (station .0 ∷ train .0 ∷ [])) (now (file .entry)) at ⌝ }
+pub fn visit_entry(
+    file: &[u8],
+    at: usize,
+    form: FileForm,
+    station: Station,
+    train: Train,
+) -> VisitRead
+    ensures { λ r. ⌜ visit-outcome r ≡ read (visit-entry form (station .0 ∷ train .0 ∷ [])) (now (file .entry)) at ⌝ }
 {
     let floor = visit_floor(station, train);
     let s = floor::compared(file, at, 1, 16, floor);
     if s.accepted {
         let t = floor::compared(file, s.place, 1, 9999, floor::floor_after(floor, s.value));
         if t.accepted {
-            return visit_values(file, t.place, s.value, t.value);
+            return visit_values(file, t.place, form, s.value, t.value);
         }
         return VisitRead::Refused(t.refusal, t.place);
     }

@@ -1,7 +1,7 @@
 // Visits by value: their links, whether they stop, and visits with another link or time, as the definitions of
 // timetable/specs/Visits.antt say.
 ghost use mathlib.Core.Path.{_≡_};
-ghost use Rattle.timetable.specs.Visits.{lacks-in, lacks-out, comes-from, leaves-to, stops, with-in, with-out, planned, amended, arrived-at, departed-at};
+ghost use Rattle.timetable.specs.Visits.{lacks-in, lacks-out, comes-from, leaves-to, stops-anyway, stops, with-in, with-out, planned, amended, arrived-at, departed-at};
 ghost use Rattle.visits.specs.between.Kept.{keeps-arrival, alters-departure};
 ghost use Rattle.visits.specs.between.Changes.{change-by};
 ghost use Rattle.timetable.specs.Visits.{from, onward, first-stands, last-stands, alters};
@@ -70,8 +70,8 @@ pub fn is_to(v: Visit, s: Station, l: Line) -> bool
 }
 
 // "A visit stops if it departs later than it arrives or lacks a link."
-pub fn does_stop(v: Visit) -> bool
-    ensures { λ r. ⌜ r ≡ stops v ⌝ }
+pub fn stops_anyway(v: Visit) -> bool
+    ensures { λ r. ⌜ r ≡ stops-anyway v ⌝ }
 {
     if v.arrival.0 < v.departure.0 {
         return true;
@@ -80,6 +80,16 @@ pub fn does_stop(v: Visit) -> bool
         return true;
     }
     has_no_out(v)
+}
+
+// "A marked visit stops even if the old condition doesn't hold."
+pub fn does_stop(v: Visit) -> bool
+    ensures { λ r. ⌜ r ≡ stops v ⌝ }
+{
+    if v.marked {
+        return true;
+    }
+    stops_anyway(v)
 }
 
 pub fn link_from(s: Station, l: Line) -> InLink
@@ -112,6 +122,7 @@ pub fn linked_in(link: InLink, v: Visit) -> Visit
     let outward = v.outward;
     Visit {
         track,
+        marked: v.marked,
         arrival,
         arrived: v.arrived,
         departure,
@@ -130,6 +141,7 @@ pub fn linked_out(link: OutLink, v: Visit) -> Visit
     let inward = v.inward;
     Visit {
         track,
+        marked: v.marked,
         arrival,
         arrived: v.arrived,
         departure,
@@ -148,6 +160,7 @@ pub fn plan_visit(p: Plan) -> Visit
     let departure = p.departure;
     Visit {
         track,
+        marked: p.marked,
         arrival,
         arrived: false,
         departure,
@@ -157,7 +170,7 @@ pub fn plan_visit(p: Plan) -> Visit
     }
 }
 
-// Edit 6: new track and times, statuses and links kept.
+// Edit 6: new track, mark and times, statuses and links kept.
 pub fn amend_visit(p: Plan, v: Visit) -> Visit
     ensures { λ r. ⌜ r ≡ amended p v ⌝ }
 {
@@ -168,6 +181,7 @@ pub fn amend_visit(p: Plan, v: Visit) -> Visit
     let outward = v.outward;
     Visit {
         track,
+        marked: p.marked,
         arrival,
         arrived: v.arrived,
         departure,
@@ -187,6 +201,7 @@ pub fn arrive(time: Minute, v: Visit) -> Visit
     let outward = v.outward;
     Visit {
         track,
+        marked: v.marked,
         arrival: time,
         arrived: true,
         departure,
@@ -205,6 +220,7 @@ pub fn depart(time: Minute, v: Visit) -> Visit
     let outward = v.outward;
     Visit {
         track,
+        marked: v.marked,
         arrival,
         arrived: v.arrived,
         departure: time,

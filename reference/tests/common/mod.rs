@@ -1,4 +1,6 @@
-//! Files from numbers, and the lines that a program prints.
+//! Files from numbers, and the lines that a program prints. No test uses all of it.
+
+#![allow(dead_code)]
 
 use reference::number;
 

@@ -1,6 +1,7 @@
 //! Each call made twice, as C makes it and by the wrapper, and both compared with what the second implementation says.
 
 use crate::model;
+use reference::edits;
 use std::collections::{BTreeMap, BTreeSet};
 use strakewhip::raw::{self, Reply};
 use strakewhip::{Error, File, Form};
@@ -20,6 +21,12 @@ pub struct Report {
 
 /// What the wrapper makes of a reply: the counts that a function answers, or the error.
 type Wrapped = Result<(u8, usize), Error>;
+
+// The calls that there are of each form, as C has them and by the wrapper.
+type RawRun = unsafe extern "C" fn(*const u8, usize, *const u8, usize, *mut u8, usize, *mut u8, usize) -> Reply;
+type WrappedRun = fn(&[u8], &[u8], &mut [u8], &mut [u8]) -> Result<usize, Error>;
+type RawRead = unsafe extern "C" fn(*const u8, usize, *const u8, usize, *mut u8, usize) -> Reply;
+type WrappedRead = fn(&[u8], &[u8], &mut [u8]) -> Result<usize, Error>;
 
 impl Report {
     pub fn meets(&mut self, what: &'static str, met: bool) {
@@ -122,17 +129,30 @@ impl Report {
     }
 
     pub fn run(&mut self, network: &[u8], edits: &[u8], division: &mut [u8], answers: &mut [u8]) -> Reply {
+        self.run_as((edits::Form::Newest, network, edits), division, answers)
+    }
+
+    pub fn run_early(&mut self, network: &[u8], edits: &[u8], division: &mut [u8], answers: &mut [u8]) -> Reply {
+        self.run_as((edits::Form::Earlier, network, edits), division, answers)
+    }
+
+    fn run_as(&mut self, files: (edits::Form, &[u8], &[u8]), division: &mut [u8], answers: &mut [u8]) -> Reply {
+        let (form, n, e) = files;
+        let (call, raw, wrapper): (&'static str, RawRun, WrappedRun) = match form {
+            edits::Form::Newest => ("run", raw::strakewhip_run, strakewhip::run),
+            edits::Form::Earlier => ("run_early", raw::strakewhip_run_early, strakewhip::run_early),
+        };
         let (mut own, mut told) = (division.to_vec(), answers.to_vec());
         let (mut expected, mut due) = (division.to_vec(), answers.to_vec());
-        let (n, e, d, a) = (network, edits, &mut *division, &mut *answers);
+        let (d, a) = (&mut *division, &mut *answers);
         let reply = unsafe {
             let (to, room) = (a.as_mut_ptr(), a.len());
-            raw::strakewhip_run(n.as_ptr(), n.len(), e.as_ptr(), e.len(), d.as_mut_ptr(), d.len(), to, room)
+            raw(n.as_ptr(), n.len(), e.as_ptr(), e.len(), d.as_mut_ptr(), d.len(), to, room)
         };
-        let wrapped = strakewhip::run(network, edits, &mut own, &mut told).map(|length| (0, length));
-        self.replies("run", reply, model::run(network, edits, &mut expected, &mut due), wrapped);
-        self.buffers("run", division, &own, &expected);
-        self.buffers("run", answers, &told, &due);
+        let wrapped = wrapper(n, e, &mut own, &mut told).map(|length| (0, length));
+        self.replies(call, reply, model::run(form, n, e, &mut expected, &mut due), wrapped);
+        self.buffers(call, division, &own, &expected);
+        self.buffers(call, answers, &told, &due);
         reply
     }
 
@@ -228,13 +248,26 @@ impl Report {
         reply
     }
 
-    pub fn read(&mut self, network: &[u8], timetable: &[u8], sheet: &mut [u8]) {
+    pub fn read(&mut self, network: &[u8], timetable: &[u8], sheet: &mut [u8]) -> Reply {
+        self.read_as(edits::Form::Newest, network, timetable, sheet)
+    }
+
+    pub fn read_early(&mut self, network: &[u8], timetable: &[u8], sheet: &mut [u8]) -> Reply {
+        self.read_as(edits::Form::Earlier, network, timetable, sheet)
+    }
+
+    fn read_as(&mut self, form: edits::Form, network: &[u8], timetable: &[u8], sheet: &mut [u8]) -> Reply {
+        let (call, raw, wrapper): (&'static str, RawRead, WrappedRead) = match form {
+            edits::Form::Newest => ("read", raw::strakewhip_read, strakewhip::read),
+            edits::Form::Earlier => ("read_early", raw::strakewhip_read_early, strakewhip::read_early),
+        };
         let (mut own, mut expected) = (sheet.to_vec(), sheet.to_vec());
         let (n, t, s) = (network, timetable, &mut *sheet);
-        let reply = unsafe { raw::strakewhip_read(n.as_ptr(), n.len(), t.as_ptr(), t.len(), s.as_mut_ptr(), s.len()) };
-        let wrapped = strakewhip::read(network, timetable, &mut own).map(|length| (0, length));
-        self.replies("read", reply, model::read(network, timetable, &mut expected), wrapped);
-        self.buffers("read", sheet, &own, &expected);
+        let reply = unsafe { raw(n.as_ptr(), n.len(), t.as_ptr(), t.len(), s.as_mut_ptr(), s.len()) };
+        let wrapped = wrapper(network, timetable, &mut own).map(|length| (0, length));
+        self.replies(call, reply, model::read(form, network, timetable, &mut expected), wrapped);
+        self.buffers(call, sheet, &own, &expected);
+        reply
     }
 
     pub fn write(&mut self, network: &[u8], sheet: &[u8], out: &mut [u8]) -> Reply {

@@ -112,6 +112,62 @@ pub fn misclosed(r: &mut Random, numbers: &[u32], form: Form) -> Vec<u8> {
     bytes_of(&numbers)
 }
 
+/// A stop mark.
+fn mark(r: &mut Random) -> u32 {
+    u32::from(r.one_in(3))
+}
+
+/// Where the stop marks stand among the numbers of a timetable.
+fn marks_of_timetable(numbers: &[u32]) -> Vec<usize> {
+    let (mut at, mut marks) = (1, Vec::new());
+    for _ in 0..numbers[0] {
+        marks.push(at + 3);
+        at += 8;
+        at += if numbers[at] == 0 { 1 } else { 2 };
+        at += if numbers[at] == 0 { 1 } else { 3 };
+    }
+    marks
+}
+
+/// Where the stop mark of an edit stands among its numbers, if it carries a track.
+fn mark_of_edit(numbers: &[u32]) -> Vec<usize> {
+    if [1, 2, 3, 6].contains(&numbers[0]) {
+        vec![4]
+    } else {
+        Vec::new()
+    }
+}
+
+fn without(numbers: &[u32], places: &[usize]) -> Vec<u32> {
+    numbers.iter().enumerate().filter(|(at, _)| !places.contains(at)).map(|(_, number)| *number).collect()
+}
+
+fn with_0(numbers: &[u32], places: &[usize]) -> Vec<u32> {
+    let mut numbers = numbers.to_vec();
+    places.iter().for_each(|at| numbers[*at] = 0);
+    numbers
+}
+
+/// A timetable's numbers in the earlier form, without marks.
+pub fn early_timetable(numbers: &[u32]) -> Vec<u32> {
+    without(numbers, &marks_of_timetable(numbers))
+}
+
+/// The same in the newest form, with all marks 0.
+pub fn unmarked_timetable(numbers: &[u32]) -> Vec<u32> {
+    with_0(numbers, &marks_of_timetable(numbers))
+}
+
+/// An edit's numbers in the earlier form.
+pub fn early_edit(numbers: &[u32]) -> Vec<u32> {
+    without(numbers, &mark_of_edit(numbers))
+}
+
+/// The same in the newest form, with mark 0.
+pub fn unmarked_edit(numbers: &[u32]) -> Vec<u32> {
+    with_0(numbers, &mark_of_edit(numbers))
+}
+
 /// The lines out of a station: line, station at the far end.
 fn ways(network: &Network, from: Station, out: bool) -> Vec<(Line, Station)> {
     let mut found = Vec::new();
@@ -184,7 +240,7 @@ impl Dispatcher<'_> {
     fn place(&self, r: &mut Random) -> Vec<u32> {
         let station = self.station(r);
         let arrival = r.from(100, 140);
-        vec![1, station.0, self.train(r), self.track(r, station), arrival, arrival + r.from(0, 5)]
+        vec![1, station.0, self.train(r), self.track(r, station), mark(r), arrival, arrival + r.from(0, 5)]
     }
 
     fn extend(&self, r: &mut Random, kind: u32) -> Option<Vec<u32>> {
@@ -194,7 +250,8 @@ impl Dispatcher<'_> {
         let near = (if kind == 3 { visit.departure.time + i64::from(run) } else { visit.arrival.time - i64::from(run) })
             .clamp(0, 2870) as u32;
         let track = self.track(r, to);
-        Some(vec![kind, to.0, train.0, track, near, near + r.from(0, 3), from.0, line.0, run])
+        let stay = if r.one_in(2) { 0 } else { r.from(0, 3) };
+        Some(vec![kind, to.0, train.0, track, mark(r), near, near + stay, from.0, line.0, run])
     }
 
     fn shorten(&self, r: &mut Random, kind: u32) -> Option<Vec<u32>> {
@@ -203,12 +260,24 @@ impl Dispatcher<'_> {
         Some(vec![kind, station.0, train.0, far.unwrap_or(station).0])
     }
 
+    /// A visit between two others made a request stop.
+    fn request(&self, r: &mut Random) -> Option<Vec<u32>> {
+        let between =
+            self.timetable.visits.iter().filter(|(_, visit)| visit.in_link.is_some() && visit.out_link.is_some());
+        let ((station, train), visit) = r.pick(&between.collect::<Vec<_>>())?;
+        let arrival = visit.arrival.time as u32;
+        Some(vec![6, station.0, train.0, visit.track.0, 1, arrival, arrival])
+    }
+
     fn amend(&self, r: &mut Random) -> Option<Vec<u32>> {
+        if r.one_in(3) {
+            return self.request(r);
+        }
         let (station, train, visit) = self.visit(r)?;
         let arrival = if visit.arrival.occurred && !r.one_in(4) { visit.arrival.time as u32 } else { r.from(90, 150) };
         let departure = if r.one_in(2) { visit.departure.time as u32 } else { arrival + r.from(0, 9) };
         let track = if r.one_in(3) { self.track(r, station) } else { visit.track.0 };
-        Some(vec![6, station.0, train.0, track, arrival, departure])
+        Some(vec![6, station.0, train.0, track, mark(r), arrival, departure])
     }
 
     fn report(&self, r: &mut Random) -> Option<Vec<u32>> {
@@ -216,7 +285,30 @@ impl Dispatcher<'_> {
         Some(vec![r.from(7, 8), station.0, train.0, visit.arrival.time as u32 + r.from(0, 9)])
     }
 
+    /// A relation of a train that stops on request with another that is there in its minute, or with itself.
+    fn relate_on_request(&self, r: &mut Random) -> Option<Vec<u32>> {
+        let all = self.timetable.visits.iter();
+        let requests: Vec<_> = all.filter(|(_, visit)| visit.mark && !visit.stops_unmarked()).collect();
+        let ((station, train), stop) = r.pick(&requests)?;
+        let mut there = self.timetable.visits_at(*station);
+        there.retain(|(_, visit)| {
+            visit.arrival.time <= stop.departure.time && visit.departure.time >= stop.arrival.time
+        });
+        let (other, _) = r.pick(&there)?;
+        let kind = if other == *train { 3 } else { r.from(1, 3) };
+        let mut trains = [train.0, other.0];
+        if kind != 3 {
+            trains.sort_unstable();
+        }
+        Some([&[9, station.0, kind, r.from(0, 1), 2][..], &trains].concat())
+    }
+
     fn relate(&self, r: &mut Random) -> Option<Vec<u32>> {
+        if r.one_in(3) {
+            if let Some(numbers) = self.relate_on_request(r) {
+                return Some(numbers);
+            }
+        }
         let station = self.station(r);
         let mut trains: Vec<u32> = self.timetable.visits_at(station).iter().map(|(train, _)| train.0).collect();
         trains.extend([self.train(r), self.train(r)]);
@@ -246,7 +338,8 @@ impl Dispatcher<'_> {
 
     /// Any values within the ranges, of any kind but relations.
     fn anything(&self, r: &mut Random) -> Vec<u32> {
-        let plan = |r: &mut Random| [r.from(1, 16), r.from(1, 9999), r.from(1, 8), r.from(0, 2879), r.from(0, 2879)];
+        let place = |r: &mut Random| [r.from(1, 16), r.from(1, 9999), r.from(1, 8), mark(r)];
+        let plan = |r: &mut Random| [&place(r)[..], &[r.from(0, 2879), r.from(0, 2879)]].concat();
         let kind = [1, 2, 3, 4, 5, 6, 7, 8, 11][r.below(9)];
         let mut numbers = vec![kind];
         match kind {

@@ -10,6 +10,7 @@ mod model;
 mod orders;
 mod random;
 mod rechecks;
+mod requests;
 mod sheets;
 mod suites;
 mod turns;
@@ -27,6 +28,7 @@ fn main() {
     let began = Instant::now();
     let mut report = Report::default();
     suites::fullest(&mut report, &mut Random::new(0));
+    requests::row(&mut report);
     for seed in first..first + railways {
         report.place = format!("railway {seed}");
         let mut r = Random::new(seed);
@@ -38,6 +40,7 @@ fn main() {
         suites::damaged_files(&mut report, &mut r, &railway);
         suites::crowded(&mut report, &mut r, &railway);
         rechecks::rechecked(&mut report, &mut r, &railway);
+        requests::requested(&mut report, &mut r, &railway);
         turns::turned(&mut report, &mut r, &railway);
         orders::reordered(&mut report, &mut r, &railway);
     }

@@ -2,10 +2,10 @@
 
 use crate::files::{edit_of, edits_of, network_of, timetable_of};
 use crate::sheets::{divided, encode, good, in_area, joined, part, whole};
-use reference::edits::Edit;
+use reference::edits::{Edit, Form};
 use reference::findings::{self, Finding};
 use reference::machine::{self, UNKNOWN};
-use reference::network::{self, Form, Network};
+use reference::network::{self, Network};
 use reference::number::FileRefusal;
 use reference::projection;
 use reference::railway::{Area, Station, Timetable, Train, LAST_MINUTE};
@@ -53,7 +53,7 @@ pub fn network(file: &[u8]) -> Reply {
 pub fn turn(form: u8, file: &[u8], out: &mut [u8]) -> Reply {
     let mut run = || {
         unless(form == 1, 3)?;
-        written(&placed(NETWORK, network::turn(file, Form::OneTime))?, out)
+        written(&placed(NETWORK, network::turn(file, network::Form::OneTime))?, out)
     };
     either(run())
 }
@@ -145,11 +145,11 @@ fn written<T: Copy>(numbers: &[T], out: &mut [T]) -> Result<Reply, Reply> {
     Ok(sized(numbers.len()))
 }
 
-pub fn run(network: &[u8], edits: &[u8], division: &mut [u8], answers: &mut [u8]) -> Reply {
+pub fn run(form: Form, network: &[u8], edits: &[u8], division: &mut [u8], answers: &mut [u8]) -> Reply {
     let mut run = || {
         unless(division.len() == DIVISION, 5)?;
         let network = placed(NETWORK, network_of(network))?;
-        let edits = placed(OTHER, edits_of(edits))?;
+        let edits = placed(OTHER, edits_of(edits, form))?;
         let mut later = division.to_vec();
         let each: Vec<u8> = edits
             .iter()
@@ -280,11 +280,11 @@ pub fn recheck_area(network: &[u8], sheet: &[u8], edit: &[u8], area: u8, list: &
     either(run())
 }
 
-pub fn read(network: &[u8], timetable: &[u8], sheet: &mut [u8]) -> Reply {
+pub fn read(form: Form, network: &[u8], timetable: &[u8], sheet: &mut [u8]) -> Reply {
     let mut run = || {
         unless(sheet.len() == SHEET, 5)?;
         let network = placed(NETWORK, network_of(network))?;
-        sheet.copy_from_slice(&whole(&placed(OTHER, timetable_of(&network, timetable))?));
+        sheet.copy_from_slice(&whole(&placed(OTHER, timetable_of(&network, timetable, form))?));
         Ok(sized(timetable.len()))
     };
     either(run())

@@ -90,7 +90,10 @@ fn seen(report: &mut Report, room: &Room, network: &Network, edit: &[u8]) {
     let beside = |four: &[u16]| !named(four[0]) && (7..=10).contains(&four[1]);
     let stale = |four: &[u16]| stale(network, &read, &[four[0], four[1], four[2], four[3]].map(u32::from));
     let fours = || room.whole.chunks(4);
-    report.meets("a finding redone at a joined station", stations.is_some() && fours().any(|four| beside(four) && stale(four)));
+    report.meets(
+        "a finding redone at a joined station",
+        stations.is_some() && fours().any(|four| beside(four) && stale(four)),
+    );
     report.meets("a finding of rules 7 to 10 kept elsewhere", fours().any(|four| beside(four) && !stale(four)));
     let kept = |four: &[u16]| !stale(four) && four[1] == 11;
     report.meets("a finding of rule 11 kept", fours().any(kept));

@@ -1,8 +1,10 @@
 //! What is tried on each railway.
 
 use crate::calls::Report;
-use crate::drafts::{self, closures_at, damaged, displaced, earlier, misclosed, Dispatcher};
-use crate::files::{bytes_of, edit_of, network_of};
+use crate::drafts::{
+    self, closures_at, damaged, displaced, earlier, early_edit, early_timetable, misclosed, Dispatcher,
+};
+use crate::files::{bytes_of, edit_of, network_of, numbers_in};
 use crate::orders::{shared, whole_list};
 use crate::random::Random;
 use crate::sheets::{divided, good, in_area, part, whole};
@@ -25,6 +27,11 @@ pub struct Railway {
 
 pub fn list_of(edits: &[Vec<u8>]) -> Vec<u8> {
     [bytes_of(&[edits.len() as u32]), edits.concat()].concat()
+}
+
+/// The same in the earlier form, without marks.
+pub fn early_list(edits: &[Vec<u8>]) -> Vec<u8> {
+    list_of(&edits.iter().map(|edit| bytes_of(&early_edit(&numbers_in(edit)))).collect::<Vec<_>>())
 }
 
 /// Edits one by one, on a division and on a sheet, with the tally; then as one list.
@@ -100,6 +107,7 @@ pub fn lengths(report: &mut Report, r: &mut Random, railway: &Railway) {
     let Railway { file, sheet, division, edits, .. } = railway;
     let edit = r.pick(edits).unwrap_or(vec![11, 1]);
     let list = list_of(&edits[..edits.len().min(20)]);
+    let early = early_list(&edits[..edits.len().min(20)]);
     let resized = |bytes: &[u8], length: usize| [bytes, &[0; DIVISION + 1][..]].concat()[..length].to_vec();
     for length in [0, 1, SHEET - 1, SHEET + 1, DIVISION - 1, DIVISION, DIVISION + 1] {
         let other = resized(sheet, length);
@@ -111,6 +119,7 @@ pub fn lengths(report: &mut Report, r: &mut Random, railway: &Railway) {
         report.pair_findings(file, [&other, sheet], [1, r.from(1, 2) as u8], &mut [7; 8]);
         report.pair_findings(file, [sheet, &other], [1, r.from(1, 2) as u8], &mut [7; 8]);
         report.read(file, &[0, 0], &mut other.clone());
+        report.read_early(file, &[0, 0], &mut other.clone());
         report.write(file, &other, &mut [7; 8]);
         report.project(file, &other, (r.from(0, 1) as u8, 1, 1), &mut [7; 8]);
     }
@@ -118,18 +127,20 @@ pub fn lengths(report: &mut Report, r: &mut Random, railway: &Railway) {
         let other = resized(division, length);
         report.edit(file, &edit, &mut other.clone());
         report.run(file, &list, &mut other.clone(), &mut [7; MOST_ANSWERS]);
+        report.run_early(file, &early, &mut other.clone(), &mut [7; MOST_ANSWERS]);
         report.divide(file, sheet, &mut other.clone());
         report.merge(file, &other, &mut sheet.clone());
     }
-    room(report, r, railway, &list);
+    room(report, r, railway, [&list, &early]);
 }
 
 /// Outputs with room for less, for just enough and for more.
-fn room(report: &mut Report, r: &mut Random, railway: &Railway, list: &[u8]) {
+fn room(report: &mut Report, r: &mut Random, railway: &Railway, lists: [&[u8]; 2]) {
     let Railway { file, sheet, division, timetable, edits, .. } = railway;
     let around = |needed: usize| [0, 1, needed / 2, needed.saturating_sub(1), needed, needed + 1, needed + 50];
     for length in around(2 * edits.len().min(20)) {
-        report.run(file, list, &mut vec![0; DIVISION], &mut vec![7; length]);
+        report.run(file, lists[0], &mut vec![0; DIVISION], &mut vec![7; length]);
+        report.run_early(file, lists[1], &mut vec![0; DIVISION], &mut vec![7; length]);
     }
     let needed = report.findings(file, sheet, &mut []).length;
     for length in around(needed) {
@@ -186,13 +197,15 @@ fn spoil(r: &mut Random, bytes: &mut [u8]) {
     let pages = bytes.len() / 512;
     let filled: Vec<usize> = (0..pages).filter(|page| bytes[512 * page] > 0).collect();
     let page = r.pick(&filled).unwrap_or(r.below(pages));
-    match r.from(1, 7) {
+    match r.from(1, 8) {
         1 => bytes[r.below(pages) * 512 + r.below(512)] = r.byte(),
         2 => bytes[512 * page + r.below(2)] = r.from(0, 26) as u8,
         3 => bytes[512 * page + 32 + r.below(64)] ^= 1 << r.below(8),
         4 => bytes[512 * page + 416 + r.below(32)] ^= 1 << r.below(8),
         5 => (0..16).for_each(|at| bytes.swap(512 * page + 32 + at, 512 * page + 48 + at)),
         6 => bytes.copy_within(512 * page..512 * page + 512, 512 * r.below(pages)),
+        // A stop mark, or the byte behind it.
+        7 => bytes[512 * page + 32 + 16 * r.below(3) + 14 + r.below(2)] = r.from(0, 2) as u8,
         _ => bytes[512 * page + 2 + r.below(30)] = 1,
     }
 }
@@ -238,7 +251,10 @@ pub fn damaged_files(report: &mut Report, r: &mut Random, railway: &Railway) {
     let Railway { numbers, file, sheet, division, edits, timetable, .. } = railway;
     let edit = r.pick(edits).unwrap_or(vec![11, 1]);
     let list = list_of(&edits[..edits.len().min(10)]);
+    let early = early_list(&edits[..edits.len().min(10)]);
     let own = timetable::write(timetable);
+    let own_numbers = numbers_in(&own);
+    let early_numbers = early_timetable(&own_numbers);
     for _ in 0..12 {
         let other = match r.from(1, 3) {
             1 => damaged(r, file),
@@ -254,13 +270,18 @@ pub fn damaged_files(report: &mut Report, r: &mut Random, railway: &Railway) {
         report.raise(&edit, 0, 0, &mut [1; 4]);
         let room = r.from(0, 40) as usize;
         report.run(file, &damaged(r, &list), &mut division[short..].to_vec(), &mut vec![7; room]);
+        report.run_early(file, &damaged(r, &early), &mut division[short..].to_vec(), &mut vec![7; room]);
         report.read(file, &damaged(r, &own), &mut vec![7; SHEET - short]);
-        report.read(file, &displaced(r, &numbers_in(&own)), &mut vec![7; SHEET]);
+        report.read(file, &displaced(r, &own_numbers), &mut vec![7; SHEET]);
+        report.read_early(file, &damaged(r, &bytes_of(&early_numbers)), &mut vec![7; SHEET - short]);
+        report.read_early(file, &displaced(r, &early_numbers), &mut vec![7; SHEET]);
     }
     report.read(&[], &[], &mut sheet.clone());
+    report.read_early(file, &[], &mut sheet.clone());
     report.network(&[]);
     report.names(file, &[]);
     report.run(file, &[], &mut division.clone(), &mut []);
+    report.run_early(file, &[], &mut division.clone(), &mut []);
     report.raise(&[], 0, 0, &mut [0; 4]);
 }
 
@@ -273,18 +294,14 @@ pub fn crowded(report: &mut Report, r: &mut Random, railway: &Railway) {
         let mut numbers = vec![visits];
         for train in 1..=visits {
             let track = if r.one_in(60) { 8 } else { 1 };
-            numbers.extend([station, 70 * train, track, r.from(90, 200), r.from(0, 1), r.from(90, 200), 0, 0, 0]);
+            numbers.extend([station, 70 * train, track, r.from(0, 1)]);
+            numbers.extend([r.from(90, 200), r.from(0, 1), r.from(90, 200), 0, 0, 0]);
         }
         numbers.push(relations);
         (1..=relations).for_each(|interval| numbers.extend([station, 1, interval, 2, 70, 140]));
         report.read(&railway.file, &bytes_of(&numbers), &mut vec![7; SHEET]);
+        report.read_early(&railway.file, &bytes_of(&early_timetable(&numbers)), &mut vec![7; SHEET]);
     }
-}
-
-/// The numbers of a good file.
-fn numbers_in(file: &[u8]) -> Vec<u32> {
-    let mut reader = reference::number::Reader::new(file);
-    std::iter::from_fn(|| reader.any().ok().map(|number| number.value)).collect()
 }
 
 /// A network that may be refused, in every call; it may come with another fault.
@@ -310,12 +327,15 @@ fn network_faults(report: &mut Report, r: &mut Random, railway: &Railway, networ
     report.edit(network, &edit, &mut division.clone());
     report.edit_sheet(network, &edit, &mut sheet.clone());
     report.run(network, &[&[1], &edit[..]].concat(), &mut division.clone(), &mut [7; 4]);
+    report.run_early(network, &[&[1], &edit[..]].concat(), &mut division.clone(), &mut [7; 4]);
     report.divide(network, &sheet, &mut vec![7; DIVISION]);
     report.merge(network, &division, &mut vec![7; SHEET]);
     report.findings(network, &sheet, &mut vec![7; 4000]);
     report.area_findings(network, &own, one, &mut [7; 400]);
     report.pair_findings(network, [&own, &far], [1, one], &mut [7; 400]);
-    report.read(network, &damaged(r, &timetable::write(&railway.timetable)), &mut sheet.clone());
+    let own = timetable::write(&railway.timetable);
+    report.read(network, &damaged(r, &own), &mut sheet.clone());
+    report.read_early(network, &damaged(r, &own), &mut sheet.clone());
     report.write(network, &sheet, &mut [7; MOST_TIMETABLE]);
     report.project(network, &sheet, (r.from(0, 17) as u8, r.from(0, 40) as u16, 100), &mut [7; MOST_ROWS]);
 }
@@ -338,7 +358,7 @@ fn full_timetable(r: &mut Random) -> Vec<u8> {
         let (before, next) = ((station + 14) % 16 + 1, station % 16 + 1);
         for train in 9976..=9999 {
             let arrival = r.from(2000, 2050);
-            numbers.extend([station, train, r.from(1, 8), arrival, 0, arrival + r.from(0, 9), 0]);
+            numbers.extend([station, train, r.from(1, 8), r.from(0, 1), arrival, 0, arrival + r.from(0, 9), 0]);
             numbers.extend([before, before, next, station, r.from(128, 240)]);
         }
     }
@@ -383,7 +403,7 @@ pub fn fullest(report: &mut Report, r: &mut Random) {
     assert_eq!(whole_list(report, &network, &sheet), shared(report, &network, &division), "{}", report.place);
     report.project(&network, &sheet, (16, 9999, 2879), &mut [7; MOST_ROWS]);
     long_rechecks(report, &network, &sheet);
-    for edit in [&[1, 3, 7, 1, 100, 101][..], &[9, 3, 2, 5, 2, 7, 8], &[9, 3, 1, 5, 2, 7, 8], &[11, 9999]] {
+    for edit in [&[1, 3, 7, 1, 0, 100, 101][..], &[9, 3, 2, 5, 2, 7, 8], &[9, 3, 1, 5, 2, 7, 8], &[11, 9999]] {
         report.edit(&network, &bytes_of(edit), &mut division.clone());
         report.edit_sheet(&network, &bytes_of(edit), &mut sheet.clone());
     }

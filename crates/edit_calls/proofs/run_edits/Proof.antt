@@ -18,17 +18,17 @@ use Rattle.edit_calls.proofs.run_edits.Statement.{statement}
 use Rattle.edit_calls.proofs.run_edits.Tie as tie
 
 abbrev Inv-loop : tie.InvT-loop
-Inv-loop division₀ n file at count tested out₀ cursor₀ i₀ division out cursor i =
+Inv-loop division₀ n file at form count tested out₀ cursor₀ i₀ division out cursor i =
     (i ≤ count)
     × (length division ≡ length division₀)
     × (length out ≡ length out₀)
-    × (can-be-read (count - i) file (cursor .at) ≡ true)
-    × (division-of n (edits-at (count - i) file (cursor .at)) division ≡ division-of n (edits-at count file at) division₀)
-    × (put (2 * i) (answers-of n (edits-at (count - i) file (cursor .at)) division) out ≡ put 0 (answers-of n (edits-at count file at) division₀) out₀)
+    × (can-be-read form (count - i) file (cursor .at) ≡ true)
+    × (division-of n (edits-at form (count - i) file (cursor .at)) division ≡ division-of n (edits-at form count file at) division₀)
+    × (put (2 * i) (answers-of n (edits-at form (count - i) file (cursor .at)) division) out ≡ put 0 (answers-of n (edits-at form count file at) division₀) out₀)
     × (tested ≡ true → known-good n division ≡ true)
 
 abbrev μ-loop : tie.MeasureT-loop
-μ-loop division₀ n file at count tested out₀ cursor₀ i₀ division out cursor i = count - i
+μ-loop division₀ n file at form count tested out₀ cursor₀ i₀ division out cursor i = count - i
 
 loop-holds : tie.Need-loop-holds Inv-loop μ-loop
 loop-holds c =
@@ -57,7 +57,7 @@ returns c =
     let h = c .before .before .before .before .loop-test .taken in
     let x = sym (c .before .before .before .next-edit .ensures) ∙ ap next-outcome (c .before .next .given .1) in
     let step : s .count - l .i ≡ suc (s .count - (l .i + 1)) = omega (arith, h) in
-    absurd (not-stopped (s .count - (l .i + 1)) (now (s .file)) (l .cursor .at) _ _ x (rw step at (l .inv .3)))
+    absurd (not-stopped (s .form) (s .count - (l .i + 1)) (now (s .file)) (l .cursor .at) _ _ x (rw step at (l .inv .3)))
 
 enum-known-next-2 : tie.Need-enum-known-next-2 Inv-loop μ-loop
 enum-known-next-2 c = search needs
@@ -93,9 +93,9 @@ loop-again c =
       omega (arith, h),
       e .kept .0 ∙ l .inv .1,
       a .kept .0 ∙ l .inv .2,
-      rest-read (s .count - (l .i + 1)) (now (s .file)) (l .cursor .at) _ _ x t,
-      rw (e .ensures .1) (sym (turn-division (s .n) (now (s .file)) (l .cursor .at) (s .count - (l .i + 1)) _ _ x t (l .division) (l .out) (l .i)) ∙ (rw step at (l .inv .4))),
-      rw (a .ensures, e .ensures .1, e .ensures .0) (sym (turn-answers (s .n) (now (s .file)) (l .cursor .at) (s .count - (l .i + 1)) _ _ x t (l .division) (l .out) (l .i)) ∙ (rw step at (l .inv .5))),
+      rest-read (s .form) (s .count - (l .i + 1)) (now (s .file)) (l .cursor .at) _ _ x t,
+      rw (e .ensures .1) (sym (turn-division (s .form) (s .n) (now (s .file)) (l .cursor .at) (s .count - (l .i + 1)) _ _ x t (l .division) (l .out) (l .i)) ∙ (rw step at (l .inv .4))),
+      rw (a .ensures, e .ensures .1, e .ensures .0) (sym (turn-answers (s .form) (s .n) (now (s .file)) (l .cursor .at) (s .count - (l .i + 1)) _ _ x t (l .division) (l .out) (l .i)) ∙ (rw step at (l .inv .5))),
       e .ensures .2,
     )
 
@@ -111,7 +111,7 @@ returns-2 c =
     let s = c .before .before .before .before .before .args in
     let l = c .before .loop in
     let none : s .count - l .i ≡ 0 = omega (arith, c .loop-test .left) in
-    let last : edits-at (s .count - l .i) (now (s .file)) (l .cursor .at) ≡ [] = ap (λ (j : ℕ). edits-at j (now (s .file)) (l .cursor .at)) none ∙ none-taken (now (s .file)) (l .cursor .at) in (
+    let last : edits-at (s .form) (s .count - l .i) (now (s .file)) (l .cursor .at) ≡ [] = ap (λ (j : ℕ). edits-at (s .form) j (now (s .file)) (l .cursor .at)) none ∙ none-taken (s .form) (now (s .file)) (l .cursor .at) in (
       sym (division-none (s .n) (l .division)) ∙ ap (λ (es : List Edit). division-of (s .n) es (l .division)) (sym last) ∙ l .inv .4,
       ap (λ (as′ : List ℕ). put (2 * l .i) as′ (l .out)) (sym (answers-none (s .n) (l .division)) ∙ ap (λ (es : List Edit). answers-of (s .n) es (l .division)) (sym last)) ∙ l .inv .5,
     )

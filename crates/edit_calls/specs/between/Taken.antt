@@ -5,6 +5,7 @@ use mathlib.Core.Path.{_≡_}
 use mathlib.Core.Bool.{Bool, true, false}
 use mathlib.Core.List.{List, []}
 use lib.ListN.{length}
+use Rattle.timetable.specs.declared.FileForm.{FileForm}
 use Rattle.timetable.specs.Formats.{Outcome, accepted, refused, read}
 use Rattle.timetable.specs.EditsFile.{edits-on}
 use Rattle.edit_calls.specs.Types.{Edit}
@@ -18,15 +19,15 @@ taken (accepted es next) = es
 taken (refused k p) = []
 
 -- k edits from the place on
-unfoldable pub edits-at : ℕ → List ℕ → ℕ → List Edit
-edits-at k file at = taken (read (edits-on k) file at)
+unfoldable pub edits-at : FileForm → ℕ → List ℕ → ℕ → List Edit
+edits-at form k file at = taken (read (edits-on form k) file at)
 
-unfoldable pub can-be-read : ℕ → List ℕ → ℕ → Bool
-can-be-read k file at = is-accepted (read (edits-on k) file at)
+unfoldable pub can-be-read : FileForm → ℕ → List ℕ → ℕ → Bool
+can-be-read form k file at = is-accepted (read (edits-on form k) file at)
 
 -- the loop may run: so many edits can be read, and there is room for their answers
-abbrev pub CanRun : ℕ → List ℕ → ℕ → List ℕ → Type 0
-CanRun k file at out = (2 * k ≤ length out) × (k ≤ 1000) × (can-be-read k file at ≡ true)
+abbrev pub CanRun : FileForm → ℕ → List ℕ → ℕ → List ℕ → Type 0
+CanRun form k file at out = (2 * k ≤ length out) × (k ≤ 1000) × (can-be-read form k file at ≡ true)
 
 -- The key ring of this module: `unfolding opened` opens every definition above.
 unfoldable pub opened : Unit {0}

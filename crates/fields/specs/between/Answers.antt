@@ -29,8 +29,8 @@ unfoldable pub padded : {A : Type 0} → ℕ → A → List A → List A
 padded k d xs = xs ++ replicate (k - length xs) d
 
 unfoldable pub row-read : Outcome (List ℕ) → RowRead
-row-read (accepted ns next) = record { accepted = true; refusal = 0; place = next; values = padded 12 0 ns }
-row-read (refused k p) = record { accepted = false; refusal = k; place = p; values = padded 12 0 [] }
+row-read (accepted ns next) = record { accepted = true; refusal = 0; place = next; values = padded 13 0 ns }
+row-read (refused k p) = record { accepted = false; refusal = k; place = p; values = padded 13 0 [] }
 
 -- the numbers of a row that are there
 unfoldable pub in-use : Numbers → List ℕ
@@ -38,7 +38,7 @@ in-use f = drop (f .from) (take (f .to) (f .values))
 
 -- the row that holds these numbers, zeros behind them
 unfoldable pub row-of : List ℕ → Numbers
-row-of ns = record { from = 0; to = length ns; values = padded 12 0 ns }
+row-of ns = record { from = 0; to = length ns; values = padded 13 0 ns }
 
 -- The key ring of this module: `unfolding opened` opens every definition above.
 unfoldable pub opened : Unit {0}

@@ -6,6 +6,7 @@ use mathlib.Core.List.{List, [], _∷_, _++_, flatMap}
 use lib.ListN.{length, getD}
 use Rattle.base.specs.Runs.{answers}
 use Rattle.timetable.specs.Formats.{Outcome, accepted, refused}
+use Rattle.timetable.specs.FileForms.{newest-form}
 use Rattle.timetable.specs.EditsFile.{read-edits}
 use Rattle.timetable.specs.Machine.{Timetable}
 use Rattle.timetable.specs.Count.{raise}
@@ -58,9 +59,9 @@ shift-most = 68 * 1000 + (26 * findings-most + 136)
 abbrev pub EditsFile : List ℕ → ℕ → ℕ → Type 0
 EditsFile file first count =
     (count ≤ 1000)
-    × (can-be-read count file first ≡ true)
-    × (length (edits-at count file first) ≡ count)
-    × (read-edits file ≡ accepted (record { place = first; entry = edits-at count file first }) (length file))
+    × (can-be-read newest-form count file first ≡ true)
+    × (length (edits-at newest-form count file first) ≡ count)
+    × (read-edits file ≡ accepted (record { place = first; entry = edits-at newest-form count file first }) (length file))
 
 -- The key ring of this module: `unfolding opened` opens every definition above.
 unfoldable pub opened : Unit {0}

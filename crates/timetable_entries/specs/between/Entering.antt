@@ -13,6 +13,7 @@ use Rattle.page.specs.between.Changes.{table-in, page-add-visit, page-add-relat
 use Rattle.sheet.specs.Sheets.{decode-sheet}
 use Rattle.sheet.specs.between.Frames.{change-frame}
 use Rattle.timetable_entries.specs.Types.{Station, Visit, Relation, StationRelation, Network}
+use Rattle.timetable.specs.declared.FileForm.{FileForm}
 use Rattle.timetable.specs.declared.Fault.{Fault}
 use Rattle.timetable_entries.specs.declared.read.EntriesRead.{EntriesRead}
 
@@ -76,8 +77,8 @@ entries-sheet step g (refused k p) = []
 
 -- the file's two parts, each a count and its entries
 
-unfoldable pub visit-part : Format (List (Placed StationVisit))
-visit-part = field 0 384 visits-format
+unfoldable pub visit-part : FileForm → Format (List (Placed StationVisit))
+visit-part form = field 0 384 (visits-format form)
 
 unfoldable pub relation-part : Format (List (Placed StationRelation))
 relation-part = field 0 96 relations-format

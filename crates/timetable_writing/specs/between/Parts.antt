@@ -7,14 +7,15 @@ use Rattle.network.specs.Networks.{station-rows}
 use Rattle.timetable.specs.Tables.{Entry, Table}
 use Rattle.timetable.specs.Machine.{Timetable}
 use Rattle.timetable.specs.EditsFile.{station-relation-numbers}
+use Rattle.timetable.specs.FileForms.{newest-form}
 use Rattle.timetable.specs.TimetableFile.{visit-numbers}
 use Rattle.timetable_writing.specs.Types.{Station, Relation, Network}
 
 -- an entry
 
--- "s, t, track, arrival, status, departure, status, in-link, out-link"
+-- "s, t, track, arrival, status, departure, status, in-link, out-link", the mark after the track
 unfoldable pub entry-numbers : Station → Entry → List ℕ
-entry-numbers s e = visit-numbers (record { station = s; train = e .train; visit = e .visit })
+entry-numbers s e = visit-numbers newest-form (record { station = s; train = e .train; visit = e .visit })
 
 -- "each with its station before it"
 unfoldable pub relation-row : Station → Relation → List ℕ

@@ -1,9 +1,14 @@
 -- The outcome that each answer of the readers of a visit tells; and the parts of an entry. Assumes nothing.
 use Prim.Native.Nat.{ℕ}
-use mathlib.Core.List.{List, [], _∷_}
+use mathlib.Core.Bool.{Bool, false}
+use mathlib.Core.List.{List, [], _∷_, _++_}
+use lib.Dec.{eqb}
+use lib.ListN.{getD}
 use Rattle.railway.specs.Ranges.{last-minute}
 use Rattle.timetable.specs.Formats.{Format, done, field, Outcome, accepted, refused, Range, _to_, row, _and-then_}
 use Rattle.timetable.specs.TimetableFile.{StationVisit, in-link-entry, out-link-entry, station-visit-of}
+use Rattle.timetable.specs.declared.FileForm.{FileForm}
+use Rattle.timetable.specs.FileForms.{mark-range, with-mark}
 use Rattle.visit_files.specs.Types.{InLink, OutLink, Visit}
 use Rattle.visit_files.specs.declared.visit.InRead.{InRead}
 use Rattle.visit_files.specs.declared.visit.OutRead.{OutRead}
@@ -29,18 +34,29 @@ visit-outcome (VisitRead.Refused k p) = refused k p
 unfoldable pub out-fields : ℕ → Format OutLink
 out-fields s = field 1 32 (λ l. field 1 240 (λ r. done (OutLink.To (record { station = record { 0 = s }; line = record { 0 = l }; run = r }))))
 
--- "track, arrival, status, departure, status"
-unfoldable pub value-ranges : List Range
-value-ranges = 1 to 8 ∷ 0 to last-minute ∷ 0 to 1 ∷ 0 to last-minute ∷ 0 to 1 ∷ []
+-- "track, arrival, status, departure, status", the mark after the track where the form has it
+unfoldable pub value-ranges : FileForm → List Range
+value-ranges form = 1 to 8 ∷ (mark-range form ++ (0 to last-minute ∷ 0 to 1 ∷ 0 to last-minute ∷ 0 to 1 ∷ []))
 
-unfoldable pub visit-in : List ℕ → InLink → OutLink → Visit
-visit-in ns i o = station-visit-of (0 ∷ 0 ∷ ns) i o .visit
+-- the mark among these numbers, and where the arrival stands
+unfoldable pub mark-in : FileForm → List ℕ → Bool
+mark-in FileForm.Earlier ns = false
+mark-in FileForm.Newest ns = eqb (getD ns 1 0) 1
+
+unfoldable pub arrival-at : FileForm → ℕ
+arrival-at FileForm.Earlier = 1
+arrival-at FileForm.Newest = 2
+
+unfoldable pub visit-in : FileForm → List ℕ → InLink → OutLink → Visit
+visit-in form ns i o = station-visit-of (with-mark form (0 ∷ 0 ∷ ns)) i o .visit
 
 -- a visit entry behind its station and train
-unfoldable pub visit-values : ℕ → ℕ → Format StationVisit
-visit-values s t = row value-ranges [] and-then (λ ns. in-link-entry and-then (λ i. out-link-entry and-then (λ o. done (station-visit-of (s ∷ t ∷ ns) i o))))
+unfoldable pub visit-values : FileForm → ℕ → ℕ → Format StationVisit
+visit-values form s t =
+    row (value-ranges form) [] and-then (λ ns.
+    in-link-entry and-then (λ i. out-link-entry and-then (λ o. done (station-visit-of (with-mark form (s ∷ t ∷ ns)) i o))))
 
 -- The key ring of this module: `unfolding opened` opens every definition above.
 unfoldable pub opened : Unit {0}
-unfolding in-outcome out-outcome visit-outcome out-fields value-ranges visit-in visit-values
+unfolding in-outcome out-outcome visit-outcome out-fields value-ranges mark-in arrival-at visit-in visit-values
 opened = tt

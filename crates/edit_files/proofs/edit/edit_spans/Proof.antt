@@ -11,56 +11,56 @@ plan-spans-requires c κs = search needs
 
 returns : tie.Need-returns
 unfolding edit-ranges deletion-ranges report-ranges
-returns c = c .plan-spans .ensures ∙ sym (ap edit-ranges (c .before .if1 .taken))
+returns c = c .plan-spans .ensures ∙ sym (ap (edit-ranges (c .before .before .args .form)) (c .before .if1 .taken))
 
 extension-spans-requires : tie.Need-extension-spans-requires
 extension-spans-requires c κs = search needs
 
 returns-2 : tie.Need-returns-2
 unfolding edit-ranges deletion-ranges report-ranges
-returns-2 c = c .extension-spans .ensures ∙ sym (ap edit-ranges (c .before .if2 .taken))
+returns-2 c = c .extension-spans .ensures ∙ sym (ap (edit-ranges (c .before .before .before .args .form)) (c .before .if2 .taken))
 
 extension-spans-requires-2 : tie.Need-extension-spans-requires-2
 extension-spans-requires-2 c κs = search needs
 
 returns-3 : tie.Need-returns-3
 unfolding edit-ranges deletion-ranges report-ranges
-returns-3 c = c .extension-spans2 .ensures ∙ sym (ap edit-ranges (c .before .if3 .taken))
+returns-3 c = c .extension-spans2 .ensures ∙ sym (ap (edit-ranges (c .before .before .before .before .args .form)) (c .before .if3 .taken))
 
 three-spans-requires : tie.Need-three-spans-requires
 three-spans-requires c κs = search needs
 
 returns-4 : tie.Need-returns-4
 unfolding edit-ranges deletion-ranges report-ranges
-returns-4 c = c .three-spans .ensures ∙ sym (ap edit-ranges (c .before .if4 .taken))
+returns-4 c = c .three-spans .ensures ∙ sym (ap (edit-ranges (c .before .before .before .before .before .args .form)) (c .before .if4 .taken))
 
 three-spans-requires-2 : tie.Need-three-spans-requires-2
 three-spans-requires-2 c κs = search needs
 
 returns-5 : tie.Need-returns-5
 unfolding edit-ranges deletion-ranges report-ranges
-returns-5 c = c .three-spans2 .ensures ∙ sym (ap edit-ranges (c .before .if5 .taken))
+returns-5 c = c .three-spans2 .ensures ∙ sym (ap (edit-ranges (c .before .before .before .before .before .before .args .form)) (c .before .if5 .taken))
 
 plan-spans-requires-2 : tie.Need-plan-spans-requires-2
 plan-spans-requires-2 c κs = search needs
 
 returns-6 : tie.Need-returns-6
 unfolding edit-ranges deletion-ranges report-ranges
-returns-6 c = c .plan-spans2 .ensures ∙ sym (ap edit-ranges (c .before .if6 .taken))
+returns-6 c = c .plan-spans2 .ensures ∙ sym (ap (edit-ranges (c .before .before .before .before .before .before .before .args .form)) (c .before .if6 .taken))
 
 three-spans-requires-3 : tie.Need-three-spans-requires-3
 three-spans-requires-3 c κs = search needs
 
 returns-7 : tie.Need-returns-7
 unfolding edit-ranges deletion-ranges report-ranges
-returns-7 c = c .three-spans3 .ensures ∙ sym (ap edit-ranges (c .before .if7 .taken))
+returns-7 c = c .three-spans3 .ensures ∙ sym (ap (edit-ranges (c .before .before .before .before .before .before .before .before .args .form)) (c .before .if7 .taken))
 
 three-spans-requires-4 : tie.Need-three-spans-requires-4
 three-spans-requires-4 c κs = search needs
 
 returns-8 : tie.Need-returns-8
 unfolding edit-ranges deletion-ranges report-ranges
-returns-8 c = c .three-spans4 .ensures ∙ sym (ap edit-ranges (c .before .if8 .taken))
+returns-8 c = c .three-spans4 .ensures ∙ sym (ap (edit-ranges (c .before .before .before .before .before .before .before .before .before .args .form)) (c .before .if8 .taken))
 
 train-spans-requires : tie.Need-train-spans-requires
 train-spans-requires c κs = search needs

@@ -28,7 +28,7 @@ returns c =
     let s = c .before .before .before .before .before .args in
     let g = c .before .kind .given in
     let o = sym (c .before .before .before .field .ensures) ∙ ap field-outcome (g .1) in
-    sym (field-stop 1 11 edit-fields (now (s .file)) (s .at) (g .0 .0) (g .0 .1 .0) o)
+    sym (field-stop 1 11 (edit-fields (s .form)) (now (s .file)) (s .at) (g .0 .0) (g .0 .1 .0) o)
 
 returns-2 : tie.Need-returns-2
 unfolding edit-entry field-outcome
@@ -36,7 +36,7 @@ returns-2 c =
     let s = c .before .before .before .before .before .before .args in
     let g = c .before .before .kind2 .given in
     let o = sym (c .before .before .before .before .field .ensures) ∙ ap field-outcome (g .1) in
-    c .edit-of-kind .ensures ∙ sym (field-on 1 11 edit-fields (now (s .file)) (s .at) (g .0 .0) (g .0 .1 .0) o)
+    c .edit-of-kind .ensures ∙ sym (field-on 1 11 (edit-fields (s .form)) (now (s .file)) (s .at) (g .0 .0) (g .0 .1 .0) o)
 
 pub read-edit-spec : {M : Type 1} → statement M
 read-edit-spec =

@@ -32,7 +32,7 @@ returns c =
     let s = c .before .before .before .before .before .before .args in
     let g = c .before .before .count .given in
     let o = sym (c .before .before .before .before .field .ensures) ∙ ap field-outcome (g .1) in
-    c .refused-part .ensures ∙ sym (ap edits-read (field-stop 0 1000 (λ k. placed (edits-on k)) (now (s .file)) (s .at) (g .0 .0) (g .0 .1 .0) o))
+    c .refused-part .ensures ∙ sym (ap edits-read (field-stop 0 1000 (λ k. placed (edits-on (s .form) k)) (now (s .file)) (s .at) (g .0 .0) (g .0 .1 .0) o))
 
 returns-2 : tie.Need-returns-2
 unfolding edits-format field-outcome
@@ -40,7 +40,7 @@ returns-2 c =
     let s = c .before .before .before .before .before .before .args in
     let g = c .before .before .count2 .given in
     let o = sym (c .before .before .before .before .field .ensures) ∙ ap field-outcome (g .1) in
-    c .scanned-part .ensures ∙ sym (ap edits-read (field-on 0 1000 (λ k. placed (edits-on k)) (now (s .file)) (s .at) (g .0 .0) (g .0 .1 .0) o))
+    c .scanned-part .ensures ∙ sym (ap edits-read (field-on 0 1000 (λ k. placed (edits-on (s .form) k)) (now (s .file)) (s .at) (g .0 .0) (g .0 .1 .0) o))
 
 pub edits-part-spec : {M : Type 1} → statement M
 edits-part-spec =

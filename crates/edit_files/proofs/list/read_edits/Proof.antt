@@ -17,13 +17,13 @@ returns : tie.Need-returns
 returns c =
     let s = c .before .before .before .before .before .args in
     let r = c .before .before .before .edits-part in
-    c .refused-edits .ensures ∙ sym (ap edits-answer (edits-go-on (now (s .file)) (r .result) (r .ensures) (c .before .before .if1 .taken) (c .before .if2 .taken)))
+    c .refused-edits .ensures ∙ sym (ap edits-answer (edits-go-on (s .form) (now (s .file)) (r .result) (r .ensures) (c .before .before .if1 .taken) (c .before .if2 .taken)))
 
 returns-2 : tie.Need-returns-2
 returns-2 c =
     let s = c .before .before .before .before .args in
     let r = c .before .before .edits-part in
-    sym (edits-stand (now (s .file)) (r .result) (r .ensures) (c .before .if1 .taken) (c .if2 .left))
+    sym (edits-stand (s .form) (now (s .file)) (r .result) (r .ensures) (c .before .if1 .taken) (c .if2 .left))
 
 refused-edits-requires-2 : tie.Need-refused-edits-requires-2
 refused-edits-requires-2 c κs = search needs
@@ -32,7 +32,7 @@ returns-3 : tie.Need-returns-3
 returns-3 c =
     let s = c .before .before .before .before .args in
     let r = c .before .before .edits-part in
-    c .refused-edits2 .ensures ∙ sym (ap edits-answer (edits-faulty (now (s .file)) (r .result) (r .ensures) (c .before .if1 .left)))
+    c .refused-edits2 .ensures ∙ sym (ap edits-answer (edits-faulty (s .form) (now (s .file)) (r .result) (r .ensures) (c .before .if1 .left)))
 
 pub read-edits-spec : {M : Type 1} → statement M
 read-edits-spec =

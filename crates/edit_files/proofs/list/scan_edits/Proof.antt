@@ -14,10 +14,10 @@ use Rattle.edit_files.proofs.list.scan_edits.Statement.{statement}
 use Rattle.edit_files.proofs.list.scan_edits.Tie as tie
 
 abbrev Inv-loop : tie.InvT-loop
-Inv-loop file at count place₀ i₀ place i = (i ≤ count) × SoFar (left-at file count at) i (left-at file (count - i) place)
+Inv-loop file at form count place₀ i₀ place i = (i ≤ count) × SoFar (left-at form file count at) i (left-at form file (count - i) place)
 
 abbrev μ-loop : tie.MeasureT-loop
-μ-loop file at count place₀ i₀ place i = count - i
+μ-loop file at form count place₀ i₀ place i = count - i
 
 loop-holds : tie.Need-loop-holds Inv-loop μ-loop
 loop-holds c =
@@ -37,7 +37,7 @@ returns c =
     let l = c .before .before .before .before .before .loop in
     let g = c .before .found .given in
     let o = sym (c .before .before .before .read-edit .ensures) ∙ ap edit-outcome (g .1) in
-    let q = edit-stopped (now (s .file)) (s .count) (l .i) (l .place) (omega arith) (g .0 .0) (g .0 .1 .0) o in
+    let q = edit-stopped (s .form) (now (s .file)) (s .count) (l .i) (l .place) (omega arith) (g .0 .0) (g .0 .1 .0) o in
     sym (ap end-of (stop _ _ _ (l .inv .1) (g .0 .0) (g .0 .1 .0) q))
 
 enum-known-found-2 : tie.Need-enum-known-found-2 Inv-loop μ-loop
@@ -56,7 +56,7 @@ loop-again c =
     let l = c .before .before .before .before .before .loop in
     let g = c .before .found2 .given in
     let o = sym (c .before .before .before .read-edit .ensures) ∙ ap edit-outcome (g .1) in
-    let q = edit-taken (now (s .file)) (s .count) (l .i) (l .place) (omega arith) (g .0 .0) (g .0 .1 .0) o in
+    let q = edit-taken (s .form) (now (s .file)) (s .count) (l .i) (l .place) (omega arith) (g .0 .0) (g .0 .1 .0) o in
     (omega arith, turn _ _ _ (l .inv .1) (g .0 .0) _ q)
 
 returns-2 : tie.Need-returns-2 Inv-loop μ-loop
@@ -64,7 +64,7 @@ unfolding scan-outcome end-of edits-on
 returns-2 c =
     let s = c .before .before .before .args in
     let l = c .before .loop in
-    sym (ap end-of (over _ _ _ (l .inv .1) (l .place) (edits-over (now (s .file)) (s .count) (l .i) (l .place) (omega arith))))
+    sym (ap end-of (over _ _ _ (l .inv .1) (l .place) (edits-over (s .form) (now (s .file)) (s .count) (l .i) (l .place) (omega arith))))
 
 pub scan-edits-spec : {M : Type 1} → statement M
 scan-edits-spec =

@@ -28,7 +28,7 @@ returns c =
     let s = c .before .before .before .before .before .before .args in
     let g = c .before .before .found .given in
     let o = end-refused _ (g .0 .0) (g .0 .1 .0) (sym (c .before .before .before .before .scan-edits .ensures) ∙ ap scan-outcome (g .1)) in
-    c .refused-part .ensures ∙ sym (ap edits-read (placed-none (edits-on (s .count)) (now (s .file)) (s .at) (g .0 .0) (g .0 .1 .0) o))
+    c .refused-part .ensures ∙ sym (ap edits-read (placed-none (edits-on (s .form) (s .count)) (now (s .file)) (s .at) (g .0 .0) (g .0 .1 .0) o))
 
 returns-2 : tie.Need-returns-2
 unfolding edits-read scan-outcome
@@ -36,7 +36,7 @@ returns-2 c =
     let s = c .before .before .before .before .before .args in
     let g = c .before .found2 .given in
     let (es, o) = end-accepted _ (g .0 .0) (sym (c .before .before .before .scan-edits .ensures) ∙ ap scan-outcome (g .1)) in
-    sym (ap edits-read (placed-some (edits-on (s .count)) (now (s .file)) (s .at) es (g .0 .0) o) ∙ rw (edits-many (s .count) (now (s .file)) (s .at) es (g .0 .0) o))
+    sym (ap edits-read (placed-some (edits-on (s .form) (s .count)) (now (s .file)) (s .at) es (g .0 .0) o) ∙ rw (edits-many (s .form) (s .count) (now (s .file)) (s .at) es (g .0 .0) o))
 
 pub scanned-part-spec : {M : Type 1} → statement M
 scanned-part-spec =

@@ -3,6 +3,7 @@
 use mathlib.Core.Path.{ap}
 use lib.ListN.{set}
 use borrow.Author.Needs.{needs}
+use Rattle.timetable.specs.FileForms.{mark-numbers}
 use Rattle.timetable.specs.EditsFile.{plan-numbers, extension-numbers}
 use Rattle.fields.specs.declared.field.Numbers.{Numbers}
 use Rattle.fields.specs.between.Answers.{padded, row-of}
@@ -31,10 +32,10 @@ array-write-values-3 : tie.Need-array-write-values-3
 array-write-values-3 c = search needs
 
 returns : tie.Need-returns
-unfolding row-of padded plan-numbers extension-numbers
+unfolding row-of padded plan-numbers extension-numbers mark-numbers
 returns c =
     let x = c .before .before .before .before .before .args .x in
-    ap (λ (f : Numbers). record { from = 0; to = 9; values = set (set (set (f .values) 6 (x .other .0)) 7 (x .line .0)) 8 (x .run) }) (c .before .before .before .before .plan-row .ensures)
+    ap (λ (f : Numbers). record { from = 0; to = 10; values = set (set (set (f .values) 7 (x .other .0)) 8 (x .line .0)) 9 (x .run) }) (c .before .before .before .before .plan-row .ensures)
 
 pub extension-row-spec : {M : Type 1} → statement M
 extension-row-spec =

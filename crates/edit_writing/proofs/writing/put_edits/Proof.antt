@@ -9,6 +9,7 @@ use borrow.Author.Needs.{needs}
 use lib.ListN.{length}
 use Rattle.railway.specs.declared.edit.Edit.{Edit}
 use Rattle.timetable.specs.Formats.{bytes-of}
+use Rattle.timetable.specs.FileForms.{newest-form}
 use Rattle.timetable.specs.EditsFile.{edits-on}
 use Rattle.timetable.specs.Outputs.{put}
 use Rattle.timetable.proofs.OutcomeLaws.{clash}
@@ -23,8 +24,8 @@ use Rattle.edit_writing.proofs.writing.put_edits.Tie as tie
 
 abbrev Inv-loop : tie.InvT-loop
 Inv-loop out₀ at file first count next₀ place₀ i₀ out next place i =
-    (i ≤ count) × (next ≤ at + 36 * i) × (length out ≡ length out₀)
-    × ((s : SoFar (left-at file count first) i (left-at file (count - i) place)) × (next ≡ at + length (list-bytes (s .elements))) × (out ≡ put at (list-bytes (s .elements)) out₀))
+    (i ≤ count) × (next ≤ at + 39 * i) × (length out ≡ length out₀)
+    × ((s : SoFar (left-at newest-form file count first) i (left-at newest-form file (count - i) place)) × (next ≡ at + length (list-bytes (s .elements))) × (out ≡ put at (list-bytes (s .elements)) out₀))
 
 abbrev μ-loop : tie.MeasureT-loop
 μ-loop out₀ at file first count next₀ place₀ i₀ out next place i = count - i
@@ -56,7 +57,7 @@ returns c es end e =
     let l = c .before .before .before .before .before .loop in
     let g = c .before .found .given in
     let o = sym (c .before .before .before .read-edit .ensures) ∙ ap edit-outcome (g .1) in
-    let q = edit-stopped (now (s .file)) (s .count) (l .i) (l .place) (omega arith) (g .0 .0) (g .0 .1 .0) o in
+    let q = edit-stopped newest-form (now (s .file)) (s .count) (l .i) (l .place) (omega arith) (g .0 .0) (g .0 .1 .0) o in
     clash es end (g .0 .0) (g .0 .1 .0) (sym (stop _ _ _ (l .inv .3 .0) (g .0 .0) (g .0 .1 .0) q) ∙ e)
 
 -- src/writing.rt:154:29
@@ -87,11 +88,11 @@ loop-again c =
     let l = c .before .before .before .before .before .before .before .before .before .before .loop in
     let g = c .before .before .before .before .before .before .found2 .given in
     let o = sym (c .before .before .before .before .before .before .before .before .read-edit .ensures) ∙ ap edit-outcome (g .1) in
-    let q = edit-taken (now (s .file)) (s .count) (l .i) (l .place) (omega arith) (g .0 .0) (g .0 .1 .0) o in
+    let q = edit-taken newest-form (now (s .file)) (s .count) (l .i) (l .place) (omega arith) (g .0 .0) (g .0 .1 .0) o in
     let f = l .inv .3 .0 in
     let w = c .before .before .put-row in
     let row = row-held (c .before .before .before .edit-row .ensures) in
-    let v = near (l .next) _ (l .out) (w .result) (w .last .0) 36 (omega arith) (w .ensures) in
+    let v = near (l .next) _ (l .out) (w .result) (w .last .0) 39 (omega arith) (w .ensures) in
     let x = edit-put (f .elements) (g .0 .0) (s .at) (l .next) (w .result) (s .out .now) (l .out) (w .last .0) (l .inv .3 .1) (l .inv .3 .2)
     (v .0 ∙ ap (λ (n : List ℕ). l .next + length (bytes-of n)) row) (v .1 ∙ ap (λ (n : List ℕ). put (l .next) (bytes-of n) (l .out)) row) in
     (omega arith, omega (arith, v .2), w .kept .0 ∙ l .inv .2, (turn _ _ _ f (g .0 .0) _ q, x .0, x .1))
@@ -107,7 +108,7 @@ returns-2 c es end e =
     let s = c .before .before .before .before .args in
     let l = c .before .loop in
     let f = l .inv .3 .0 in
-    let o = over _ _ _ f (l .place) (edits-over (now (s .file)) (s .count) (l .i) (l .place) (omega arith)) in
+    let o = over _ _ _ f (l .place) (edits-over newest-form (now (s .file)) (s .count) (l .i) (l .place) (omega arith)) in
     same-edits (λ (fs : List Edit). (l .next ≡ s .at + length (list-bytes fs)) × (l .out ≡ put (s .at) (list-bytes fs) (now (s .out)))) _ (f .elements) es (l .place) end o e (l .inv .3 .1, l .inv .3 .2)
 
 pub put-edits-spec : {M : Type 1} → statement M

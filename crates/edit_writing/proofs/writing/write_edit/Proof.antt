@@ -7,6 +7,7 @@ use native.Mathlib.Omega.{arith}
 use denote.Ref.{now}
 use lib.ListN.{length}
 use Rattle.timetable.specs.Formats.{bytes-of}
+use Rattle.timetable.specs.FileForms.{newest-form}
 use Rattle.timetable.specs.EditsFile.{edit-numbers}
 use Rattle.timetable.specs.Outputs.{put}
 use Rattle.fields.proofs.NumbersPut.{near}
@@ -33,8 +34,8 @@ returns c =
     let s = c .before .before .before .before .before .before .before .before .args in
     let ok = sym (c .before .before .before .before .before .before .valid .ensures) ∙ c .before .before .before .before .before .if1 .taken in
     let p = c .before .before .put-row in
-    let w = near _ _ _ _ _ 36 (omega arith) (p .ensures) in
-    let k : p .result ≡ length (bytes-of (edit-numbers (s .e))) = omega (arith, w .0, ap (λ (l : List ℕ). length (bytes-of l)) (row-held (c .before .before .before .before .edit-row .ensures))) in
+    let w = near _ _ _ _ _ 39 (omega arith) (p .ensures) in
+    let k : p .result ≡ length (bytes-of (edit-numbers newest-form (s .e))) = omega (arith, w .0, ap (λ (l : List ℕ). length (bytes-of l)) (row-held (c .before .before .before .before .edit-row .ensures))) in
     edit-short (s .e) (now (s .out)) ok (p .result) k (c .if2 .taken)
 
 put-row-requires-2 : tie.Need-put-row-requires-2
@@ -48,10 +49,10 @@ returns-2 c =
     let s = c .before .before .before .before .before .before .before .before .before .before .before .before .args in
     let ok = sym (c .before .before .before .before .before .before .before .before .before .before .valid .ensures) ∙ c .before .before .before .before .before .before .before .before .before .if1 .taken in
     let p = c .before .before .before .before .before .before .put-row in
-    let w = near _ _ _ _ _ 36 (omega arith) (p .ensures) in
-    let v = near _ _ _ _ _ 36 (omega arith) (c .before .before .put-row2 .ensures) in
+    let w = near _ _ _ _ _ 39 (omega arith) (p .ensures) in
+    let v = near _ _ _ _ _ 39 (omega arith) (c .before .before .put-row2 .ensures) in
     let row = row-held (c .before .before .before .before .before .before .before .before .edit-row .ensures) in
-    let k : p .result ≡ length (bytes-of (edit-numbers (s .e))) = omega (arith, w .0, ap (λ (l : List ℕ). length (bytes-of l)) row) in
+    let k : p .result ≡ length (bytes-of (edit-numbers newest-form (s .e))) = omega (arith, w .0, ap (λ (l : List ℕ). length (bytes-of l)) row) in
     let x = edit-fits (s .e) (now (s .out)) ok (p .result) k (c .before .before .before .before .if2 .left) in
     (x .0, v .1 ∙ ap (λ (l : List ℕ). put 0 (bytes-of l) (now (s .out))) row ∙ x .1)
 

@@ -5,6 +5,7 @@ use mathlib.Core.List.{_∷_, flatMap}
 use native.Mathlib.Omega.{arith}
 use lib.ListN.{length}
 use Rattle.timetable.specs.Formats.{bytes-of}
+use Rattle.timetable.specs.FileForms.{newest-form}
 use Rattle.timetable.specs.EditsFile.{edit-numbers}
 use denote.Ref.{now}
 use borrow.Author.Needs.{needs}
@@ -27,7 +28,7 @@ returns c =
     let r = c .before .before .before .before .before .before .read-edits in
     let p = c .before .before .put-list in
     let (end, o) = held-there (now (s .file)) (now (s .out)) (r .result) (r .ensures) in
-    let k : p .result ≡ length (bytes-of (r .result .count ∷ flatMap edit-numbers (held (now (s .file)) (now (s .out)) (r .result) (r .ensures)))) = omega (arith, p .ensures _ end o .0) in
+    let k : p .result ≡ length (bytes-of (r .result .count ∷ flatMap (edit-numbers newest-form) (held (now (s .file)) (now (s .out)) (r .result) (r .ensures)))) = omega (arith, p .ensures _ end o .0) in
     list-short (now (s .file)) (now (s .out)) (r .result) (r .ensures) (c .before .before .before .before .if1 .taken) (p .result) k (c .if2 .taken)
 
 put-list-requires-2 : tie.Need-put-list-requires-2
@@ -42,7 +43,7 @@ returns-2 c =
     let r = c .before .before .before .before .before .before .before .before .before .before .read-edits in
     let p = c .before .before .before .before .before .before .put-list in
     let (end, o) = held-there (now (s .file)) (now (s .out)) (r .result) (r .ensures) in
-    let k : p .result ≡ length (bytes-of (r .result .count ∷ flatMap edit-numbers (held (now (s .file)) (now (s .out)) (r .result) (r .ensures)))) = omega (arith, p .ensures _ end o .0) in
+    let k : p .result ≡ length (bytes-of (r .result .count ∷ flatMap (edit-numbers newest-form) (held (now (s .file)) (now (s .out)) (r .result) (r .ensures)))) = omega (arith, p .ensures _ end o .0) in
     let x = list-fits (now (s .file)) (now (s .out)) (r .result) (r .ensures) (c .before .before .before .before .before .before .before .before .if1 .taken) (p .result) k (c .before .before .before .before .if2 .left) in
     (x .0, c .before .before .put-list2 .ensures _ end o .1 ∙ x .1)
 

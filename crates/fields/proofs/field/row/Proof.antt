@@ -31,7 +31,7 @@ left-at file spans n i place = read (row (map range (drop i (take n spans))) [])
 
 abbrev Inv-loop : tie.InvT-loop
 Inv-loop file at spans n values₀ place₀ i₀ values place i =
-    (i ≤ n) × ((s : SoFar (left-at file spans n 0 at) i (left-at file spans n i place)) × (values ≡ padded 12 0 (s .elements)))
+    (i ≤ n) × ((s : SoFar (left-at file spans n 0 at) i (left-at file spans n i place)) × (values ≡ padded 13 0 (s .elements)))
 
 abbrev μ-loop : tie.MeasureT-loop
 μ-loop file at spans n values₀ place₀ i₀ values place i = n - i
@@ -57,10 +57,10 @@ abbrev row-done : ℕ → List ℕ → RowRead
 row-done place values = record { accepted = true; refusal = 0; place = place; values = values }
 
 -- the row of the contract
-whole : (ranges : Spans) (n : ℕ) (file : List ℕ) (at : ℕ) → length (ranges .spans) ≡ 8 → n ≡ min (ranges .count) 8
+whole : (ranges : Spans) (n : ℕ) (file : List ℕ) (at : ℕ) → length (ranges .spans) ≡ 9 → n ≡ min (ranges .count) 9
     → read (row (ranges-of ranges) []) file at ≡ left-at file (ranges .spans) n 0 at
 unfolding ranges-of
-whole ranges n file at many e = ap (λ (l : List Span). read (row (map range l) []) file at) (used-rows (ranges .spans) (ranges .count) 8 n many e)
+whole ranges n file at many e = ap (λ (l : List Span). read (row (map range l) []) file at) (used-rows (ranges .spans) (ranges .count) 9 n many e)
 
 smaller-requires : tie.Need-smaller-requires Inv-loop μ-loop
 smaller-requires c κs = search needs
@@ -91,7 +91,7 @@ returns c =
     let u = c .before .before .before .before .before .before .before .before .smaller in
     let s = c .before .before .before .before .before .before .before .before .before .before .before .args in
     let g = c .before .before .number .given in
-    let many : length (s .ranges .spans) ≡ 8 = simp length-map at (c .before .before .before .before .before .before .before .before .before .before .before .good .1 .1 .0 .1 .1 .1 .0 .1 .0 .1) in
+    let many : length (s .ranges .spans) ≡ 9 = simp length-map at (c .before .before .before .before .before .before .before .before .before .before .before .good .1 .1 .0 .1 .1 .1 .0 .1 .0 .1) in
     let o = sym (c .before .before .before .before .field .ensures) ∙ ap field-outcome (g .1) in
     let q = stopped (now (s .file)) (s .ranges .spans) (u .result) (omega arith) (l .i) (l .place) (g .0 .0) (g .0 .1 .0) (omega arith) o in
     c .refused-row .ensures ∙ sym (ap row-read (whole (s .ranges) (u .result) (now (s .file)) (s .at) many (u .ensures) ∙ stop _ _ _ (l .inv .1 .0) (g .0 .0) (g .0 .1 .0) q))
@@ -118,11 +118,11 @@ loop-again c =
     let u = c .before .before .before .before .before .before .before .smaller in
     let s = c .before .before .before .before .before .before .before .before .before .before .args in
     let g = c .before .number2 .given in
-    let many : length (s .ranges .spans) ≡ 8 = simp length-map at (c .before .before .before .before .before .before .before .before .before .before .good .1 .1 .0 .1 .1 .1 .0 .1 .0 .1) in
+    let many : length (s .ranges .spans) ≡ 9 = simp length-map at (c .before .before .before .before .before .before .before .before .before .before .good .1 .1 .0 .1 .1 .1 .0 .1 .0 .1) in
     let o = sym (c .before .before .before .field .ensures) ∙ ap field-outcome (g .1) in
     let q = taken (now (s .file)) (s .ranges .spans) (u .result) (omega arith) (l .i) (l .place) (g .0 .0) (g .0 .1 .0) (omega arith) o in
     let f = l .inv .1 .0 in
-    (omega arith, (turn _ _ _ f (g .0 .0) _ q, ap (λ (v : List ℕ). set v (l .i) (g .0 .0)) (l .inv .1 .1) ∙ padded-next 12 0 (f .elements) (l .i) (g .0 .0) (f .many) (omega arith)))
+    (omega arith, (turn _ _ _ f (g .0 .0) _ q, ap (λ (v : List ℕ). set v (l .i) (g .0 .0)) (l .inv .1 .1) ∙ padded-next 13 0 (f .elements) (l .i) (g .0 .0) (f .many) (omega arith)))
 
 returns-2 : tie.Need-returns-2 Inv-loop μ-loop
 unfolding row-read
@@ -130,7 +130,7 @@ returns-2 c =
     let l = c .before .loop in
     let u = c .before .before .smaller in
     let s = c .before .before .before .before .before .args in
-    let many : length (s .ranges .spans) ≡ 8 = simp length-map at (c .before .before .before .before .before .good .1 .1 .0 .1 .1 .1 .0 .1 .0 .1) in
+    let many : length (s .ranges .spans) ≡ 9 = simp length-map at (c .before .before .before .before .before .good .1 .1 .0 .1 .1 .1 .0 .1 .0 .1) in
     let f = l .inv .1 .0 in
     let q = ended (now (s .file)) (s .ranges .spans) (u .result) (omega arith) (l .i) (l .place) (omega arith) in
     sym (ap row-read (whole (s .ranges) (u .result) (now (s .file)) (s .at) many (u .ensures) ∙ over _ _ _ f (l .place) q)

@@ -27,7 +27,7 @@ no-floor-requires c κs = search needs
 returns : tie.Need-returns Inv-loop μ-loop
 returns c =
     let s = c .before .before .before .before .args in
-    let many : length (s .row .values) ≡ 12 = simp length-map at (c .before .before .before .before .good .0 .1 .1 .1 .1 .0 .1 .0 .1) in
+    let many : length (s .row .values) ≡ 13 = simp length-map at (c .before .before .before .before .good .0 .1 .1 .1 .1 .0 .1 .0 .1) in
     let u = c .before .before .smaller in
     c .no-floor .ensures ∙ sym (ap (λ (l : List ℕ). row-of (drop 1 l)) (floor-none (s .row) (u .result) many (u .ensures) (omega arith)))
 
@@ -62,7 +62,7 @@ loop-less c = omega arith
 loop-again : tie.Need-loop-again Inv-loop μ-loop
 loop-again c =
     let s = c .before .before .before .before .before .args in
-    let many : length (s .row .values) ≡ 12 = simp length-map at (c .before .before .before .before .before .good .0 .1 .1 .1 .1 .0 .1 .0 .1) in
+    let many : length (s .row .values) ≡ 13 = simp length-map at (c .before .before .before .before .before .good .0 .1 .1 .1 .1 .0 .1 .0 .1) in
     let u = c .before .before .before .smaller in
     let l = c .before .loop in
     (omega arith, omega arith, copied-next (s .row .values) (s .row .from + 1) (u .result) (omega arith) (l .i) (l .count) (l .left) (l .inv .2) (omega arith) (omega arith))
@@ -70,7 +70,7 @@ loop-again c =
 returns-2 : tie.Need-returns-2 Inv-loop μ-loop
 returns-2 c =
     let s = c .before .before .before .before .before .args in
-    let many : length (s .row .values) ≡ 12 = simp length-map at (c .before .before .before .before .before .good .0 .1 .1 .1 .1 .0 .1 .0 .1) in
+    let many : length (s .row .values) ≡ 13 = simp length-map at (c .before .before .before .before .before .good .0 .1 .1 .1 .1 .0 .1 .0 .1) in
     let u = c .before .before .before .smaller in
     let l = c .before .loop in
     copied-all (s .row .values) (s .row .from + 1) (u .result) (omega arith) (l .i) (l .count) (l .left) (l .inv .2) (omega arith)

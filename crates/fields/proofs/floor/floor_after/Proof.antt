@@ -18,7 +18,7 @@ no-floor-requires c κs = search needs
 returns : tie.Need-returns
 returns c =
     let s = c .before .before .before .before .args in
-    let many : length (s .floor .values) ≡ 12 = simp length-map at (c .before .before .before .before .good .0 .1 .1 .1 .1 .0 .1 .0 .1) in
+    let many : length (s .floor .values) ≡ 13 = simp length-map at (c .before .before .before .before .good .0 .1 .1 .1 .1 .0 .1 .0 .1) in
     let u = c .before .before .smaller in
     c .no-floor .ensures ∙ ap row-of (after-none (s .floor) (u .result) many (u .ensures) (s .n) (omega arith))
 
@@ -31,7 +31,7 @@ no-floor-requires-2 c κs = search needs
 returns-2 : tie.Need-returns-2
 returns-2 c =
     let s = c .before .before .before .before .before .args in
-    let many : length (s .floor .values) ≡ 12 = simp length-map at (c .before .before .before .before .before .good .0 .1 .1 .1 .1 .0 .1 .0 .1) in
+    let many : length (s .floor .values) ≡ 13 = simp length-map at (c .before .before .before .before .before .good .0 .1 .1 .1 .1 .0 .1 .0 .1) in
     let u = c .before .before .before .smaller in
     c .no-floor2 .ensures ∙ ap row-of (after-last (s .floor) (u .result) many (u .ensures) (s .n) (omega arith) (omega arith))
 
@@ -47,7 +47,7 @@ behind-first-requires c κs = search needs
 returns-3 : tie.Need-returns-3
 returns-3 c =
     let s = c .before .before .before .before .before .before .args in
-    let many : length (s .floor .values) ≡ 12 = simp length-map at (c .before .before .before .before .before .before .good .0 .1 .1 .1 .1 .0 .1 .0 .1) in
+    let many : length (s .floor .values) ≡ 13 = simp length-map at (c .before .before .before .before .before .before .good .0 .1 .1 .1 .1 .0 .1 .0 .1) in
     let u = c .before .before .before .before .smaller in
     c .behind-first .ensures ∙ ap row-of (after-equal (s .floor) (u .result) many (u .ensures) (s .n) (omega arith) (omega arith) (c .before .if3 .taken))
 
@@ -57,7 +57,7 @@ no-floor-requires-3 c κs = search needs
 returns-4 : tie.Need-returns-4
 returns-4 c =
     let s = c .before .before .before .before .before .before .args in
-    let many : length (s .floor .values) ≡ 12 = simp length-map at (c .before .before .before .before .before .before .good .0 .1 .1 .1 .1 .0 .1 .0 .1) in
+    let many : length (s .floor .values) ≡ 13 = simp length-map at (c .before .before .before .before .before .before .good .0 .1 .1 .1 .1 .0 .1 .0 .1) in
     let u = c .before .before .before .before .smaller in
     c .no-floor3 .ensures ∙ ap row-of (after-other (s .floor) (u .result) many (u .ensures) (s .n) (omega arith) (omega arith) (c .before .if3 .left))
 

@@ -29,7 +29,7 @@ larger-requires c κs = search needs
 returns : tie.Need-returns
 returns c =
     let s = c .before .before .before .before .before .before .args in
-    let many : length (s .floor .values) ≡ 12 = simp length-map at (c .before .before .before .before .before .before .good .0 .1 .1 .1 .1 .0 .1 .0 .1) in
+    let many : length (s .floor .values) ≡ 13 = simp length-map at (c .before .before .before .before .before .before .good .0 .1 .1 .1 .1 .0 .1 .0 .1) in
     let u = c .before .before .before .before .smaller in
     let w = c .before .before .wide .ensures .0 in
     c .larger .ensures ∙ ap (λ (b : ℕ). max (s .lo) b) w ∙ least-more (s .floor) (u .result) many (u .ensures) (s .lo) (omega arith) (omega arith)
@@ -43,7 +43,7 @@ larger-requires-2 c κs = search needs
 returns-2 : tie.Need-returns-2
 returns-2 c =
     let s = c .before .before .before .before .before .before .args in
-    let many : length (s .floor .values) ≡ 12 = simp length-map at (c .before .before .before .before .before .before .good .0 .1 .1 .1 .1 .0 .1 .0 .1) in
+    let many : length (s .floor .values) ≡ 13 = simp length-map at (c .before .before .before .before .before .before .good .0 .1 .1 .1 .1 .0 .1 .0 .1) in
     let u = c .before .before .before .before .smaller in
     let w = c .before .before .wide .ensures .0 in
     c .larger2 .ensures ∙ ap (λ (b : ℕ). max (s .lo) (b + 1)) w ∙ least-last (s .floor) (u .result) many (u .ensures) (s .lo) (omega arith) (omega arith)
@@ -51,7 +51,7 @@ returns-2 c =
 returns-3 : tie.Need-returns-3
 returns-3 c =
     let s = c .before .before .before .args in
-    let many : length (s .floor .values) ≡ 12 = simp length-map at (c .before .before .before .good .0 .1 .1 .1 .1 .0 .1 .0 .1) in
+    let many : length (s .floor .values) ≡ 13 = simp length-map at (c .before .before .before .good .0 .1 .1 .1 .1 .0 .1 .0 .1) in
     let u = c .before .smaller in
     least-none (s .floor) (u .result) many (u .ensures) (s .lo) (omega arith)
 

@@ -53,7 +53,7 @@ loop-again c =
     let q = c .before .before .before .before .before .before .before .before .before in
     let s = q .args in
     let u = c .before .before .before .before .before .before .smaller in
-    let many : length (s .row .values) ≡ 12 = simp length-map at (q .good .1 .1 .0 .1 .1 .1 .1 .0 .1 .0 .1) in
+    let many : length (s .row .values) ≡ 13 = simp length-map at (q .good .1 .1 .0 .1 .1 .1 .1 .0 .1 .0 .1) in
     let l = c .before .before .before .before .before .loop in
     let w = c .before .before .put-bytes in
     let h = c .before .before .before .before .loop-test .taken in (
@@ -75,10 +75,10 @@ returns c =
     let q = c .before .before .before .before .before in
     let s = q .args in
     let u = c .before .before .smaller in
-    let many : length (s .row .values) ≡ 12 = simp length-map at (q .good .1 .1 .0 .1 .1 .1 .1 .0 .1 .0 .1) in
+    let many : length (s .row .values) ≡ 13 = simp length-map at (q .good .1 .1 .0 .1 .1 .1 .1 .0 .1 .0 .1) in
     let l = c .before .loop in
     let whole : flatMap write-number (drop (s .row .from) (take (s .row .to) (s .row .values))) ≡ flatMap write-number (drop (s .row .from) (take (u .result) (s .row .values))) =
-    ap (λ (r : List ℕ). flatMap write-number (drop (s .row .from) r)) (used-rows (s .row .values) (s .row .to) 12 (u .result) many (u .ensures)) in
+    ap (λ (r : List ℕ). flatMap write-number (drop (s .row .from) r)) (used-rows (s .row .values) (s .row .to) 13 (u .result) many (u .ensures)) in
     let none = each-over write-number (s .row .values) (u .result) (omega arith) (l .i) 0 (c .loop-test .left) in
     (rw whole (sym (omega (arith, rw none at (l .inv .4)))), rw whole (sym (rw none at (l .inv .5))), omega arith)
 

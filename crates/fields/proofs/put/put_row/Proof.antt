@@ -17,10 +17,10 @@ returns : tie.Need-returns
 returns c =
     let s = c .before .before .before .before .before .before .args in
     let w = c .before .before .put-all in
-    near-puts (s .at) (in-use (s .row)) (now (s .out)) (w .result) (w .last .0) 36 (omega arith) (w .ensures)
+    near-puts (s .at) (in-use (s .row)) (now (s .out)) (w .result) (w .last .0) 39 (omega arith) (w .ensures)
 
 returns-2 : tie.Need-returns-2
-returns-2 c = let s = c .before .before .args in far-puts (s .at) (in-use (s .row)) (now (s .out)) 36 (omega arith)
+returns-2 c = let s = c .before .before .args in far-puts (s .at) (in-use (s .row)) (now (s .out)) 39 (omega arith)
 
 pub put-row-spec : {M : Type 1} → statement M
 put-row-spec = tie.close (tie.spec put-all-requires same-length returns returns-2)

@@ -11,10 +11,10 @@ use Rattle.network_files.proofs.draft.narrowed.Statement.{statement}
 use Rattle.network_files.proofs.draft.narrowed.Tie as tie
 
 abbrev Inv-loop : tie.InvT-loop
-Inv-loop values bytes₀ i₀ bytes i = (i ≤ 12) × (length bytes ≡ 12) × (take i bytes ≡ take i (as-bytes values))
+Inv-loop values bytes₀ i₀ bytes i = (i ≤ 13) × (length bytes ≡ 13) × (take i bytes ≡ take i (as-bytes values))
 
 abbrev μ-loop : tie.MeasureT-loop
-μ-loop values bytes₀ i₀ bytes i = 12 - i
+μ-loop values bytes₀ i₀ bytes i = 13 - i
 
 loop-holds : tie.Need-loop-holds Inv-loop μ-loop
 loop-holds c = (omega arith, refl, refl)
@@ -40,7 +40,7 @@ loop-less c = omega arith
 loop-again : tie.Need-loop-again Inv-loop μ-loop
 loop-again c =
     let v = c .before .before .before .args .t1 in
-    let many : length v ≡ 12 = omega arith in
+    let many : length v ≡ 13 = omega arith in
     let l = c .before .before .loop in (
       omega arith,
       length-set (l .bytes) (l .i) (c .narrow .result) ∙ l .inv .1,
@@ -50,7 +50,7 @@ loop-again c =
 returns : tie.Need-returns Inv-loop μ-loop
 returns c =
     let v = c .before .before .args .t1 in
-    let many : length v ≡ 12 = omega arith in
+    let many : length v ≡ 13 = omega arith in
     let l = c .before .loop in
     bytes-all v (l .bytes) many (l .inv .1) (l .i) (omega arith) (l .inv .2)
 

@@ -19,7 +19,7 @@ same-length c = search needs
 
 returns : tie.Need-returns
 unfolding closure-numbers in-use
-returns c = near _ _ _ _ _ 36 (omega arith) (c .before .before .put-row .ensures)
+returns c = near _ _ _ _ _ 39 (omega arith) (c .before .before .put-row .ensures)
 
 pub put-closure-spec : {M : Type 1} → statement M
 put-closure-spec = tie.close (tie.spec cast-line put-row-requires same-length returns)

@@ -26,7 +26,7 @@ returns c =
     let s = c .before .before .before .before .before .before .before .before .before .before .args in
     let v = c .before .before .before .before .before .before .put-number in
     let w = c .before .before .put-closures in
-    places-two (s .at) (v .result) (w .result) (s .n .closurecount ∷ []) (flatMap closure-numbers (closure-rows (s .n))) _ (v .last .0) _ 3 1152
+    places-two (s .at) (v .result) (w .result) (s .n .closurecount ∷ []) (flatMap closure-numbers (closure-rows (s .n))) _ (v .last .0) _ 3 1248
     (near (s .at) (s .n .closurecount ∷ []) _ (v .result) (v .last .0) 3 (omega arith) (v .ensures)) (w .ensures)
 
 pub put-counted-closures-spec : {M : Type 1} → statement M

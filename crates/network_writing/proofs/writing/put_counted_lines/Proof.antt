@@ -25,7 +25,7 @@ returns c =
     let s = c .before .before .before .before .before .before .before .before .before .before .args in
     let v = c .before .before .before .before .before .before .put-number in
     let w = c .before .before .put-lines in
-    places-two (s .at) (v .result) (w .result) (s .n .linecount ∷ []) (flatMap (line-numbers newest) (line-rows (s .n))) _ (v .last .0) _ 3 1152
+    places-two (s .at) (v .result) (w .result) (s .n .linecount ∷ []) (flatMap (line-numbers newest) (line-rows (s .n))) _ (v .last .0) _ 3 1248
     (near (s .at) (s .n .linecount ∷ []) _ (v .result) (v .last .0) 3 (omega arith) (v .ensures)) (w .ensures)
 
 pub put-counted-lines-spec : {M : Type 1} → statement M

@@ -26,7 +26,7 @@ returns c =
     let s = c .before .before .before .before .before .before .before .before .before .before .args in
     let v = c .before .before .before .before .before .before .put-number in
     let w = c .before .before .put-stations in
-    places-two (s .at) (v .result) (w .result) (s .n .stationcount ∷ []) (flatMap station-numbers (station-rows (s .n))) _ (v .last .0) _ 3 576
+    places-two (s .at) (v .result) (w .result) (s .n .stationcount ∷ []) (flatMap station-numbers (station-rows (s .n))) _ (v .last .0) _ 3 624
     (near (s .at) (s .n .stationcount ∷ []) _ (v .result) (v .last .0) 3 (omega arith) (v .ensures)) (w .ensures)
 
 pub put-counted-stations-spec : {M : Type 1} → statement M

@@ -37,7 +37,7 @@ same-length c = search needs
 
 returns : tie.Need-returns
 unfolding times line-numbers in-use
-returns c = near _ _ _ _ _ 36 (omega arith) (c .before .before .put-row .ensures)
+returns c = near _ _ _ _ _ 39 (omega arith) (c .before .before .put-row .ensures)
 
 pub put-line-spec : {M : Type 1} → statement M
 put-line-spec = tie.close (tie.spec cast-number cast-first cast-second cast-kind cast-passenger cast-freight cast-capacity put-row-requires same-length returns)

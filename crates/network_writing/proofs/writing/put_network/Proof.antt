@@ -38,9 +38,9 @@ returns c =
     let lines = n .linecount ∷ flatMap (line-numbers newest) (line-rows n) in
     let closures = n .closurecount ∷ flatMap closure-numbers (closure-rows n) in
     let h = near (v .result) (n .headway ∷ []) _ (w .result) (w .last .0) 3 (omega (arith, v .ensures .2)) (w .ensures) in
-    let l = places-two (w .result) (x .result) (y .result) lines closures _ (x .last .0) _ 1155 1155 (x .ensures) (y .ensures) in
-    let m = places-two (v .result) (w .result) (y .result) (n .headway ∷ []) (lines ++ closures) _ (w .last .0) _ 3 2310 h l in
-    let (p, q, b) = places-two 0 (v .result) (y .result) stations (n .headway ∷ (lines ++ closures)) _ (v .last .0) _ 579 2313 (v .ensures) m in
+    let l = places-two (w .result) (x .result) (y .result) lines closures _ (x .last .0) _ 1251 1251 (x .ensures) (y .ensures) in
+    let m = places-two (v .result) (w .result) (y .result) (n .headway ∷ []) (lines ++ closures) _ (w .last .0) _ 3 2502 h l in
+    let (p, q, b) = places-two 0 (v .result) (y .result) stations (n .headway ∷ (lines ++ closures)) _ (v .last .0) _ 627 2505 (v .ensures) m in
     (omega (arith, p), q)
 
 pub put-network-spec : {M : Type 1} → statement M

@@ -25,7 +25,7 @@ same-length c = search needs
 
 returns : tie.Need-returns
 unfolding station-numbers in-use
-returns c = near _ _ _ _ _ 36 (omega arith) (c .before .before .put-row .ensures)
+returns c = near _ _ _ _ _ 39 (omega arith) (c .before .before .put-row .ensures)
 
 pub put-station-spec : {M : Type 1} → statement M
 put-station-spec = tie.close (tie.spec cast-number cast-area cast-tracks put-row-requires same-length returns)

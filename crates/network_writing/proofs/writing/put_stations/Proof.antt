@@ -13,7 +13,7 @@ use Rattle.network_writing.proofs.writing.put_stations.Tie as tie
 
 abbrev Inv-loop : tie.InvT-loop
 Inv-loop out₀ at rows k next₀ i₀ out next i =
-    (i ≤ k) × (next ≤ at + 36 * i) × (length out ≡ length out₀) × Left station-numbers rows k at out₀ i next out
+    (i ≤ k) × (next ≤ at + 39 * i) × (length out ≡ length out₀) × Left station-numbers rows k at out₀ i next out
 
 abbrev μ-loop : tie.MeasureT-loop
 μ-loop out₀ at rows k next₀ i₀ out next i = k - i

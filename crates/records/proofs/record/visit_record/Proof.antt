@@ -43,13 +43,16 @@ out-line-requires c κs = search needs
 out-run-requires : tie.Need-out-run-requires
 out-run-requires c κs = search needs
 
+status-byte-requires-3 : tie.Need-status-byte-requires-3
+status-byte-requires-3 c κs = search needs
+
 returns : tie.Need-returns
 unfolding visit-bytes
-returns c = rw (c .before .before .before .before .before .before .before .before .before .before .before .before .low-byte .ensures, c .before .before .before .before .before .before .before .before .before .before .before .high-byte .ensures, c .before .before .before .before .before .before .before .before .before .before .low-byte2 .ensures, c .before .before .before .before .before .before .before .before .before .high-byte2 .ensures, c .before .before .before .before .before .before .before .before .status-byte .ensures, c .before .before .before .before .before .before .before .low-byte3 .ensures, c .before .before .before .before .before .before .high-byte3 .ensures, c .before .before .before .before .before .status-byte2 .ensures, c .before .before .before .before .in-station .ensures, c .before .before .before .in-line .ensures, c .before .before .out-station .ensures, c .before .out-line .ensures, c .out-run .ensures)
+returns c = rw (c .before .before .before .before .before .before .before .before .before .before .before .before .before .low-byte .ensures, c .before .before .before .before .before .before .before .before .before .before .before .before .high-byte .ensures, c .before .before .before .before .before .before .before .before .before .before .before .low-byte2 .ensures, c .before .before .before .before .before .before .before .before .before .before .high-byte2 .ensures, c .before .before .before .before .before .before .before .before .before .status-byte .ensures, c .before .before .before .before .before .before .before .before .low-byte3 .ensures, c .before .before .before .before .before .before .before .high-byte3 .ensures, c .before .before .before .before .before .before .status-byte2 .ensures, c .before .before .before .before .before .in-station .ensures, c .before .before .before .before .in-line .ensures, c .before .before .before .out-station .ensures, c .before .before .out-line .ensures, c .before .out-run .ensures, c .status-byte3 .ensures)
 
 pub visit-record-spec : {M : Type 1} → statement M
 visit-record-spec =
     tie.close
     (tie.spec low-byte-requires high-byte-requires low-byte-requires-2 high-byte-requires-2 status-byte-requires
     low-byte-requires-3 high-byte-requires-3 status-byte-requires-2 in-station-requires in-line-requires
-    out-station-requires out-line-requires out-run-requires returns)
+    out-station-requires out-line-requires out-run-requires status-byte-requires-3 returns)

@@ -40,7 +40,7 @@ module _ (file : List ℕ) (rise : Bool) (n i before place : ℕ) (floor : List 
 
 abbrev Inv-loop : tie.InvT-loop
 Inv-loop file at rise count values₀ place₀ before₀ left₀ i₀ values place before left i =
-    (i ≤ count) × ((s : SoFar (left-at file rise count 0 (in-use left₀) at) i (left-at file rise (count - i) before (in-use left) place)) × (values ≡ padded 12 0 (s .elements)))
+    (i ≤ count) × ((s : SoFar (left-at file rise count 0 (in-use left₀) at) i (left-at file rise (count - i) before (in-use left) place)) × (values ≡ padded 13 0 (s .elements)))
 
 abbrev μ-loop : tie.MeasureT-loop
 μ-loop file at rise count values₀ place₀ before₀ left₀ i₀ values place before left i = count - i
@@ -100,7 +100,7 @@ loop-again c =
       omega arith,
       (
         turn _ _ _ f (m .result .value) _ q,
-        ap (λ (v : List ℕ). set v (l .i) (m .result .value)) (l .inv .1 .1) ∙ padded-next 12 0 (f .elements) (l .i) (m .result .value) (f .many) (omega (arith, c .before .before .before .before .before .before .before .pre)),
+        ap (λ (v : List ℕ). set v (l .i) (m .result .value)) (l .inv .1 .1) ∙ padded-next 13 0 (f .elements) (l .i) (m .result .value) (f .many) (omega (arith, c .before .before .before .before .before .before .before .pre)),
       ),
     )
 

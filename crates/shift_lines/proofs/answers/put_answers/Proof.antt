@@ -7,6 +7,7 @@ use native.Mathlib.Omega.{arith}
 use denote.Ref.{now}
 use borrow.Author.Needs.{needs}
 use lib.ListN.{length}
+use Rattle.timetable.specs.FileForms.{newest-form}
 use Rattle.timetable.specs.Count.{zero-tally, raise-all}
 use Rattle.builder.proofs.FindingsPut.{Left, left-start, left-on, left-end}
 use Rattle.edit_calls.specs.between.Taken.{edits-at, can-be-read}
@@ -20,10 +21,10 @@ Inv-loop out₀ file first count answers tally₀ at₀ cursor₀ i₀ out tally
     (i ≤ count)
     × (at ≤ 68 * i)
     × (length out ≡ length out₀)
-    × (can-be-read (count - i) file (cursor .at) ≡ true)
+    × (can-be-read newest-form (count - i) file (cursor .at) ≡ true)
     × Left 0 (answers-text 1 (answers-from count answers 0)) out₀ at (answers-text (i + 1) (answers-from (count - i) answers i)) out
-    × (raise-all zero-tally (edits-at count file first) (answers-from count answers 0)
-    ≡ raise-all tally (edits-at (count - i) file (cursor .at)) (answers-from (count - i) answers i))
+    × (raise-all zero-tally (edits-at newest-form count file first) (answers-from count answers 0)
+    ≡ raise-all tally (edits-at newest-form (count - i) file (cursor .at)) (answers-from (count - i) answers i))
 
 abbrev μ-loop : tie.MeasureT-loop
 μ-loop out₀ file first count answers tally₀ at₀ cursor₀ i₀ out tally at cursor i = count - i

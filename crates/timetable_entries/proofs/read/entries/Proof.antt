@@ -31,12 +31,12 @@ returns c =
     let v = c .before .before .before .before .before .before .before .visit-part in
     let r = c .before .before .relation-part in
     let g = progress (now (s .sheet)) no-fault in
-    let (ps, o, f) = entries-took (visit-step (s .n)) g (read visit-part (now (s .file)) (s .at)) (v .result) (v .ensures .0) (c .before .before .before .before .if1 .taken) in
+    let (ps, o, f) = entries-took (visit-step (s .n)) g (read (visit-part (s .form)) (now (s .file)) (s .at)) (v .result) (v .ensures .0) (c .before .before .before .before .if1 .taken) in
     let b = v .ensures .1 (c .before .before .before .before .if1 .taken) ∙ ap (entries-sheet (visit-step (s .n)) g) o in
-    let later = progress (v .last .1 .1 .1 .0) (v .result .fault) in
+    let later = progress (v .last .1 .1 .1 .1 .0) (v .result .fault) in
     let is : later ≡ through (visit-step (s .n)) ps g =
     ap (λ (l : List ℕ). progress l (v .result .fault)) b ∙ ap (λ (y : Fault). progress (through (visit-step (s .n)) ps g .sheet) y) f in
-    let (x, y) = joined (now (s .file)) (s .at) ps (v .result .place) o (s .n) g later is in
+    let (x, y) = joined (s .form) (now (s .file)) (s .at) ps (v .result .place) o (s .n) g later is in
     (r .ensures .0 ∙ x, λ t. r .ensures .1 t ∙ y)
 
 refused-entries-requires : tie.Need-refused-entries-requires
@@ -51,8 +51,8 @@ returns-2 c =
     let s = c .before .before .before .before .before .before .before .before .args in
     let v = c .before .before .before .before .visit-part in
     let g = progress (now (s .sheet)) no-fault in
-    let o = entries-refusal (visit-step (s .n)) g (read visit-part (now (s .file)) (s .at)) (v .result) (v .ensures .0) (c .before .if1 .left) in
-    let q = visits-refused (now (s .file)) (s .at) (v .result .refusal) (v .result .place) o in (
+    let o = entries-refusal (visit-step (s .n)) g (read (visit-part (s .form)) (now (s .file)) (s .at)) (v .result) (v .ensures .0) (c .before .if1 .left) in
+    let q = visits-refused (s .form) (now (s .file)) (s .at) (v .result .refusal) (v .result .place) o in (
       c .refused-entries .ensures ∙ sym (ap (timetable-entries (s .n) g) q),
       λ t. absurd (false≢true (sym (ap (λ (x : EntriesRead). x .accepted) (c .refused-entries .ensures)) ∙ t)),
     )

@@ -44,7 +44,7 @@ returns c =
     let s = c .before .before .before .before .before .before .before .args in
     let g = c .before .before .count .given in
     let o = sym (c .before .before .before .before .field .ensures) ∙ ap field-outcome (g .1) in (
-      c .refused-entries .ensures ∙ sym (ap (entries-read (visit-step (s .n)) (progress (now (s .sheet)) (s .fault))) (visit-part-stop (now (s .file)) (s .at) (g .0 .0) (g .0 .1 .0) o)),
+      c .refused-entries .ensures ∙ sym (ap (entries-read (visit-step (s .n)) (progress (now (s .sheet)) (s .fault))) (visit-part-stop (s .form) (now (s .file)) (s .at) (g .0 .0) (g .0 .1 .0) o)),
       λ t. absurd (false≢true (sym (ap (λ (x : EntriesRead). x .accepted) (c .refused-entries .ensures)) ∙ t)),
     )
 
@@ -57,7 +57,7 @@ returns-2 c =
     let s = c .before .before .before .before .before .before .before .before .before .before .args in
     let g = c .before .before .before .before .before .count2 .given in
     let o = sym (c .before .before .before .before .before .before .before .field .ensures) ∙ ap field-outcome (g .1) in
-    let q = visit-part-then (now (s .file)) (s .at) (g .0 .0) (g .0 .1 .0) o in
+    let q = visit-part-then (s .form) (now (s .file)) (s .at) (g .0 .0) (g .0 .1 .0) o in
     let v = c .before .before .visits .ensures in (
       v .0 ∙ sym (ap (entries-read (visit-step (s .n)) (progress (now (s .sheet)) (s .fault))) q),
       λ t. v .1 t ∙ sym (ap (entries-sheet (visit-step (s .n)) (progress (now (s .sheet)) (s .fault))) q),

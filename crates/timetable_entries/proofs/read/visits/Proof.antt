@@ -19,17 +19,17 @@ use Rattle.timetable_entries.proofs.read.visits.Statement.{statement}
 use Rattle.timetable_entries.proofs.read.visits.Tie as tie
 
 abbrev Inv-loop : tie.InvT-loop
-Inv-loop file at count n sheet₀ place₀ station₀ train₀ first₀ i₀ sheet place station train first i =
-    (i ≤ count) × ((length sheet ≡ 8192) × Reached visit-entry visit-floor file (visit-step n) count at (progress sheet₀ first₀) i (station .0 ∷ train .0 ∷ []) place (progress sheet first))
+Inv-loop file at form count n sheet₀ place₀ station₀ train₀ first₀ i₀ sheet place station train first i =
+    (i ≤ count) × ((length sheet ≡ 8192) × Reached (visit-entry form) visit-floor file (visit-step n) count at (progress sheet₀ first₀) i (station .0 ∷ train .0 ∷ []) place (progress sheet first))
 
 abbrev μ-loop : tie.MeasureT-loop
-μ-loop file at count n sheet₀ place₀ station₀ train₀ first₀ i₀ sheet place station train first i = count - i
+μ-loop file at form count n sheet₀ place₀ station₀ train₀ first₀ i₀ sheet place station train first i = count - i
 
 loop-holds : tie.Need-loop-holds Inv-loop μ-loop
 loop-holds c =
     let s = c .before .before .args in
-    let e = same-left visit-entry visit-floor (now (s .file)) (0 ∷ 0 ∷ []) (none-before (now (s .file))) (s .count) (s .at) in
-    (omega arith, (c .before .before .pre .0, reached-first visit-entry visit-floor (now (s .file)) (visit-step (s .n)) (s .count) (s .at) (progress (now (s .sheet)) (s .fault)) (0 ∷ 0 ∷ []) e))
+    let e = same-left (visit-entry (s .form)) visit-floor (now (s .file)) (0 ∷ 0 ∷ []) (none-before (s .form) (now (s .file))) (s .count) (s .at) in
+    (omega arith, (c .before .before .pre .0, reached-first (visit-entry (s .form)) visit-floor (now (s .file)) (visit-step (s .n)) (s .count) (s .at) (progress (now (s .sheet)) (s .fault)) (0 ∷ 0 ∷ []) e))
 
 visit-entry-requires : tie.Need-visit-entry-requires Inv-loop μ-loop
 visit-entry-requires c κs = search needs
@@ -50,7 +50,7 @@ returns c =
     let l = c .before .before .before .before .before .before .loop in
     let g = c .before .before .found .given in
     let o = sym (c .before .before .before .before .visit-entry .ensures) ∙ ap visit-outcome (g .1) in
-    let q = reached-stop visit-entry visit-floor (now (s .file)) (visit-step (s .n)) (s .count) (s .at) (progress (now (s .sheet)) (s .fault)) (l .i) (l .station .0 ∷ l .train .0 ∷ []) (l .place) (progress (l .sheet) (l .first)) (l .inv .1 .1)
+    let q = reached-stop (visit-entry (s .form)) visit-floor (now (s .file)) (visit-step (s .n)) (s .count) (s .at) (progress (now (s .sheet)) (s .fault)) (l .i) (l .station .0 ∷ l .train .0 ∷ []) (l .place) (progress (l .sheet) (l .first)) (l .inv .1 .1)
     (omega arith) (g .0 .0) (g .0 .1 .0) o in (
       c .refused-entries .ensures ∙ q,
       λ t. absurd (false≢true (sym (ap (λ (x : EntriesRead). x .accepted) (c .refused-entries .ensures)) ∙ t)),
@@ -66,7 +66,7 @@ enter-visit-requires c κs =
     let l = c .before .before .before .before .before .before .loop in
     let g = c .before .before .found2 .given in
     let o = sym (c .before .before .before .before .visit-entry .ensures) ∙ ap visit-outcome (g .1) in
-    (l .inv .1 .0, visit-station (l .station .0 ∷ l .train .0 ∷ []) (now (s .file)) (l .place) (station-visit (g .0 .0) (g .0 .1 .0) (g .0 .1 .1 .0)) (g .0 .1 .1 .1 .0) o)
+    (l .inv .1 .0, visit-station (s .form) (l .station .0 ∷ l .train .0 ∷ []) (now (s .file)) (l .place) (station-visit (g .0 .0) (g .0 .1 .0) (g .0 .1 .1 .0)) (g .0 .1 .1 .1 .0) o)
 
 add-i : tie.Need-add-i Inv-loop μ-loop
 add-i c = omega (arith, c .before .before .before .before .before .before .before .before .before .before .before .before .pre .1)
@@ -82,7 +82,7 @@ loop-again c =
     let g = c .before .before .before .before .before .found2 .given in
     let o = sym (c .before .before .before .before .before .before .before .visit-entry .ensures) ∙ ap visit-outcome (g .1) in
     let h = c .before .before .enter-visit in
-    let q = reached-next visit-entry visit-floor (now (s .file)) (visit-step (s .n)) (s .count) (s .at) (progress (now (s .sheet)) (s .fault)) (l .i) (l .station .0 ∷ l .train .0 ∷ []) (l .place) (progress (l .sheet) (l .first)) (l .inv .1 .1)
+    let q = reached-next (visit-entry (s .form)) visit-floor (now (s .file)) (visit-step (s .n)) (s .count) (s .at) (progress (now (s .sheet)) (s .fault)) (l .i) (l .station .0 ∷ l .train .0 ∷ []) (l .place) (progress (l .sheet) (l .first)) (l .inv .1 .1)
     (omega arith) (station-visit (g .0 .0) (g .0 .1 .0) (g .0 .1 .1 .0)) (g .0 .1 .1 .1 .0) (g .0 .0 .0 ∷ g .0 .1 .0 .0 ∷ []) _ o refl (h .ensures) in
     (omega arith, (h .kept .0 ∙ l .inv .1 .0, q))
 
@@ -97,7 +97,7 @@ unfolding visits-format
 returns-2 c =
     let s = c .before .before .before .before .before .args in
     let l = c .before .before .loop in
-    let (a, b) = reached-end visit-entry visit-floor (now (s .file)) (visit-step (s .n)) (s .count) (s .at) (progress (now (s .sheet)) (s .fault)) (l .i) (l .station .0 ∷ l .train .0 ∷ []) (l .place) (progress (l .sheet) (l .first)) (l .inv .1 .1) (omega arith) in
+    let (a, b) = reached-end (visit-entry (s .form)) visit-floor (now (s .file)) (visit-step (s .n)) (s .count) (s .at) (progress (now (s .sheet)) (s .fault)) (l .i) (l .station .0 ∷ l .train .0 ∷ []) (l .place) (progress (l .sheet) (l .first)) (l .inv .1 .1) (omega arith) in
     (c .accepted-entries .ensures ∙ a, λ t. b)
 
 pub visits-spec : {M : Type 1} → statement M

@@ -26,10 +26,10 @@ unfolding timetable-outcome
 returns c =
     let s = c .before .before .before .before .before .before .before .before .before .args in
     let v = c .before .before .before .before .before .entries in
-    let o = read timetable-format (now (s .file)) (s .at) in
+    let o = read (timetable-format (s .form)) (now (s .file)) (s .at) in
     let e = v .ensures .0 ∙ ap (λ (l : List ℕ). timetable-entries (s .n) (progress l no-fault) o) (c .before .before .before .before .before .before .before .before .before .pre) in
     let (x, q, f) = timetable-took (s .n) start o (v .result) e (c .before .before .if1 .taken) in
-    fills-none _ 1 (v .result .place) (goes-on (s .n) (s .fault) (now (s .file)) (s .at) x (v .result .place) q (c .if2 .taken)) _
+    fills-none _ 1 (v .result .place) (goes-on (s .form) (s .n) (s .fault) (now (s .file)) (s .at) x (v .result .place) q (c .if2 .taken)) _
 
 same-length-2 : tie.Need-same-length-2
 same-length-2 c = search needs
@@ -39,10 +39,10 @@ unfolding timetable-outcome
 returns-2 c =
     let s = c .before .before .before .before .before .before .before .before .before .before .before .args in
     let v = c .before .before .before .before .before .before .before .entries in
-    let o = read timetable-format (now (s .file)) (s .at) in
+    let o = read (timetable-format (s .form)) (now (s .file)) (s .at) in
     let e = v .ensures .0 ∙ ap (λ (l : List ℕ). timetable-entries (s .n) (progress l no-fault) o) (c .before .before .before .before .before .before .before .before .before .before .before .pre) in
     let (x, q, f) = timetable-took (s .n) start o (v .result) e (c .before .before .before .before .if1 .taken) in
-    fills-none _ (s .fault .number) (s .fault .place) (at-fault (s .n) (s .fault) (now (s .file)) (s .at) x (v .result .place) q (c .before .before .if2 .left) (c .if3 .taken)) _
+    fills-none _ (s .fault .number) (s .fault .place) (at-fault (s .form) (s .n) (s .fault) (now (s .file)) (s .at) x (v .result .place) q (c .before .before .if2 .left) (c .if3 .taken)) _
 
 same-length-3 : tie.Need-same-length-3
 same-length-3 c = search needs
@@ -52,11 +52,11 @@ unfolding timetable-outcome timetable-sheet
 returns-3 c =
     let s = c .before .before .before .before .before .before .before .before .before .before .before .before .before .args in
     let v = c .before .before .before .before .before .before .before .before .before .entries in
-    let o = read timetable-format (now (s .file)) (s .at) in
+    let o = read (timetable-format (s .form)) (now (s .file)) (s .at) in
     let e = v .ensures .0 ∙ ap (λ (l : List ℕ). timetable-entries (s .n) (progress l no-fault) o) (c .before .before .before .before .before .before .before .before .before .before .before .before .before .pre) in
     let (x, q, f) = timetable-took (s .n) start o (v .result) e (c .before .before .before .before .before .before .if1 .taken) in
     let own = v .ensures .1 (c .before .before .before .before .before .before .if1 .taken) ∙ ap (λ (l : List ℕ). timetable-sheet (s .n) (progress l no-fault) o) (c .before .before .before .before .before .before .before .before .before .before .before .before .before .pre) ∙ ap (timetable-sheet (s .n) start) q in
-    let (m, z, is) = all-entered (s .n) (s .fault) (now (s .file)) (s .at) x (v .result .place) q (c .before .before .before .before .if2 .left) (c .before .before .if3 .left) (v .result .fault) f (c .if4 .taken) (v .last .1 .1 .1 .0) own in
+    let (m, z, is) = all-entered (s .form) (s .n) (s .fault) (now (s .file)) (s .at) x (v .result .place) q (c .before .before .before .before .if2 .left) (c .before .before .if3 .left) (v .result .fault) f (c .if4 .taken) (v .last .1 .1 .1 .1 .0) own in
     fills-all _ m (v .result .place) z _ is
 
 same-length-4 : tie.Need-same-length-4
@@ -67,11 +67,11 @@ unfolding timetable-outcome
 returns-4 c =
     let s = c .before .before .before .before .before .before .before .before .before .before .before .before .before .args in
     let v = c .before .before .before .before .before .before .before .before .before .entries in
-    let o = read timetable-format (now (s .file)) (s .at) in
+    let o = read (timetable-format (s .form)) (now (s .file)) (s .at) in
     let e = v .ensures .0 ∙ ap (λ (l : List ℕ). timetable-entries (s .n) (progress l no-fault) o) (c .before .before .before .before .before .before .before .before .before .before .before .before .before .pre) in
     let (x, q, f) = timetable-took (s .n) start o (v .result) e (c .before .before .before .before .before .before .if1 .taken) in
     fills-none _ (v .result .fault .number) (v .result .fault .place)
-    (entry-refused (s .n) (s .fault) (now (s .file)) (s .at) x (v .result .place) q (c .before .before .before .before .if2 .left) (c .before .before .if3 .left) (v .result .fault) f (c .if4 .left)) _
+    (entry-refused (s .form) (s .n) (s .fault) (now (s .file)) (s .at) x (v .result .place) q (c .before .before .before .before .if2 .left) (c .before .before .if3 .left) (v .result .fault) f (c .if4 .left)) _
 
 same-length-5 : tie.Need-same-length-5
 same-length-5 c = search needs
@@ -81,10 +81,10 @@ unfolding timetable-outcome
 returns-5 c =
     let s = c .before .before .before .before .before .before .before .args in
     let v = c .before .before .before .entries in
-    let o = read timetable-format (now (s .file)) (s .at) in
+    let o = read (timetable-format (s .form)) (now (s .file)) (s .at) in
     let e = v .ensures .0 ∙ ap (λ (l : List ℕ). timetable-entries (s .n) (progress l no-fault) o) (c .before .before .before .before .before .before .before .pre) in
     let q = timetable-refusal (s .n) start o (v .result) e (c .if1 .left) in
-    fills-none _ (v .result .refusal) (v .result .place) (entries-faulty (s .n) (s .fault) (now (s .file)) (s .at) (v .result .refusal) (v .result .place) q) _
+    fills-none _ (v .result .refusal) (v .result .place) (entries-faulty (s .form) (s .n) (s .fault) (now (s .file)) (s .at) (v .result .refusal) (v .result .place) q) _
 
 pub fill-spec : {M : Type 1} → statement M
 fill-spec =

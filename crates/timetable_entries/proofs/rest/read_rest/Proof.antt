@@ -15,7 +15,7 @@ use Rattle.timetable_entries.proofs.rest.read_rest.Tie as tie
 
 returns : tie.Need-returns
 unfolding timetable-outcome
-returns c = let s = c .before .before .before .args in no-sheet (s .n) (s .fault) (now (s .file)) (s .at) (now (s .sheet)) (c .if1 .taken)
+returns c = let s = c .before .before .before .args in no-sheet (s .form) (s .n) (s .fault) (now (s .file)) (s .at) (now (s .sheet)) (c .if1 .taken)
 
 slice-aggregate-fill : tie.Need-slice-aggregate-fill
 slice-aggregate-fill c = search needs
@@ -40,9 +40,9 @@ unfolding timetable-outcome
 returns-2 c =
     let s = c .before .before .before .before .before .before .before .before .before .args in
     let g = c .before .found .given in
-    let o = rest-of (s .n) (s .fault) (now (s .file)) (s .at) in
+    let o = rest-of (s .form) (s .n) (s .fault) (now (s .file)) (s .at) in
     let z = end-refused o (g .0 .0) (g .0 .1 .0) (sym (c .before .before .before .before .fill .ensures .0) ∙ ap timetable-outcome (g .1)) in
-    rest-refused (s .n) (s .fault) (now (s .file)) (s .at) (now (s .sheet)) (c .before .before .before .before .before .before .if1 .left) (g .0 .0) (g .0 .1 .0) z
+    rest-refused (s .form) (s .n) (s .fault) (now (s .file)) (s .at) (now (s .sheet)) (c .before .before .before .before .before .before .if1 .left) (g .0 .0) (g .0 .1 .0) z
 
 same-length : tie.Need-same-length
 same-length c = search needs
@@ -54,11 +54,11 @@ returns-3 c =
     let r = c .before .before .before .before .before .before .before .before .before .fill in
     let g = c .before .before .before .before .before .before .found2 .given in
     let size : length (now (s .sheet)) ≡ 8192 = c .before .before .before .before .before .before .before .before .before .before .before .if1 .left in
-    let o = rest-of (s .n) (s .fault) (now (s .file)) (s .at) in
+    let o = rest-of (s .form) (s .n) (s .fault) (now (s .file)) (s .at) in
     let (m, z) = end-accepted o (g .0 .0) (sym (r .ensures .0) ∙ ap timetable-outcome (g .1)) in
-    let own = r .last .1 .1 .1 .1 .0 in
-    let long : length own ≡ 8192 = r .kept .1 .1 .1 .1 .0 ∙ length-replicate {A = ℕ} 8192 0 in
-    let (a, b) = rest-taken (s .n) (s .fault) (now (s .file)) (s .at) (now (s .sheet)) size m (g .0 .0) z in
+    let own = r .last .1 .1 .1 .1 .1 .0 in
+    let long : length own ≡ 8192 = r .kept .1 .1 .1 .1 .1 .0 ∙ length-replicate {A = ℕ} 8192 0 in
+    let (a, b) = rest-taken (s .form) (s .n) (s .fault) (now (s .file)) (s .at) (now (s .sheet)) size m (g .0 .0) z in
     (a, c .before .before .copy .ensures ∙ overwrites (now (s .sheet)) own (size ∙ sym long) ∙ r .ensures .1 m (g .0 .0) z ∙ b)
 
 pub read-rest-spec : {M : Type 1} → statement M

@@ -18,7 +18,7 @@ use Rattle.timetable_writing.proofs.calls.put_all_relations.Tie as tie
 
 abbrev Inv-loop : tie.InvT-loop
 Inv-loop out₀ at sheet rows k next₀ i₀ out next i =
-    (i ≤ k) × (next ≤ at + 216 * i) × (length out ≡ length out₀) × Left (λ r. relations-here (r .station) (decode-sheet sheet (r .station))) rows k at out₀ i next out
+    (i ≤ k) × (next ≤ at + 234 * i) × (length out ≡ length out₀) × Left (λ r. relations-here (r .station) (decode-sheet sheet (r .station))) rows k at out₀ i next out
 
 abbrev μ-loop : tie.MeasureT-loop
 μ-loop out₀ at sheet rows k next₀ i₀ out next i = k - i
@@ -59,7 +59,7 @@ loop-again c =
       omega (arith, w .ensures .2),
       w .kept .0 ∙ l .inv .2,
       row-on (λ r. relations-here (r .station) (decode-sheet (now (s .sheet)) (r .station))) (s .n .stations) (u .result) (s .at) (now (s .out)) (omega (arith, u .ensures, many)) (l .i) blank-station (l .next) (l .out) (l .inv .3)
-          (c .before .before .before .before .before .before .loop-test .taken) _ (ap (relations-here _) (ap table-in (c .before .before .before .page-of .ensures) ∙ station-table (now (s .sheet)) _ (q .pre .0))) (w .result) (w .last .0) 216 (w .ensures),
+          (c .before .before .before .before .before .before .loop-test .taken) _ (ap (relations-here _) (ap table-in (c .before .before .before .page-of .ensures) ∙ station-table (now (s .sheet)) _ (q .pre .0))) (w .result) (w .last .0) 234 (w .ensures),
     )
 
 same-length : tie.Need-same-length Inv-loop μ-loop

@@ -24,7 +24,7 @@ unfolding relation-row
 returns c =
     let s = c .before .before .before .before .before .before .args in
     let w = c .before .before .put-row in
-    writes-as (s .at) (w .result) _ _ (now (s .out)) (w .last .0) 36 (row-held (c .before .before .before .relation-numbers .ensures)) (near (s .at) _ (now (s .out)) (w .result) (w .last .0) 36 (omega arith) (w .ensures))
+    writes-as (s .at) (w .result) _ _ (now (s .out)) (w .last .0) 39 (row-held (c .before .before .before .relation-numbers .ensures)) (near (s .at) _ (now (s .out)) (w .result) (w .last .0) 39 (omega arith) (w .ensures))
 
 pub put-relation-spec : {M : Type 1} → statement M
 put-relation-spec = tie.close (tie.spec relation-numbers-requires put-row-requires same-length returns)

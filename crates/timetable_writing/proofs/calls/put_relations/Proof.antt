@@ -19,7 +19,7 @@ use Rattle.timetable_writing.proofs.calls.put_relations.Tie as tie
 
 abbrev Inv-loop : tie.InvT-loop
 Inv-loop out₀ at part s k next₀ i₀ out next i =
-    (i ≤ k) × (next ≤ at + 36 * i) × (length out ≡ length out₀) × Left (relation-row s) (table-in part .relations) k at out₀ i next out
+    (i ≤ k) × (next ≤ at + 39 * i) × (length out ≡ length out₀) × Left (relation-row s) (table-in part .relations) k at out₀ i next out
 
 abbrev μ-loop : tie.MeasureT-loop
 μ-loop out₀ at part s k next₀ i₀ out next i = k - i
@@ -51,12 +51,14 @@ loop-again c =
     let s = c .before .before .before .before .before .before .before .before .before .before .before .args in
     let u = c .before .before .before .before .before .before .before .before .relation-count in
     let l = c .before .before .before .before .before .before .before .loop in
-    let w = c .before .before .put-relation in (
+    let w = c .before .before .put-relation in
+    let q = c .before .before .before .before .relation-in in
+    let r = c .before .before .before .before .before .relation-record in (
       omega arith,
       omega (arith, w .ensures .2),
       w .kept .0 ∙ l .inv .2,
       row-on (relation-row (s .s)) (table-in (now (s .part)) .relations) (u .result) (s .at) (now (s .out)) (omega (arith, u .ensures .0)) (l .i) (decode-relation []) (l .next) (l .out) (l .inv .3)
-          (c .before .before .before .before .before .before .loop-test .taken) _ (ap (relation-row (s .s)) (c .before .before .before .before .relation-in .ensures ∙ relation-of _ _ _ (c .before .before .before .before .before .relation-record .ensures))) (w .result) (w .last .0) 36 (w .ensures),
+          (c .before .before .before .before .before .before .loop-test .taken) _ (ap (relation-row (s .s)) (q .ensures ∙ relation-of _ _ _ (r .ensures))) (w .result) (w .last .0) 39 (w .ensures),
     )
 
 same-length : tie.Need-same-length Inv-loop μ-loop
@@ -69,7 +71,7 @@ returns c =
     let u = c .before .before .relation-count in
     let l = c .before .loop in
     rows-all (relation-row (s .s)) (table-in (now (s .part)) .relations) (u .result) (s .at) (now (s .out)) (omega (arith, u .ensures .0)) (l .i) (decode-relation []) (l .next) (l .out) (l .inv .3)
-    (c .loop-test .left) (u .ensures .0) 216 (omega (arith, l .inv .0, l .inv .1, u .ensures .1))
+    (c .loop-test .left) (u .ensures .0) 234 (omega (arith, l .inv .0, l .inv .1, u .ensures .1))
 
 pub put-relations-spec : {M : Type 1} → statement M
 put-relations-spec =

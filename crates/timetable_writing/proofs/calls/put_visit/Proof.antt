@@ -21,7 +21,7 @@ returns : tie.Need-returns
 returns c =
     let s = c .before .before .before .before .before .before .args in
     let w = c .before .before .put-row in
-    let v = writes-as (s .at) (w .result) _ _ (now (s .out)) (w .last .0) 36 (row-held (c .before .before .before .visit-numbers .ensures)) (near (s .at) _ (now (s .out)) (w .result) (w .last .0) 36 (omega arith) (w .ensures)) in
+    let v = writes-as (s .at) (w .result) _ _ (now (s .out)) (w .last .0) 39 (row-held (c .before .before .before .visit-numbers .ensures)) (near (s .at) _ (now (s .out)) (w .result) (w .last .0) 39 (omega arith) (w .ensures)) in
     (v .0, v .1, omega (arith, v .2))
 
 pub put-visit-spec : {M : Type 1} → statement M

@@ -1,5 +1,5 @@
 -- `visit_files::row::status_number` meets its contract by its test. Assumes nothing.
-use Rattle.timetable.specs.TimetableFile.{status-number}
+use Rattle.timetable.specs.FileForms.{status-number}
 use Rattle.visit_files.proofs.row.status_number.Statement.{statement}
 use Rattle.visit_files.proofs.row.status_number.Tie as tie
 

@@ -43,7 +43,7 @@ returns c =
     let q = number-value _ (m .result) e (c .before .if2 .taken) in
     let b = field-bounded _ 16 (now (s .file)) (s .at) (n .result .value) (n .result .place) o .1 in
     c .visit-values .ensures b
-    ∙ sym (train-then (s .station .0) (s .train .0) (now (s .file)) (s .at) (n .result .value) (n .result .place) o (m .result .value) (m .result .place) q)
+    ∙ sym (train-then (s .form) (s .station .0) (s .train .0) (now (s .file)) (s .at) (n .result .value) (n .result .place) o (m .result .value) (m .result .place) q)
 
 returns-2 : tie.Need-returns-2
 unfolding visit-outcome
@@ -57,7 +57,7 @@ returns-2 c =
     let left = row-held (c .before .before .floor-after .ensures) ∙ ap (floor-after (n .result .value)) two in
     let e = m .ensures ∙ ap (λ (l : List ℕ). number-read (field-at (least 1 l) 9999 (now (s .file)) (n .result .place))) left in
     let q = number-refusal _ (m .result) e (c .if2 .left) in
-    sym (train-stop (s .station .0 ∷ s .train .0 ∷ []) (now (s .file)) (s .at) (n .result .value) (n .result .place) o (m .result .refusal) (m .result .place) q)
+    sym (train-stop (s .form) (s .station .0 ∷ s .train .0 ∷ []) (now (s .file)) (s .at) (n .result .value) (n .result .place) o (m .result .refusal) (m .result .place) q)
 
 returns-3 : tie.Need-returns-3
 unfolding visit-outcome
@@ -67,7 +67,7 @@ returns-3 c =
     let n = c .before .compared in
     let d = n .ensures ∙ ap (λ (l : List ℕ). number-read (field-at (least 1 l) 16 (now (s .file)) (s .at))) two in
     let o = number-refusal _ (n .result) d (c .if1 .left) in
-    sym (station-stop (s .station .0 ∷ s .train .0 ∷ []) (now (s .file)) (s .at) (n .result .refusal) (n .result .place) o)
+    sym (station-stop (s .form) (s .station .0 ∷ s .train .0 ∷ []) (now (s .file)) (s .at) (n .result .refusal) (n .result .place) o)
 
 pub visit-entry-spec : {M : Type 1} → statement M
 visit-entry-spec =

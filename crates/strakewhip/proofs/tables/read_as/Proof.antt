@@ -1,4 +1,4 @@
--- `strakewhip::tables::strakewhip_read` meets its contract: the buffers do not fit, the network is refused, or the call
+-- `strakewhip::tables::read_as` meets its contract: the buffers do not fit, the network is refused, or the call
 -- is reached. Assumes nothing.
 use mathlib.Core.Path.{_∙_, ap}
 use denote.Ref.{now}
@@ -8,8 +8,8 @@ use borrow.Author.Tests.{eq-eqb, ne-eqb}
 use Rattle.replies.specs.Replies.{of-outcome}
 use Rattle.strakewhip.specs.Calls.{read-reply, read-left}
 use Rattle.strakewhip.proofs.FileLaws.{unfit, stopped, reached, so}
-use Rattle.strakewhip.proofs.tables.strakewhip_read.Statement.{statement}
-use Rattle.strakewhip.proofs.tables.strakewhip_read.Tie as tie
+use Rattle.strakewhip.proofs.tables.read_as.Statement.{statement}
+use Rattle.strakewhip.proofs.tables.read_as.Tie as tie
 
 plain-requires : tie.Need-plain-requires
 plain-requires c κs = search needs
@@ -33,8 +33,8 @@ returns-2 c =
     let r = c .before .before .before .read-network in
     so _ _ _ _ _ _ _ _ (c .placed .ensures) (stopped _ _ _ _ _ (eq-eqb (length (now (s .sheet))) 8192 (c .before .before .before .before .if1 .left)) (r .result) (r .ensures) (c .before .if2 .taken))
 
-read-timetable-requires : tie.Need-read-timetable-requires
-read-timetable-requires c κs = search needs
+read-timetable-as-requires : tie.Need-read-timetable-as-requires
+read-timetable-as-requires c κs = search needs
 
 of-read-requires : tie.Need-of-read-requires
 of-read-requires c κs = search needs
@@ -47,11 +47,11 @@ unfolding read-reply read-left
 returns-3 c =
     let s = c .before .before .before .before .before .before .before .before .before .before .before .before .args in
     let r = c .before .before .before .before .before .before .before .read-network in
-    let x = c .before .before .before .read-timetable .ensures in
+    let x = c .before .before .before .read-timetable-as .ensures in
     reached _ _ _ _ _ (eq-eqb (length (now (s .sheet))) 8192 (c .before .before .before .before .before .before .before .before .if1 .left)) (r .result) (r .ensures) (c .before .before .before .before .before .if2 .left) _ _ (c .of-read .ensures ∙ ap (of-outcome 2) (x .0)) (x .1)
 
-pub strakewhip-read-spec : {M : Type 1} → statement M
-strakewhip-read-spec =
+pub read-as-spec : {M : Type 1} → statement M
+read-as-spec =
     tie.close
     (tie.spec
     plain-requires
@@ -59,7 +59,7 @@ strakewhip-read-spec =
     read-network-requires
     placed-requires
     returns-2
-    read-timetable-requires
+    read-timetable-as-requires
     of-read-requires
     same-length
     returns-3)
