@@ -115,14 +115,14 @@ abbrev spares : Network → Grouping → ℕ → Edit → Answer → Bool
 spares n γ g e a = not (marks-there n γ g e) || not (eqb (a .refusal) 0)
 
 module _ (n : Network) (γ : Grouping) (same-listed : (k : Station) → listed n k ≡ ltb 0 (γ k)) (g : ℕ) where
-  answer-older : (e : Edit) (m : Timetable) → UnmarkedThere n γ g m → older-answer n γ g e (two-releases n γ g m) ≡ answer n e m
+  pub answer-older : (e : Edit) (m : Timetable) → UnmarkedThere n γ g m → older-answer n γ g e (two-releases n γ g m) ≡ answer n e m
   answer-older e m plain = older-told n γ g m plain e ∙ answer-divided n γ same-listed e m
 
   answer-newer : (e : Edit) (m : Timetable) → UnmarkedThere n γ g m → newer-answer n γ g e (two-releases n γ g m) ≡ answer n e m
   answer-newer e m plain = newer-told n γ g m plain e ∙ answer-divided n γ same-listed e m
 
   -- an edit leaves the railway of the timetable that it leaves the centre
-  step-both : (e : Edit) (m : Timetable) → UnmarkedThere n γ g m → both-after n γ g e (two-releases n γ g m) ≡ two-releases n γ g (after n e m)
+  pub step-both : (e : Edit) (m : Timetable) → UnmarkedThere n γ g m → both-after n γ g e (two-releases n γ g m) ≡ two-releases n γ g (after n e m)
   unfolding both-after two-releases
   step-both e m plain = λ i. record { older = older i; newer = newer i }
     where
@@ -191,7 +191,7 @@ module _ (n : Network) (γ : Grouping) (g : ℕ) where
   none-beside [] m = refl
   none-beside (e ∷ es) m = ap (λ (b : Bool). spares n γ g e (answer n e m) && b) (none-beside es (after n e m))
 
-  none-along : (es : List Edit) (m : Timetable) (ps : List ℕ) → AnyOrder n m es ps → T (none-marks n γ g es m) → T (none-marks n γ g (along es ps) m)
+  pub none-along : (es : List Edit) (m : Timetable) (ps : List ℕ) → AnyOrder n m es ps → T (none-marks n γ g es m) → T (none-marks n γ g (along es ps) m)
   none-along es m ps O h =
       rw (none-beside (along es ps) m, O .same-answers)
       (beside-along (spares n γ g) es (answers (after n) (answer n) es m) (answers-length n es m) (rw (none-beside es m) at h) ps)
