@@ -6,8 +6,8 @@
 //! request stop, else 0; files of edits and of timetables without marks, the earlier form, have functions of their own.
 //! A sheet is [`SHEET`] bytes, a division [`DIVISION`], six sheets by area; all zeros are an empty one. Every function
 //! answers on every input. A refusal is an [`Error`], and leaves every lent element as it was; each function names its
-//! refusals in the order in which they are tested. "The network" among them stands for 1, 2 or 3, then 14, then 4 of the
-//! network's file, with its place.
+//! refusals in the order in which they are tested. "The network" among them stands for 1, 2 or 3, then 14, then 4 of
+//! the network's file, with its place.
 
 pub mod raw;
 mod refusal;
@@ -345,8 +345,8 @@ pub fn read_early(network: &[u8], timetable: &[u8], sheet: &mut [u8]) -> Result<
     told(reply).map(|reply| reply.length)
 }
 
-/// Writes a sheet as a timetable's file, in the newest form, and answers how many bytes it has. Refuses: 5; the network;
-/// 6; 13.
+/// Writes a sheet as a timetable's file, in the newest form, and answers how many bytes it has. Refuses: 5; the
+/// network; 6; 13.
 pub fn write(network: &[u8], sheet: &[u8], out: &mut [u8]) -> Result<usize, Error> {
     let reply = unsafe {
         raw::strakewhip_write(network.as_ptr(), network.len(), sheet.as_ptr(), sheet.len(), out.as_mut_ptr(), out.len())

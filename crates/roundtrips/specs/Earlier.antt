@@ -1,7 +1,7 @@
--- Files of the earlier form and of the newest hold the same, where no mark is 1. Document 02, W6: "Old files are read as
--- before by naming the earlier form when reading, and their visits get mark 0; what is written is the new form, and
--- round trips are compared in that form." The proofs are in proofs/EarlierTrips; nothing here is proved. The letters are
--- those of RoundTrips. Assumes nothing.
+-- Files of the earlier form and of the newest hold the same, where no mark is 1. Document 02, W6: "Old files are read
+-- as before by naming the earlier form when reading, and their visits get mark 0; what is written is the new form, and
+-- round trips are compared in that form." The proofs are in proofs/EarlierTrips; nothing here is proved. The letters
+-- are those of RoundTrips. Assumes nothing.
 use Prim.Native.Nat.{ℕ, _≤_}
 use mathlib.Core.Path.{_≡_}
 use mathlib.Core.Bool.{not}

@@ -1,6 +1,6 @@
--- The older room's file: forgetting marks and writing as the release before W6 did is writing in the earlier form, which
--- has no marks; entry by entry. And the part of a whole timetable is whole: at the other stations it is bare. Assumes
--- nothing.
+-- The older room's file: forgetting marks and writing as the release before W6 did is writing in the earlier form,
+-- which has no marks; entry by entry. And the part of a whole timetable is whole: at the other stations it is bare.
+-- Assumes nothing.
 use Prim.Native.Nat.{ℕ}
 use mathlib.Core.Path.{_≡_, refl, sym, _∙_, ap}
 use mathlib.Core.Bool.{Bool, true, false, not, _&&_}

@@ -1,9 +1,9 @@
--- Rooms at two releases. Document 02, W6: "Two control rooms at different releases, the older's sheet handed over as its
--- timetable file in the earlier form, must still merge to what the centre holds on taking the older room's edits with
--- mark 0, provided no visit at the older room's stations has mark 1 at the start or gets it from another room." The
--- older room works by the release as it was (Earlier), the others by the newest; the proof is in proofs/ReleasesMerge;
--- nothing here is proved. The letters are those of Statements; g is the older room's group, x a railway of both
--- releases. The file is in the crate demands, which speaks of bytes. Assumes nothing.
+-- Rooms at two releases. Document 02, W6: "Two control rooms at different releases, the older's sheet handed over as
+-- its timetable file in the earlier form, must still merge to what the centre holds on taking the older room's edits
+-- with mark 0, provided no visit at the older room's stations has mark 1 at the start or gets it from another room."
+-- The older room works by the release as it was (Earlier), the others by the newest; the proof is in
+-- proofs/ReleasesMerge; nothing here is proved. The letters are those of Statements; g is the older room's group, x a
+-- railway of both releases. The file is in the crate demands, which speaks of bytes. Assumes nothing.
 use Prim.Native.Nat.{ℕ}
 use mathlib.Core.Bool.{Bool, true, false, not, _&&_, _||_}
 use mathlib.Core.List.{List, [], _∷_, map}

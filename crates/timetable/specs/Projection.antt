@@ -15,7 +15,8 @@ unfoldable pub expected-arrival : Visit → ℕ → ℕ
 expected-arrival v a = if v .arrived then arr v else a
 
 -- "Otherwise departure is the arrival if the train doesn't stop, else the larger of planned departure and arrival + 1";
--- document 02, W6: "where only the mark makes a stop, projected departure is the larger of planned departure and arrival"
+-- document 02, W6: "where only the mark makes a stop, projected departure is the larger of planned departure and
+-- arrival"
 unfoldable pub expected-departure : Visit → ℕ → ℕ
 expected-departure v a =
     if v .departed then dep v

@@ -16,8 +16,8 @@ use strakewhip::{DIVISION, MOST_ROWS, MOST_TIMETABLE, SHEET};
 /// Three stations in a row, in areas 1, 2 and 2, joined by two lines.
 const ROW: [u32; 27] = [3, 1, 1, 2, 2, 2, 2, 3, 2, 2, 3, 2, 1, 1, 2, 3, 10, 10, 1, 2, 2, 3, 3, 10, 10, 1, 0];
 
-/// Train 7 is at the middle station for one minute, with a mark or without, and train 8 stands there: what the relations
-/// of the two say, and when train 7 is expected to leave.
+/// Train 7 is at the middle station for one minute, with a mark or without, and train 8 stands there: what the
+/// relations of the two say, and when train 7 is expected to leave.
 pub fn row(report: &mut Report) {
     report.place = String::from("three stations in a row");
     let network = bytes_of(&ROW);
@@ -191,9 +191,9 @@ fn unmarked_at(timetable: &Timetable, passes: impl Fn(Station) -> bool) -> Timet
     timetable
 }
 
-/// "Two control rooms at different releases": one area's room is at the older one, which knows no marks, neither its own
-/// nor its neighbours'. All rooms take each edit, the older one in the earlier form, and its own with mark 0. Its sheet is
-/// handed over as a file of the earlier form; merged with the others it is what the centre holds.
+/// "Two control rooms at different releases": one area's room is at the older one, which knows no marks, neither its
+/// own nor its neighbours'. All rooms take each edit, the older one in the earlier form, and its own with mark 0. Its
+/// sheet is handed over as a file of the earlier form; merged with the others it is what the centre holds.
 fn releases(report: &mut Report, r: &mut Random, railway: &Railway) {
     let Railway { file, network, .. } = railway;
     let areas: Vec<u32> = network.stations.values().map(|facts| facts.area.0).collect();
