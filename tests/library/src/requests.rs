@@ -217,8 +217,10 @@ fn releases(report: &mut Report, r: &mut Random, railway: &Railway) {
     let mut out = [7; MOST_TIMETABLE];
     let length = report.write(file, part(&early, area), &mut out).length;
     let handed = bytes_of(&early_timetable(&numbers_in(&out[..length])));
-    let start = SHEET * (area as usize - 1);
-    report.read_early(file, &handed, &mut newest[start..start + SHEET]);
+    let place = SHEET * (area as usize - 1)..SHEET * area as usize;
+    // What the others made of the older room's sheet is not looked at.
+    newest[place.clone()].fill(0);
+    report.read_early(file, &handed, &mut newest[place]);
     let mut sheet = vec![7; SHEET];
     report.merge(file, &newest, &mut sheet);
     assert!(sheet == whole(&centre), "{}: rooms at two releases merge otherwise", report.place);
