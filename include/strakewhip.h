@@ -6,9 +6,10 @@
  * kind, behind them the capacity. The file ends with its closures (W1): their count (0..32), then line (1..32), start
  * (0..2879) and end (1..2880) of each, rising by line and start; a line is closed from its start up to but not
  * including its end. Behind the track of an edit 1, 2, 3 or 6 and of a timetable's visit stands the stop mark (W6), 1
- * for a request stop, else 0. Files of edits and of timetables that have no marks are in the earlier form, document
- * 01's, which calls of their own read. A sheet is 8,192 bytes and a division 49,152, six sheets by area: the sheet of
- * area a begins at byte 8192 * (a - 1). Bytes that are all zero are an empty sheet or division.
+ * for a request stop, else 0. The last field of a report, edit 7 or 8, is the present minute (W7), 0..2879. Files of
+ * edits and of timetables that have neither marks nor minutes are in the earlier form, document 01's, which calls of
+ * their own read. A sheet is 8,192 bytes and a division 49,152, six sheets by area: the sheet of area a begins at byte
+ * 8192 * (a - 1). Bytes that are all zero are an empty sheet or division.
  *
  * A lent slice is a pointer and its length in ELEMENTS, not in bytes. The pointer is never NULL, also where the length
  * is 0, and it is aligned for its type. A slice that is written overlaps no other slice of the same call; slices that
@@ -33,9 +34,10 @@
  *   12  a station limit is reached
  *   13  the output is too short
  *   14  a closure's end is not after its start
+ *   15  a report from the future: its time is later than the minute that it carries
  *
- * "The network's file" below is 1, 2 or 3 by place, else 14, else 4, lines before closures, with `file` 1 and its place,
- * which of 4 and 14 is the first byte of the line or closure. */
+ * "The network's file" below is 1, 2 or 3 by place, else 14, else 4, lines before closures, with `file` 1 and its
+ * place, which of 4 and 14 is the first byte of the line or closure. */
 #ifndef STRAKEWHIP_H
 #define STRAKEWHIP_H
 
@@ -75,12 +77,12 @@ strakewhip_reply strakewhip_turn(uint8_t form, const uint8_t *file, size_t file_
 
 /* Which areas an edit names, so that their sheets can be locked before it runs: area a is the bit 1 << (a - 1) of
  * `length`. The edit is the bytes that it has in a file, kind and fields, and nothing behind them.
- * Refuses: the network's file; the edit's file (1, 2, 3 with `file` 2); 7. A refused edit names none. */
+ * Refuses: the network's file; the edit's file (1, 2, 3 with `file` 2); 15, 7. A refused edit names none. */
 strakewhip_reply strakewhip_names(const uint8_t *network, size_t network_length, const uint8_t *edit,
                                   size_t edit_length);
 
 /* One edit on a division: reads and changes only the sheets of the areas that it names.
- * Refuses: 5 (the division); the network's file; the edit's file; 7, 6, 8, 9, 10, 11, 12. */
+ * Refuses: 5 (the division); the network's file; the edit's file; 15, 7, 6, 8, 9, 10, 11, 12. */
 strakewhip_reply strakewhip_edit(const uint8_t *network, size_t network_length, const uint8_t *edit, size_t edit_length,
                                  uint8_t *division, size_t division_length);
 
@@ -96,8 +98,8 @@ strakewhip_reply strakewhip_run(const uint8_t *network, size_t network_length, c
                                 size_t edits_length, uint8_t *division, size_t division_length, uint8_t *answers,
                                 size_t answers_length);
 
-/* The same of a file in the earlier form: its edits have no mark, and carry 0. An amendment among them sets it.
- * Refuses: as `strakewhip_run`, with the place in the earlier file. */
+/* The same of a file in the earlier form: its edits have no mark, and carry 0; an amendment among them sets it. Its
+ * reports have no minute, and carry 2879. Refuses: as `strakewhip_run`, with the place in the earlier file. */
 strakewhip_reply strakewhip_run_early(const uint8_t *network, size_t network_length, const uint8_t *edits,
                                       size_t edits_length, uint8_t *division, size_t division_length, uint8_t *answers,
                                       size_t answers_length);
@@ -128,15 +130,15 @@ strakewhip_reply strakewhip_pair_findings(const uint8_t *network, size_t network
 /* The list of findings after one edit, from the list before it (document 02, W5): entries of `list` that the edit does
  * not make stale, together with the findings redone at the stations that it names, and by rules 7 to 10 at those joined
  * to them by a line; deleting a train redoes all. `sheet` is that of all stations after the edit, `list` four numbers a
- * finding, rising strictly; entries elsewhere are kept as they are. Given the list of the sheet before, `out` is that of
- * the sheet after. Refuses: 5 (the sheet); the network's file; the edit's file (1, 2, 3 with `file` 2); 7; 6; 3 (the
- * list does not rise, or its length is no multiple of four); 13. `length`: numbers, four a finding. */
+ * finding, rising strictly; entries elsewhere are kept as they are. Given the list of the sheet before, `out` is that
+ * of the sheet after. Refuses: 5 (the sheet); the network's file; the edit's file (1, 2, 3 with `file` 2); 15; 7; 6; 3
+ * (the list does not rise, or its length is no multiple of four); 13. `length`: numbers, four a finding. */
 strakewhip_reply strakewhip_recheck(const uint8_t *network, size_t network_length, const uint8_t *sheet,
                                     size_t sheet_length, const uint8_t *edit, size_t edit_length, const uint16_t *list,
                                     size_t list_length, uint16_t *out, size_t out_length);
 
 /* The same for one area, from its sheet, also where the edit names other areas alone. Refuses: as `strakewhip_recheck`,
- * 3 of the area before 7. */
+ * 3 of the area before 15. */
 strakewhip_reply strakewhip_recheck_area(const uint8_t *network, size_t network_length, const uint8_t *sheet,
                                          size_t sheet_length, const uint8_t *edit, size_t edit_length, uint8_t area,
                                          const uint16_t *list, size_t list_length, uint16_t *out, size_t out_length);

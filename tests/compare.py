@@ -2,19 +2,23 @@
 """Runs generated files through the programs and through the second implementation, and compares what they print.
 
 All comes from one seed:
- - Files, good and damaged ones of `shift` and of `inspect`, examples of document 01, and every single fault in one small file
-   of each program: both outputs must be equal byte for byte. Where it is known what must be printed, both must print that.
+ - Files, good and damaged ones of `shift` and of `inspect`, examples of document 01, and every single fault in one
+   small file of each program: both outputs must be equal byte for byte. Where it is known what must be printed, both
+   must print that.
  - Pieces: some of the files again, through a pipe that delivers a few bytes at a time.
- - Reorderings: a file of edits in an order that keeps the order of every two edits with a common area. Each edit's answer,
-   the findings, the totals and the tally must be those of the first order.
- - The second implementation's outputs tell what was reached: every refusal, every rule, every limit has to be. They must also
-   be sound: findings rising, each once among the areas and pairs, the tally fitting, the timetable written as it was read.
+ - Reorderings: a file of edits in an order that keeps the order of every two edits with a common area. Each edit's
+   answer, the findings, the totals and the tally must be those of the first order.
+ - The second implementation's outputs tell what was reached: every refusal, every rule, every limit has to be. They
+   must also be sound: findings rising, each once among the areas and pairs, the tally fitting, the timetable written as
+   it was read.
 
-The exit status is 1 if anything differs, is unsound or was never reached. Files of a difference are kept in a temporary folder.
+The exit status is 1 if anything differs, is unsound or was never reached. Files of a difference are kept in a temporary
+folder.
 """
 
 import argparse
 import collections
+import itertools
 import multiprocessing
 import os
 import random
@@ -25,9 +29,10 @@ import time
 
 from damage import damage, sweep
 from drafts import (
-    END, LINE, MANY, MARKED, TIME, Draft, closures_at, edit_size, encode, lines_at, parse, timetable_in, visit_size)
+    END, LINE, MANY, MARKED, REPORTS, TIME, Draft, closures_at, edit_size, edits_in, encode, from_future, lines_at,
+    parse, timetable_in, visit_size)
 from encode import Damaged, decode
-from orders import areas_named, reordered
+from orders import areas_named, changes_places, reordered
 from timetables import make_inspect
 from traffic import make_rooms, make_shift
 
@@ -49,6 +54,8 @@ def numbers(text):
 
 with open(os.path.join(HERE, "..", "tools", "sample.txt")) as sample:
     LISTING = numbers(sample.read())
+with open(os.path.join(HERE, "..", "tools", "reports.txt")) as sample:
+    REPORTED = numbers(sample.read())
 LISTING_PRINTS = b"E 1 0 0\nE 2 0 0\nE 3 8 0\nE 4 0 0\nF 1 4 1 0\nF 1 9 7 0\nT 2 1 2\nA 3 1 2 0\n"
 OPEN = "2, 1 1 2, 2 2 2, 3, 1, 1 1 2 3 10 10 1, "  # its closures follow
 NETWORK = OPEN + "0, "
@@ -101,7 +108,24 @@ def halts(mark, arrival):
                    "3 7 1 0 140 0 140 0 2 2 0, 0")
 
 
-# Name, program, bytes, and what they print or none. The letters are document 01's examples, W1 to W6 document 02's.
+def reported(*edits):
+    """Train 7 runs from station 1 to station 2; then these edits, the first of which begins at byte 35."""
+    return numbers(f"{NETWORK}{2 + len(edits)}, 1 1 7 1 0 100 102, 3 2 7 1 0 114 115 1 1 12, " + ", ".join(edits))
+
+
+def reported_prints(*answers, found=()):
+    """With the answers to these edits, none of which adds or removes a visit."""
+    lines = [f"E {edit} {answer} 0" for edit, answer in enumerate((0, 0) + answers, 1)] + [f"F {one}" for one in found]
+    accepted = 2 + answers.count(0)
+    lines += [f"T 2 0 {len(found)}", f"A {accepted} {2 + len(answers) - accepted} 2 0"]
+    return "".join(line + "\n" for line in lines).encode()
+
+
+# Reports that are answered with 15, 7 and 9, in every order.
+REFUSED_SO = {15: "7 1 7 101 100", 7: "8 3 7 100 100", 9: "7 1 8 100 100"}
+EVERY_ORDER = [answer for order in itertools.permutations(REFUSED_SO) for answer in order]
+
+# Name, program, bytes, and what they print or none. The letters are document 01's examples, W1 to W7 document 02's.
 FIXED = [
     ("the listing", "shift", LISTING, LISTING_PRINTS),
     ("(b)", "shift", b"\x80\0", b"R 2 0\n"),
@@ -143,13 +167,13 @@ FIXED = [
      b"F 1 7 7 0\nF 1 11 7 1\nD 1 1 11 7 1\nP 1 2 1 7 7 0\nT 1 0 2\nJ 1 7 1 95 102 5\nW 1\n"),
     ("W1 departed", "inspect", numbers(OPEN + "1, 1 105 106, 1, 1 7 1 0 90 1 102 1 0 2 1 12, 0"),
      b"F 1 7 7 0\nP 1 2 1 7 7 0\nT 1 0 1\nJ 1 7 1 90 102 0\nW 1\n"),
-    ("W2 found", "shift", numbers(NETWORK + "3, 1 1 7 1 0 100 102, 1 1 8 1 0 102 104, 7 1 7 100"),
+    ("W2 found", "shift", numbers(NETWORK + "3, 1 1 7 1 0 100 102, 1 1 8 1 0 102 104, 7 1 7 100 100"),
      b"E 1 0 0\nE 2 0 0\nE 3 0 0\nF 1 2 7 8\nT 2 0 1\nA 3 0 2 0\n"),
-    ("W2 not found", "shift", numbers(NETWORK + "3, 1 1 7 1 0 100 102, 1 1 8 1 0 103 104, 7 1 7 100"),
+    ("W2 not found", "shift", numbers(NETWORK + "3, 1 1 7 1 0 100 102, 1 1 8 1 0 103 104, 7 1 7 100 100"),
      b"E 1 0 0\nE 2 0 0\nE 3 0 0\nT 2 0 0\nA 3 0 2 0\n"),
-    ("W2 departed", "shift", numbers(NETWORK + "4, 1 1 7 1 0 100 102, 1 1 8 1 0 102 104, 7 1 7 100, 8 1 7 102"),
+    ("W2 departed", "shift", numbers(NETWORK + "4, 1 1 7 1 0 100 102, 1 1 8 1 0 102 104, 7 1 7 100 100, 8 1 7 102 102"),
      b"E 1 0 0\nE 2 0 0\nE 3 0 0\nE 4 0 0\nT 2 0 0\nA 4 0 2 0\n"),
-    ("W2 the larger train stands", "shift", numbers(NETWORK + "3, 1 1 8 1 0 100 102, 1 1 7 1 0 102 104, 7 1 8 100"),
+    ("W2 the larger train stands", "shift", numbers(NETWORK + "3, 1 1 8 1 0 100 102, 1 1 7 1 0 102 104, 7 1 8 100 100"),
      b"E 1 0 0\nE 2 0 0\nE 3 0 0\nF 1 2 7 8\nT 2 0 1\nA 3 0 2 0\n"),
     ("W3 4999 above the lesser time", "shift", numbers(timed(10, 13) + journey(4999, 12)), JOURNEY_PRINTS),
     ("W3 5000 below the greater time", "shift", numbers(timed(10, 13) + journey(5000, 12)), too_fast(5000)),
@@ -174,13 +198,13 @@ FIXED = [
     ("W6 a dependency of a train that passes", "shift", row(0, "3 0 2 7 7"), row_prints(False)),
     ("W6 the mark amended", "shift", row(0, "1 0 2 7 8", "6 2 7 1 1 114 114", 6), row_prints(True, 6)),
     ("W6 the mark amended away", "shift", row(1, "1 0 2 7 8", "6 2 7 1 0 114 114", 6), row_prints(False, 6)),
-    ("W6 the mark amended after the arrival", "shift", row(0, "1 0 2 7 8", "7 2 7 114, 6 2 7 1 1 114 114", 7),
+    ("W6 the mark amended after the arrival", "shift", row(0, "1 0 2 7 8", "7 2 7 114 114, 6 2 7 1 1 114 114", 7),
      row_prints(True, 7)),
     ("W6 the mark amended after the departure", "shift",
-     row(1, "1 0 2 7 8", "7 2 7 114, 8 2 7 114, 6 2 7 1 0 114 114", 8), row_prints(False, 8)),
-    ("W6 the mark and the track amended", "shift", row(1, "1 0 2 7 8", "7 2 7 114, 6 2 7 2 0 114 114", 7),
+     row(1, "1 0 2 7 8", "7 2 7 114 114, 8 2 7 114 114, 6 2 7 1 0 114 114", 8), row_prints(False, 8)),
+    ("W6 the mark and the track amended", "shift", row(1, "1 0 2 7 8", "7 2 7 114 114, 6 2 7 2 0 114 114", 7),
      row_prints(True, 7, 11)),
-    ("W6 reports keep the mark", "shift", row(1, "1 0 2 7 8", "7 2 7 114, 8 2 7 114", 7), row_prints(True, 7)),
+    ("W6 reports keep the mark", "shift", row(1, "1 0 2 7 8", "7 2 7 114 114, 8 2 7 114 114", 7), row_prints(True, 7)),
     ("W6 a request stop waits", "inspect", halts(1, 115),
      b"F 1 9 7 0\nF 2 9 7 0\nD 2 2 9 7 0\nP 1 2 1 9 7 0\nT 3 0 2\nJ 1 7 1 98 98 0\nJ 1 7 2 110 115 -5\n"
      b"J 1 7 3 127 140 -13\nJ 2 7 2 120 120 5\nJ 2 7 3 132 140 -8\nJ 3 7 3 145 146 5\nW 1\n"),
@@ -194,6 +218,37 @@ FIXED = [
     ("W6 a mark of 2 in a timetable", "inspect", halts(2, 115), b"R 3 43\n"),
     # The first arrival is where the newest form has a mark.
     ("W6 the listing without its first mark", "shift", LISTING[:22] + LISTING[23:], b"R 3 22\n"),
+    ("W7 the sample", "shift", REPORTED, reported_prints(0, 15, 0, 0)),
+    ("W7 reports at their own minute", "shift", reported("7 1 7 100 100", "8 1 7 102 102"), reported_prints(0, 0)),
+    ("W7 reports of the next minute", "shift", reported("7 1 7 101 100", "8 1 7 103 102"), reported_prints(15, 15)),
+    ("W7 the first and the last minute", "shift",
+     reported("7 1 7 2879 2879", "7 1 7 2879 2878", "8 1 7 2879 0", "7 1 7 1 0", "7 1 7 0 0"),
+     reported_prints(0, 15, 15, 15, 0)),
+    # With the minute as its arrival rule 1 would find it at either station.
+    ("W7 the time is kept", "shift", reported("7 1 7 100 130", "7 2 7 114 2879"), reported_prints(0, 0)),
+    # With 105 as its arrival rule 1 would find it, with 103 as its departure rule 9.
+    ("W7 what has occurred stays", "shift",
+     reported("7 1 7 100 100", "7 1 7 105 104", "8 1 7 102 103", "8 1 7 103 102"), reported_prints(0, 15, 0, 15)),
+    ("W7 before 7", "shift", reported("7 3 7 100 99", "8 16 7 100 99", "7 3 7 100 100", "8 16 7 100 100"),
+     reported_prints(15, 15, 7, 7)),
+    ("W7 before 9", "shift", reported("7 1 8 100 99", "8 2 8 100 99", "7 1 8 100 100", "8 2 8 100 100"),
+     reported_prints(15, 15, 9, 9)),
+    ("W7 15, 7 and 9 in every order", "shift", reported(*(REFUSED_SO[answer] for answer in EVERY_ORDER)),
+     reported_prints(*EVERY_ORDER)),
+    ("W7 a clock that goes back", "shift",
+     reported("7 1 7 100 2879", "8 1 7 102 102", "7 2 7 115 114", "7 2 7 114 114", "8 2 7 50 49", "7 2 7 60 60"),
+     reported_prints(0, 0, 15, 0, 15, 0)),
+    # Its departure is now 2879, to which the far arrival does not fit.
+    ("W7 amendments are not judged", "shift", reported("7 1 7 100 100", "6 1 7 1 0 100 2879"),
+     reported_prints(0, 0, found=["1 9 7 0"])),
+    ("W7 a minute of 2880", "shift", reported("7 1 7 100 2880"), b"R 3 39\n"),
+    ("W7 a time of 2880", "shift", reported("8 1 7 2880 2880"), b"R 3 38\n"),
+    ("W7 3 in a report from the future", "shift", reported("7 17 7 101 100"), b"R 3 36\n"),
+    ("W7 3 before a report from the future", "shift", reported("11 0", "7 1 7 101 100"), b"R 3 36\n"),
+    ("W7 3 behind a report from the future", "shift", reported("7 1 7 101 100", "11 0"), b"R 3 41\n"),
+    ("W7 14 of the network", "shift", numbers(OPEN + "1, 1 5 5, 1, 7 1 7 101 100"), b"R 14 17\n"),
+    ("W7 4 of the network", "shift", numbers(OPEN + "1, 2 5 6, 1, 7 1 7 101 100"), b"R 4 17\n"),
+    ("W7 a report without its minute", "shift", reported("7 1 7 100"), b"R 1 39\n"),
 ]
 
 # The same, and how many bytes come at a time; the last ones are too long for a file by a byte, and as long as may be.
@@ -310,7 +365,7 @@ RULES_ACROSS = range(7, 11)
 # What can be refused to each kind of edit, by number; 0 is an accepted one.
 ANSWERS = {
     1: (0, 7, 8, 12), 2: (0, 7, 8, 9, 10, 12), 3: (0, 7, 8, 9, 10, 12), 4: (0, 7, 9, 10), 5: (0, 7, 9, 10), 6: (0, 7, 9, 11),
-    7: (0, 7, 9), 8: (0, 7, 9), 9: (0, 7, 8, 12), 10: (0, 7, 9), 11: (0,),
+    7: (0, 7, 9, 15), 8: (0, 7, 9, 15), 9: (0, 7, 8, 12), 10: (0, 7, 9), 11: (0,),
 }
 # How a closure is refused.
 CLOSURES = (
@@ -322,16 +377,27 @@ CLOSURES = (
 SORTS = ("passenger", "freight")
 # The kinds of relations.
 KINDS = ("connection", "disconnection", "dependency")
+# What else a report from the future could be refused with.
+FUTURE = ("with its visit", "without its visit", "at an unlisted station")
+# What reorderings reach, if so many are asked for.
+PASSED = "shift a report from the future changes places with an edit of its area"
 # All that a run has to reach. Rules 7 and 8 never occur in `shift`: from an empty timetable every link stays answered.
 TO_REACH = (
     [f"shift R {refusal}" for refusal in range(1, 6)]
     + [f"{program} {refused}" for program in ("shift", "inspect") for refused in CLOSURES]
     + [f"{program} R 3 at the {sort} time" for program in ("shift", "inspect") for sort in SORTS]
     + ["shift 32 closures", "inspect 32 closures"]
-    + [f"shift E {refusal}" for refusal in (0, 7, 8, 9, 10, 11, 12)]
+    + [f"shift E {refusal}" for refusal in (0, 7, 8, 9, 10, 11, 12, 15)]
     + [f"shift edit {kind} answer {refusal}" for kind in ANSWERS for refusal in ANSWERS[kind]]
     + [f"shift edit {kind} with mark {mark} accepted" for kind in MARKED for mark in (0, 1)]
     + ["shift R 3 at a stop mark", "inspect R 3 at a stop mark"]
+    + [f"shift edit {kind} answer 15 {where}" for kind in REPORTS for where in FUTURE]
+    + [f"shift edit {kind} accepted at its own minute" for kind in REPORTS]
+    + [f"shift R 3 at the minute of edit {kind}" for kind in REPORTS]
+    + [f"shift R 3 {where} a report from the future" for where in ("before", "in", "behind")]
+    + [f"shift {one} before {other}" for one, other in ((15, 7), (7, 15), (15, 9), (9, 15))]
+    + [f"shift a report {how} by a clock that went back" for how in ("accepted", "refused")]
+    + [PASSED]
     + [f"shift F rule {rule}" for rule in (1, 2, 3, 4, 5, 6, 9, 10, 11)]
     + ["shift 2 or more removed", "shift 16 removed", "shift 1000 edits"]
     + [f"inspect R {refusal}" for refusal in (1, 2, 3, 4, 5, 7, 12)]
@@ -390,8 +456,8 @@ def time_mark(data, refusal, place):
     return f"R 3 at the {SORTS[field - 4]} time" if rank < before[count_at] and field in (4, 5) else None
 
 
-def stop_mark(program, data, refusal, place):
-    """Whether a stop mark is refused with 3 at a place of a file."""
+def field_mark(program, data, refusal, place):
+    """Which stop mark or report's minute is refused with 3 at a place of a file, or none."""
     before = numbers_before(data, place)
     at = closures_at(before)
     if refusal != 3 or at is None or at >= len(before):
@@ -399,14 +465,62 @@ def stop_mark(program, data, refusal, place):
     at += 3 * before[at] + 2  # the first entry behind the count of edits or visits
     while at < len(before):
         edit = before[at] if program == "shift" else None
-        if edit is None or edit in MARKED:
-            if at + (3 if edit is None else 4) == len(before):
+        if at + (3 if edit is None else 4) == len(before):
+            if edit is None or edit in MARKED:
                 return "R 3 at a stop mark"
+            if edit in REPORTS:
+                return f"R 3 at the minute of edit {edit}"
         try:
             at += visit_size(before, at) if edit is None else edit_size(before, at)
         except IndexError:
             return None
     return None
+
+
+def beside_future(data, refusal, place):
+    """Where a number of an edit refused with 3 stands to reports from the future: their 15 is never a file's."""
+    fault, marks = len(numbers_before(data, place)), set()
+    try:
+        edits = edits_in(decode(data)) if refusal == 3 else []
+    except Damaged:
+        return marks
+    # A fault in a relation may be one of its count, which leaves open what stands behind it.
+    if any(at <= fault < at + len(edit) and edit[0] not in (9, 10) for at, edit in edits):
+        for at, edit in edits:
+            if from_future(edit):
+                where = "before" if fault < at else "in" if fault < at + len(edit) else "behind"
+                marks.add(f"R 3 {where} a report from the future")
+    return marks
+
+
+def reports(numbers, answers):
+    """What the reports of a file met, by the answers to its edits."""
+    marks, there, latest = set(), set(), 0
+    stations = numbers[1:1 + 3 * numbers[0]:3]
+    for (_, edit), answer in zip(edits_in(numbers), answers, strict=True):
+        kind = edit[0]
+        if kind in REPORTS:
+            key, time, minute = tuple(edit[1:3]), *edit[3:]
+            if answer == 15:
+                where = FUTURE[0] if key in there else FUTURE[1] if key[0] in stations else FUTURE[2]
+                marks.add(f"edit {kind} answer 15 {where}")
+                if time <= latest:
+                    marks.add("a report refused by a clock that went back")
+            elif answer == 0 and time == minute:
+                marks.add(f"edit {kind} accepted at its own minute")
+            if answer == 0 and minute < latest:
+                marks.add("a report accepted by a clock that went back")
+            latest = max(latest, minute)
+        elif answer == 0 and kind in (1, 2, 3):
+            there.add(tuple(edit[1:3]))
+        elif answer == 0 and kind in (4, 5):
+            there.discard(tuple(edit[1:3]))
+        elif kind == 11:
+            there = {key for key in there if key[1] != edit[1]}
+    for one, other in ((15, 7), (7, 15), (15, 9), (9, 15)):
+        if one in answers and other in answers[answers.index(one):]:
+            marks.add(f"{one} before {other}")
+    return marks
 
 
 def request_stops(visits, relations, unmet):
@@ -448,7 +562,7 @@ def reached(program, data, output, edits):
     """What a file reached, by the reference's output; each counts once in a file."""
     marks = set()
     rows = collections.Counter()
-    visits, relations, fast, unmet = {}, {}, set(), set()
+    visits, relations, fast, unmet, answers = {}, {}, set(), set(), []
     if program == "inspect" and not output.startswith(b"R"):
         visits, relations = timetable_in(decode(data))
     for line in output.decode().splitlines():
@@ -458,9 +572,12 @@ def reached(program, data, output, edits):
             marks.add(f"R {rest[0]}")
             marks.add(closure_mark(data, *rest))
             marks.add(time_mark(data, *rest))
-            marks.add(stop_mark(program, data, *rest))
+            marks.add(field_mark(program, data, *rest))
+            if program == "shift":
+                marks |= beside_future(data, *rest)
         elif letter == "E":
             marks.add(f"E {rest[1]}")
+            answers.append(rest[1])
             if edits is not None:
                 edit = edits[rest[0] - 1]
                 marks.add(f"edit {edit[0]} answer {rest[1]}")
@@ -504,6 +621,8 @@ def reached(program, data, output, edits):
         marks.add("16 rows")
     if visits:
         marks |= between_times(decode(data), visits, fast) | request_stops(visits, relations, unmet)
+    if answers:
+        marks |= reports(decode(data), answers)
     return {f"{program} {mark}" for mark in marks if mark}
 
 
@@ -564,6 +683,9 @@ def do_orders(index):
         if order in seen or draft.bytes() == data:
             continue
         seen.add(order)
+        for at, edit in enumerate(good.edits):
+            if answers[at][0] == "15" and changes_places(order, at, named, good.network.stations.get(edit[1])):
+                marks.add(PASSED)
         # The edit that stood at a position has the same answer where it stands now; all else is as it was.
         expected = [" ".join(["E", str(rank), *answers[at]]) for rank, at in enumerate(order, 1)] + tail
         expected = "".join(line + "\n" for line in expected).encode()
@@ -637,7 +759,8 @@ def main():
         print(f"{marks[mark]:6} {mark}")
     for mark in sorted(set(marks) - set(TO_REACH)):
         print(f"{marks[mark]:6} {mark} (not asked for)")
-    missed = [mark for mark in TO_REACH if not marks[mark]]
+    few = options.reorderings < ORDERS_NEEDED
+    missed = [mark for mark in TO_REACH if not marks[mark] and not (few and mark == PASSED)]
     if missed:
         print("NEVER REACHED:", ", ".join(missed))
     too_few = orders < min(ORDERS_NEEDED, options.reorderings)

@@ -10,8 +10,8 @@ from traffic import Shift, Visit
 def damage(r, good, index):
     """A damaged file from a good one: its bytes and the output that it must give, or none where that is left open."""
     ways = [truncated, surplus, longer_spelling, third_byte, out_of_range, out_of_order, trains_out_of_order, bad_ends,
-            bad_time, bad_mark, changed_bytes, two_faults, oversize, ends_and_more, bad_closure, bad_window, window_and_more,
-            unlisted_closure, closure_and_more]
+            bad_time, bad_mark, bad_minute, changed_bytes, two_faults, oversize, ends_and_more, bad_closure, bad_window,
+            window_and_more, unlisted_closure, closure_and_more]
     if isinstance(good, Inspect):
         ways += [unknown, out_of_order, unknown, over_limit, limit_and_unknown, relation_at_unlisted]
     data, expected = ways[index % len(ways)](r, good)
@@ -176,6 +176,20 @@ def bad_mark(r, good):
     if r.random() < 0.2:
         return fault_in(r, changed(draft, {index: 2}), index - 1, r.choice([0, 9]))
     return fault_in(r, draft, index, r.choice([2, 2, 2, 3, 128, 2097151]))
+
+
+def bad_minute(r, good):
+    """A report's minute above the last one, at times behind a time out of range, which comes first; or none at all."""
+    draft = good.draft
+    if not draft.minutes:
+        return out_of_range(r, good)
+    index = r.choice(draft.minutes)
+    if r.random() < 0.1:
+        end = draft.place(index)
+        return draft.bytes()[:end], must(1, end)
+    if r.random() < 0.2:
+        return fault_in(r, changed(draft, {index: 2880}), index - 1, 2880)
+    return fault_in(r, draft, index, r.choice([2880, 2880, 2880, 2881, 16384, 2097151]))
 
 
 def closed(good, closures):
@@ -449,7 +463,9 @@ def rich_files():
     edits = [
         (1, 2, 7, 1, 1, 100, 130), (3, 3, 7, 8, 0, 142, 150, 2, 1, 12), (2, 16, 7, 1, 1, 0, 5, 2, 5, 131),
         (6, 3, 7, 2, 1, 142, 2879),
-        (7, 2, 7, 99), (8, 2, 7, 131), (9, 2, four), (9, 3, three), (9, 3, two), (10, 3, three), (5, 3, 7, 2), (4, 16, 7, 2),
+        # At its own minute, from the future, long past.
+        (7, 2, 7, 99, 99), (8, 2, 7, 132, 131), (8, 2, 7, 131, 2879),
+        (9, 2, four), (9, 3, three), (9, 3, two), (10, 3, three), (5, 3, 7, 2), (4, 16, 7, 2),
         (1, 16, 5000, 1, 0, 20, 25), (3, 2, 5000, 2, 0, 32, 40, 16, 5, 7), (11, 7),
     ]
     visits = {

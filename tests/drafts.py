@@ -15,6 +15,7 @@ STATION, AREA, TRAIN, LINE, TRACK = (1, 16), (1, 6), (1, 9999), (1, 32), (1, 8)
 TIME, INTERVAL, RUN, STATUS, MARK = (0, LAST_MINUTE), (0, 240), (1, 240), (0, 1), (0, 1)
 END, MANY = (1, LAST_MINUTE + 1), (0, 32)
 PLAN = (STATION, TRAIN, TRACK, MARK, TIME, TIME)
+REPORT = (STATION, TRAIN, TIME, TIME)  # the event's time, and the present minute
 FIELDS = {
     1: PLAN,
     2: PLAN + (STATION, LINE, RUN),
@@ -22,16 +23,23 @@ FIELDS = {
     4: (STATION, TRAIN, STATION),
     5: (STATION, TRAIN, STATION),
     6: PLAN,
-    7: (STATION, TRAIN, TIME),
-    8: (STATION, TRAIN, TIME),
+    7: REPORT,
+    8: REPORT,
     11: (TRAIN,),
 }
 # The edits that carry a track, and so a stop mark behind it.
 MARKED = [kind for kind, fields in FIELDS.items() if TRACK in fields]
+# Those that carry the present minute.
+REPORTS = [kind for kind, fields in FIELDS.items() if fields == REPORT]
 
 
 def clamp(value, bounds):
     return max(bounds[0], min(bounds[1], value))
+
+
+def from_future(edit):
+    """Whether an edit is a report whose time is later than the minute that it carries."""
+    return edit[0] in REPORTS and edit[3] > edit[4]
 
 
 class Draft:
@@ -44,6 +52,7 @@ class Draft:
         self.lines = []  # index of a line's first number
         self.closures = []  # index of a closure's first number
         self.marks = []  # index of a stop mark
+        self.minutes = []  # index of a report's minute
         self.visits = []  # (index of the first number, index of the track, of the in-link, of the out-link)
         self.relations = []  # (index of the first number, indices of the trains, whether they rise)
         self.network_end = 0  # the index behind the network
@@ -125,6 +134,8 @@ class Draft:
             else:
                 if edit[0] in MARKED:
                     self.marks.append(len(self.values) + 3)
+                if edit[0] in REPORTS:
+                    self.minutes.append(len(self.values) + 3)
                 for value, bounds in zip(edit[1:], FIELDS[edit[0]], strict=True):
                     self.put(value, bounds)
 
@@ -253,6 +264,21 @@ def visit_size(numbers, at):
 def edit_size(numbers, at):
     """The same of an edit."""
     return 5 + numbers[at + 4] if numbers[at] in (9, 10) else 1 + len(FIELDS[numbers[at]])
+
+
+def edits_in(numbers):
+    """The edits of a file of `shift`, each as the index of its first number and its numbers, as far as they go."""
+    edits = []
+    try:
+        at = closures_at(numbers)
+        at += 3 * numbers[at] + 1
+        count, at = numbers[at], at + 1
+        while len(edits) < count and at + edit_size(numbers, at) <= len(numbers):
+            edits.append((at, numbers[at:at + edit_size(numbers, at)]))
+            at += len(edits[-1][1])
+    except (IndexError, KeyError, TypeError):
+        pass  # a damaged file: the rest is not to be told
+    return edits
 
 
 class Said:

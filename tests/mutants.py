@@ -4,9 +4,9 @@
 Usage: tests/mutants.py [WORD ...]    only the mistakes whose name has one of the words
 
 The copy is built in a temporary folder. A mistake is found if compare.py reports a difference to the second implementation.
-No program turns an old network file, updates a list of findings or reads the earlier form: of a mistake there (TURNED,
-RECHECKED, EARLIER) the library's comparison has to report a difference of those calls, for which
-target/staticlib/libstrakewhip.a has to be built.
+No program turns an old network file, updates a list of findings, tells the areas that an edit names or reads the
+earlier form: of a mistake there (TURNED, RECHECKED, NAMED, EARLIER) the library's comparison has to report a difference
+of those calls, for which target/staticlib/libstrakewhip.a has to be built.
 """
 
 import os
@@ -19,6 +19,16 @@ HERE = os.path.dirname(os.path.abspath(__file__))
 TOP = os.path.join(HERE, "..")
 REFERENCE = os.path.join(TOP, "reference")
 ARCHIVES = os.path.abspath(os.path.join(TOP, "target", "staticlib"))
+
+# What refuses a report, in its order; and a clock that keeps the latest minute of the reports before.
+AHEAD = "            (report.time > report.present, FUTURE),\n"
+UNLISTED = "            (!network.lists(report.station), UNKNOWN),\n"
+ABSENT = "            (!there(report.station, report.train), MISSING),\n"
+KEPT = ("for (before, edit) in edits.iter().enumerate() {",
+        "let mut clock = 0;\n    for (before, edit) in edits.iter().enumerate() {\n        let mut edit = edit.clone();\n"
+        "        if let edits::Edit::ReportArrival(report) | edits::Edit::ReportDeparture(report) = &mut edit {\n"
+        "            clock = report.present.max(clock);\n            report.present = clock;\n        }\n"
+        "        let edit = &edit;")
 
 # Name, file, what stands there, what stands there instead.
 MUTANTS = [
@@ -69,7 +79,7 @@ MUTANTS = [
     ("dependency of three", "edits.rs", "2..=2", "2..=4"),
     ("equal trains", "edits.rs", "train <= *before", "train < *before"),
     ("1001 edits", "edits.rs", "0..=1000", "0..=1001"),
-    ("minute 2880", "edits.rs", "0..=LAST_MINUTE as u32", "0..=LAST_MINUTE as u32 + 1"),
+    ("time 2880", "edits.rs", "0..=LAST_MINUTE as u32", "0..=LAST_MINUTE as u32 + 1"),
     ("interval 241", "edits.rs", "0..=240", "0..=241"),
     ("train 10000", "edits.rs", "1..=9999", "1..=10000"),
     ("any in-link", "timetable.rs", "network.runs(link.line, link.previous, station)", "true"),
@@ -158,10 +168,11 @@ MUTANTS = [
     ("delete train 9", "machine.rs", "Edit::DeleteTrain { .. } => 0",
      "Edit::DeleteTrain { train } => if timetable.visits.keys().any(|(_, t)| t == train) { 0 } else { MISSING }"),
     ("removed at most 15", "machine.rs", "(before - timetable.visits.len()) as u32", "((before - timetable.visits.len()) as u32).min(15)"),
-    ("report keeps pending", "machine.rs", "visit.departure = Event::occurred_at(*time)", "visit.departure.time = *time"),
-    ("report 11", "machine.rs", "first_of(&[(!network.lists(*station), UNKNOWN), (!there(*station, *train), MISSING)])",
-     "first_of(&[(!network.lists(*station), UNKNOWN), (!there(*station, *train), MISSING), "
-     "(timetable.visit(*station, *train).is_some_and(|v| v.arrival.occurred && v.departure.occurred), OCCURRED)])"),
+    ("report keeps pending", "machine.rs", "visit.departure = Event::occurred_at(report.time)",
+     "visit.departure.time = report.time"),
+    ("report 11", "machine.rs", "(!there(report.station, report.train), MISSING),",
+     "(!there(report.station, report.train), MISSING),\n            (timetable.visit(report.station, report.train)"
+     ".is_some_and(|v| v.arrival.occurred && v.departure.occurred), OCCURRED),"),
     ("rule 1 equal", "findings.rs", "visit.departure.time < visit.arrival.time", "visit.departure.time <= visit.arrival.time"),
     ("rule 1 times only", "findings.rs", "|| (visit.departure.occurred && visit.arrival.pending())", ""),
     ("rule 2 strictly", "findings.rs", "other.departure.time + 1", "other.departure.time"),
@@ -331,10 +342,10 @@ MUTANTS = [
      "if visit.arrival.pending() { visit.mark = plan.mark; }"),
     ("amend the mark with 11", "machine.rs", "arrival_altered || track_altered",
      "(visit.arrival.occurred && visit.mark != plan.mark) || arrival_altered || track_altered"),
-    ("an arrival clears the mark", "machine.rs", "|visit| visit.arrival = Event::occurred_at(*time)",
-     "|visit| {\n visit.arrival = Event::occurred_at(*time);\n visit.mark = false; }"),
-    ("a departure clears the mark", "machine.rs", "|visit| visit.departure = Event::occurred_at(*time)",
-     "|visit| {\n visit.departure = Event::occurred_at(*time);\n visit.mark = false; }"),
+    ("an arrival clears the mark", "machine.rs", "|visit| visit.arrival = Event::occurred_at(report.time)",
+     "|visit| {\n visit.arrival = Event::occurred_at(report.time);\n visit.mark = false; }"),
+    ("a departure clears the mark", "machine.rs", "|visit| visit.departure = Event::occurred_at(report.time)",
+     "|visit| {\n visit.departure = Event::occurred_at(report.time);\n visit.mark = false; }"),
     ("stops without the mark", "railway.rs", "self.stops_unmarked() || self.mark", "self.stops_unmarked()"),
     ("stops by the mark alone", "railway.rs", "self.stops_unmarked() || self.mark", "self.mark"),
     ("a mark on a stop lifts it", "railway.rs", "self.stops_unmarked() || self.mark", "self.stops_unmarked() != self.mark"),
@@ -348,12 +359,65 @@ MUTANTS = [
     ("a request stop as planned", "projection.rs", "visit.departure.time.max(arrival)\n", "visit.departure.time\n"),
     ("a request stop does not wait", "projection.rs", "visit.departure.time.max(arrival)\n", "arrival\n"),
     ("no minute at a marked stop", "projection.rs", "if visit.stops_unmarked()", "if visit.stops_unmarked() && !visit.mark"),
+    ("15 at its own minute", "machine.rs", "report.time > report.present", "report.time >= report.present"),
+    ("15 from the second minute on", "machine.rs", "report.time > report.present", "report.time > report.present + 1"),
+    ("15 never", "machine.rs", AHEAD, ""),
+    ("15 for a report of the past", "machine.rs", "report.time > report.present", "report.time < report.present"),
+    ("15 behind 7", "machine.rs", AHEAD + UNLISTED, UNLISTED + AHEAD),
+    ("15 behind 9", "machine.rs", AHEAD + UNLISTED + ABSENT, UNLISTED + ABSENT + AHEAD),
+    ("15 behind 9 alone", "machine.rs", "report.time > report.present",
+     "report.time > report.present && (!network.lists(report.station) || there(report.station, report.train))"),
+    ("15 for arrivals alone", "machine.rs", "report.time > report.present",
+     "matches!(edit, Edit::ReportArrival(_)) && report.time > report.present"),
+    ("15 for departures alone", "machine.rs", "report.time > report.present",
+     "matches!(edit, Edit::ReportDeparture(_)) && report.time > report.present"),
+    ("15 for what is pending alone", "machine.rs", "report.time > report.present",
+     "report.time > report.present && timetable.visit(report.station, report.train).is_none_or(|v| v.arrival.pending())"),
+    ("15 by the planned time", "machine.rs", "report.time > report.present",
+     "timetable.visit(report.station, report.train).map_or(report.time, |v| v.arrival.time) > report.present"),
+    ("15 and yet done", "machine.rs", "refusal => Answer { refusal, removed: 0 },",
+     "FUTURE => Answer { refusal: FUTURE, removed: perform(network, timetable, edit) },\n"
+     "        refusal => Answer { refusal, removed: 0 },"),
+    ("15 of the file", "edits.rs", "        present: read_present(reader, form)?,\n    })",
+     "        present: read_present(reader, form)?,\n    })\n    .and_then(|report| if report.time <= report.present "
+     "{ Ok(report) } else { Err(FileRefusal { number: 15, place: reader.place() }) })"),
+    ("15 ends the list", "programs.rs", "let answer = machine::run(&network, &mut timetable, edit);",
+     "let answer = machine::run(&network, &mut timetable, edit);\n        if answer.refusal == 15 { break; }"),
+    ("15 not counted", "tally.rs", "if answer.refusal != 0 {",
+     "if answer.refusal == 15 { return self; }\n        if answer.refusal != 0 {"),
+    ("amendments judged", "machine.rs", "(!there(plan.station, plan.train), MISSING),",
+     "(!there(plan.station, plan.train), MISSING),\n            (plan.departure == 2879, FUTURE),"),
+    ("the minute kept as an arrival", "machine.rs", "visit.arrival = Event::occurred_at(report.time)",
+     "visit.arrival = Event::occurred_at(report.present)"),
+    ("the minute kept as a departure", "machine.rs", "visit.departure = Event::occurred_at(report.time)",
+     "visit.departure = Event::occurred_at(report.present)"),
+    ("a clock that never goes back", "programs.rs", *KEPT),
+    ("minute before the time", "edits.rs", "time: read_time(reader)?,\n        present: read_present(reader, form)?,",
+     "present: read_present(reader, form)?,\n        time: read_time(reader)?,"),
+    ("minute before the train", "edits.rs",
+     "train: Train(read_train(reader)?.value),\n        time: read_time(reader)?,\n        present: read_present(reader, form)?,",
+     "present: read_present(reader, form)?,\n        train: Train(read_train(reader)?.value),\n        time: read_time(reader)?,"),
+    ("minute 2880", "edits.rs", "Form::Newest => read_time(reader),",
+     "Form::Newest => Ok(Minute::from(reader.within(0..=LAST_MINUTE as u32 + 1)?.value)),"),
+    ("no minute 2879", "edits.rs", "Form::Newest => read_time(reader),",
+     "Form::Newest => Ok(Minute::from(reader.within(0..=LAST_MINUTE as u32 - 1)?.value)),"),
+    ("no minute 0", "edits.rs", "Form::Newest => read_time(reader),",
+     "Form::Newest => Ok(Minute::from(reader.within(1..=LAST_MINUTE as u32)?.value)),"),
+    ("no minutes", "edits.rs", "Form::Newest => read_time(reader),", "Form::Newest => Ok(LAST_MINUTE),"),
+    ("no minutes of departures", "edits.rs", "8 => Edit::ReportDeparture(read_report(reader, form)?)",
+     "8 => Edit::ReportDeparture(read_report(reader, Form::Earlier)?)"),
     # Wrong only in some orders: the comparison of reorderings has to find these, with the mistake on both sides.
     ("REORDERED limit of the whole", "machine.rs", "let full = |station| timetable.visits_at(station).len() >= VISITS_AT_STATION;",
      "let full = |station| timetable.visits_at(station).len() >= VISITS_AT_STATION || timetable.visits.len() >= 8;"),
     ("REORDERED relations elsewhere", "machine.rs", "(relations.contains(relation), THERE),",
      "(network.stations.keys().any(|s| timetable.relations_at(*s).contains(relation)), THERE),"),
     ("REORDERED answers by rank", "programs.rs", "answer.removed.into()]", "i64::from(answer.removed) + i64::from(before == 2)]"),
+    ("REORDERED a clock that never goes back", "programs.rs", *KEPT),
+    # A report that is answered with 15 may pass the edit that adds its visit.
+    ("REORDERED 15 for what is there alone", "machine.rs", "report.time > report.present",
+     "report.time > report.present && there(report.station, report.train)"),
+    # Wrong only in what refuses an edit before a sheet is looked at, and so in the areas that it names.
+    ("NAMED by a report from the future", "machine.rs", "[FUTURE, UNKNOWN].contains", "[UNKNOWN].contains"),
     # Wrong only in turning an old network file.
     ("TURNED without closures", "network.rs",
      "numbers.push(self.closures.len() as u32);\n        for closure in &self.closures {",
@@ -395,10 +459,16 @@ MUTANTS = [
      "mark: read_mark(reader, if form == Form::Earlier { Form::Newest } else { form })?"),
     ("EARLIER visits refused in the new file", "timetable.rs", "place: station.place, station: Station(station.value), train",
      "place: station.place + usize::from(form == Form::Earlier) * visits.len(), station: Station(station.value), train"),
+    ("EARLIER reports carry 0", "edits.rs", "Form::Earlier => Ok(LAST_MINUTE)", "Form::Earlier => Ok(0)"),
+    ("EARLIER reports carry 1440", "edits.rs", "Form::Earlier => Ok(LAST_MINUTE)", "Form::Earlier => Ok(1440)"),
+    ("EARLIER reports read with a minute", "edits.rs", "Form::Earlier => Ok(LAST_MINUTE)",
+     "Form::Earlier => read_time(reader)"),
+    ("EARLIER departures read with a minute", "edits.rs", "8 => Edit::ReportDeparture(read_report(reader, form)?)",
+     "8 => Edit::ReportDeparture(read_report(reader, Form::Newest)?)"),
 ]
 
 # The calls of the library that differ where a program cannot show it.
-OF_THE_LIBRARY = {"TURNED": ("turn",), "RECHECKED": ("recheck", "recheck_area"),
+OF_THE_LIBRARY = {"TURNED": ("turn",), "RECHECKED": ("recheck", "recheck_area"), "NAMED": ("names",),
                   "EARLIER": ("run_early", "read_early")}
 
 

@@ -3,9 +3,9 @@
 
 def areas_named(network, edit, refusal):
     """"An edit names the areas of its stations s and p; edit 11 names every area with a station; one refused with 3 or 7
-    names none."
+    names none." Document 02, W7, of 15: "such an edit names no area".
     """
-    if refusal == 7:
+    if refusal in (7, 15):
         return set()
     if edit[0] == 11:
         return {area for area, _ in network.stations.values()}
@@ -15,6 +15,13 @@ def areas_named(network, edit, refusal):
     if edit[0] in (4, 5):
         stations.add(edit[3])
     return {network.stations[station][0] for station in stations}
+
+
+def changes_places(order, one, named, station):
+    """Whether an edit at a station, which is its area and tracks or none, passed one that names its area."""
+    rank = {at: position for position, at in enumerate(order)}
+    passed = [areas for at, areas in enumerate(named) if (at < one) != (rank[at] < rank[one])]
+    return station is not None and any(station[0] in areas for areas in passed)
 
 
 def reordered(r, named):

@@ -4,8 +4,8 @@ Nothing here decides what is right.
 """
 
 from drafts import (
-    FIELDS, LAST_MINUTE, LINE, LONGEST_INPUT, RUN, STATION, TIME, TRACK, TRAIN, Draft, Network, clamp, make_closures,
-    make_network)
+    FIELDS, LAST_MINUTE, LINE, LONGEST_INPUT, RUN, STATION, TIME, TRACK, TRAIN, Draft, Network, clamp, from_future,
+    make_closures, make_network)
 
 
 class Visit:
@@ -48,6 +48,11 @@ class Picture:
     def mark(self):
         """A stop mark; mostly it says nothing that the times and links don't say."""
         return int(self.r.random() < 0.4)
+
+    def minute(self, time):
+        """The minute that a report of a time carries, mostly this time or later; a clock may be wrong, and go back."""
+        off = self.r.choice([1, 1, 1, 2, 5, self.r.randint(1, 60)])
+        return clamp(self.r.choices([time, time + off, LAST_MINUTE, self.time(), time - off], [4, 4, 2, 1, 2])[0], TIME)
 
     def stay(self, arrival):
         return clamp(arrival + self.r.choice([0, 0, 1, 2, 2, 4, 10, -1 if self.r.random() < 0.3 else 1]), TIME)
@@ -181,9 +186,12 @@ class Picture:
             return None
         at, train = self.r.choice(list(self.visits))
         visit = self.visits[at, train]
-        if self.r.random() < 0.6:
-            return (7, at, train, self.near(visit.arrival))
-        return (8, at, train, self.near(visit.departure))
+        kind, time = (7, visit.arrival) if self.r.random() < 0.6 else (8, visit.departure)
+        time = self.near(time)
+        if self.r.random() < 0.1:
+            # A visit that need not be there, at a station that need not be listed.
+            at, train = self.r.choice([self.station(), self.r.randint(*STATION)]), self.r.choice(self.trains)
+        return (kind, at, train, time, self.minute(time))
 
     def relate(self):
         station = self.station()
@@ -247,7 +255,7 @@ class Picture:
                 self.leave(station, edit[1])
             return
         at = edit[1]
-        if at not in self.network.stations:
+        if at not in self.network.stations or from_future(edit):
             return
         if kind in (9, 10):
             there = self.relations[at]

@@ -4,7 +4,8 @@ use crate::number::{FileRefusal, Number, Reader, RANGE};
 use crate::railway::{Line, Minute, Relation, Station, Track, Train, LAST_MINUTE};
 
 /// The forms of files of edits and timetables. W6: "Old files are read as before by naming the earlier form when
-/// reading, and their visits get mark 0; what is written is the new form".
+/// reading, and their visits get mark 0; what is written is the new form". W7: "A report read in W6's earlier form
+/// carries 2879."
 #[derive(Clone, Copy, Debug, PartialEq, Eq)]
 pub enum Form {
     Earlier,
@@ -30,6 +31,15 @@ pub struct Extension {
     pub run: Minute,
 }
 
+/// The fields of edits 7 and 8. W7: they "now carry the present minute, 0..2879, as a last field".
+#[derive(Clone, Copy, Debug, PartialEq, Eq)]
+pub struct Report {
+    pub station: Station,
+    pub train: Train,
+    pub time: Minute,
+    pub present: Minute,
+}
+
 #[derive(Clone, Debug, PartialEq, Eq)]
 pub enum Edit {
     Place(Plan),
@@ -38,8 +48,8 @@ pub enum Edit {
     DeleteFirst { station: Station, train: Train, neighbour: Station },
     DeleteLast { station: Station, train: Train, neighbour: Station },
     Amend(Plan),
-    ReportArrival { station: Station, train: Train, time: Minute },
-    ReportDeparture { station: Station, train: Train, time: Minute },
+    ReportArrival(Report),
+    ReportDeparture(Report),
     AddRelation { station: Station, relation: Relation },
     RemoveRelation { station: Station, relation: Relation },
     DeleteTrain { train: Train },
@@ -54,7 +64,7 @@ impl Edit {
             Edit::DeleteFirst { station, neighbour, .. } | Edit::DeleteLast { station, neighbour, .. } => {
                 Some(vec![*station, *neighbour])
             }
-            Edit::ReportArrival { station, .. } | Edit::ReportDeparture { station, .. } => Some(vec![*station]),
+            Edit::ReportArrival(report) | Edit::ReportDeparture(report) => Some(vec![report.station]),
             Edit::AddRelation { station, .. } | Edit::RemoveRelation { station, .. } => Some(vec![*station]),
             Edit::DeleteTrain { .. } => None,
         }
@@ -89,14 +99,23 @@ pub fn read_time(reader: &mut Reader) -> Result<Minute, FileRefusal> {
     Ok(Minute::from(reader.within(0..=LAST_MINUTE as u32)?.value))
 }
 
+/// W7: "the present minute, 0..2879"; "A report read in W6's earlier form carries 2879."
+fn read_present(reader: &mut Reader, form: Form) -> Result<Minute, FileRefusal> {
+    match form {
+        Form::Earlier => Ok(LAST_MINUTE),
+        Form::Newest => read_time(reader),
+    }
+}
+
 pub fn read_run(reader: &mut Reader) -> Result<Minute, FileRefusal> {
     Ok(Minute::from(reader.within(1..=240)?.value))
 }
 
-/// "A relation is kind (1, 2, 3), interval, count of trains, trains (rising, except arriver, departer, whose count is 2)."
+/// "A relation is kind (1, 2, 3), interval, count of trains, trains (rising, except arriver, departer, whose count is
+/// 2)."
 ///
-/// `compare` is told each number with whether it is the last one, after its own range has been tested. In a file of edits
-/// relations have no order among each other, and it does nothing.
+/// `compare` is told each number with whether it is the last one, after its own range has been tested. In a file of
+/// edits relations have no order among each other, and it does nothing.
 pub fn read_relation(
     reader: &mut Reader,
     compare: &mut dyn FnMut(Number, bool) -> Result<(), FileRefusal>,
@@ -141,6 +160,15 @@ fn read_extension(reader: &mut Reader) -> Result<Extension, FileRefusal> {
     Ok(Extension { neighbour: Station(read_station(reader)?.value), line: read_line(reader)?, run: read_run(reader)? })
 }
 
+fn read_report(reader: &mut Reader, form: Form) -> Result<Report, FileRefusal> {
+    Ok(Report {
+        station: Station(read_station(reader)?.value),
+        train: Train(read_train(reader)?.value),
+        time: read_time(reader)?,
+        present: read_present(reader, form)?,
+    })
+}
+
 fn read_edit(reader: &mut Reader, form: Form) -> Result<Edit, FileRefusal> {
     let mut unordered = |_: Number, _: bool| Ok(());
     Ok(match reader.within(1..=11)?.value {
@@ -158,16 +186,8 @@ fn read_edit(reader: &mut Reader, form: Form) -> Result<Edit, FileRefusal> {
             neighbour: Station(read_station(reader)?.value),
         },
         6 => Edit::Amend(read_plan(reader, form)?),
-        7 => Edit::ReportArrival {
-            station: Station(read_station(reader)?.value),
-            train: Train(read_train(reader)?.value),
-            time: read_time(reader)?,
-        },
-        8 => Edit::ReportDeparture {
-            station: Station(read_station(reader)?.value),
-            train: Train(read_train(reader)?.value),
-            time: read_time(reader)?,
-        },
+        7 => Edit::ReportArrival(read_report(reader, form)?),
+        8 => Edit::ReportDeparture(read_report(reader, form)?),
         9 => Edit::AddRelation {
             station: Station(read_station(reader)?.value),
             relation: read_relation(reader, &mut unordered)?,

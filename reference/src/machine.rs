@@ -3,8 +3,9 @@
 use crate::edits::{Edit, Extension, Plan};
 use crate::network::Network;
 use crate::railway::{
-    Event, InLink, OutLink, Relation, Station, Timetable, Train, Visit, RELATIONS_AT_STATION, VISITS_AT_STATION,
+    Area, Event, InLink, OutLink, Relation, Station, Timetable, Train, Visit, RELATIONS_AT_STATION, VISITS_AT_STATION,
 };
+use std::collections::BTreeSet;
 
 /// "7 station, track or line unknown, or the line doesn't run that way".
 pub const UNKNOWN: u32 = 7;
@@ -18,6 +19,9 @@ pub const LINKED: u32 = 10;
 pub const OCCURRED: u32 = 11;
 /// "12 a station limit is reached".
 pub const LIMIT: u32 = 12;
+/// W7: "It refuses, with 15 (the edit's answer, never a file's), a report whose event time is later than the minute it
+/// carries".
+pub const FUTURE: u32 = 15;
 
 /// "An answer is a refusal number or 0, and the count of visits removed."
 #[derive(Clone, Copy, Debug, PartialEq, Eq)]
@@ -34,8 +38,8 @@ pub fn run(network: &Network, timetable: &mut Timetable, edit: &Edit) -> Answer 
     }
 }
 
-/// The first condition that holds, as its refusal number; the conditions are listed in the paper's order: "7, 6, 8, 9, 10,
-/// 11, 12".
+/// The first condition that holds, as its refusal number; the conditions are listed in the paper's order: "7, 6, 8, 9,
+/// 10, 11, 12", and before them W7's 15, "tested straight after 3".
 fn first_of(conditions: &[(bool, u32)]) -> u32 {
     conditions.iter().find(|(holds, _)| *holds).map_or(0, |(_, refusal)| *refusal)
 }
@@ -89,9 +93,11 @@ pub fn refusal(network: &Network, timetable: &Timetable, edit: &Edit) -> u32 {
             (!there(plan.station, plan.train), MISSING),
             (alters_what_occurred(timetable, plan), OCCURRED),
         ]),
-        Edit::ReportArrival { station, train, .. } | Edit::ReportDeparture { station, train, .. } => {
-            first_of(&[(!network.lists(*station), UNKNOWN), (!there(*station, *train), MISSING)])
-        }
+        Edit::ReportArrival(report) | Edit::ReportDeparture(report) => first_of(&[
+            (report.time > report.present, FUTURE),
+            (!network.lists(report.station), UNKNOWN),
+            (!there(report.station, report.train), MISSING),
+        ]),
         Edit::AddRelation { station, relation } => {
             let relations = timetable.relations_at(*station);
             first_of(&[
@@ -106,6 +112,26 @@ pub fn refusal(network: &Network, timetable: &Timetable, edit: &Edit) -> u32 {
         // "Removes its visits, if any, and takes t from all relations; never 9".
         Edit::DeleteTrain { .. } => 0,
     }
+}
+
+/// What refuses an edit before any sheet is looked at, 15 or 7, or 0: a report's minute and the network tell it.
+pub fn own_refusal(network: &Network, edit: &Edit) -> u32 {
+    let refusal = refusal(network, &Timetable::default(), edit);
+    if [FUTURE, UNKNOWN].contains(&refusal) {
+        refusal
+    } else {
+        0
+    }
+}
+
+/// "An edit names the areas of its stations s and p; edit 11 names every area with a station; one refused with 3 or 7
+/// names none." W7, of 15: "such an edit names no area".
+pub fn names(network: &Network, edit: &Edit) -> BTreeSet<Area> {
+    if own_refusal(network, edit) != 0 {
+        return BTreeSet::new();
+    }
+    let stations = edit.stations().unwrap_or_else(|| network.stations.keys().copied().collect());
+    stations.iter().filter_map(|station| network.stations.get(station)).map(|facts| facts.area).collect()
 }
 
 /// "(s, t) has no in-link and its out-link goes to p; (p, t) has s and that line as in-link."
@@ -196,13 +222,13 @@ fn perform(network: &Network, timetable: &mut Timetable, edit: &Edit) -> u32 {
             });
             0
         }
-        // "Sets time and occurred anew."
-        Edit::ReportArrival { station, train, time } => {
-            change(timetable, *station, *train, |visit| visit.arrival = Event::occurred_at(*time));
+        // "Sets time and occurred anew."; the minute is judged, and not kept.
+        Edit::ReportArrival(report) => {
+            change(timetable, report.station, report.train, |visit| visit.arrival = Event::occurred_at(report.time));
             0
         }
-        Edit::ReportDeparture { station, train, time } => {
-            change(timetable, *station, *train, |visit| visit.departure = Event::occurred_at(*time));
+        Edit::ReportDeparture(report) => {
+            change(timetable, report.station, report.train, |visit| visit.departure = Event::occurred_at(report.time));
             0
         }
         Edit::AddRelation { station, relation } => {
@@ -230,11 +256,7 @@ fn change(timetable: &mut Timetable, station: Station, train: Train, how: impl F
     }
 }
 
-fn change_relations(
-    timetable: &mut Timetable,
-    station: Station,
-    how: impl FnOnce(&mut std::collections::BTreeSet<Relation>) -> bool,
-) {
+fn change_relations(timetable: &mut Timetable, station: Station, how: impl FnOnce(&mut BTreeSet<Relation>) -> bool) {
     let mut relations = timetable.relations_at(station);
     how(&mut relations);
     timetable.set_relations(station, relations);

@@ -92,13 +92,13 @@ fn no_wrap_past_the_last_minute() {
 fn edits_meet_closures() {
     let edits = [1, 1, 7, 1, 0, 100, 102, 3, 2, 7, 1, 0, 114, 115, 1, 1, 12];
     let run = |closures: &[[u32; 3]], more: &[u32]| {
-        let count = 2 + more.len() as u32 / 4;
+        let count = 2 + more.len() as u32 / 5;
         shift(&file(&join(&[&closed(closures), &[count], &edits, more])))
     };
     assert_eq!(lines(&run(&[[1, 90, 102]], &[]), "F"), [""; 0]);
     assert_eq!(lines(&run(&[[1, 90, 103]], &[]), "F"), ["1 11 7 1"]);
-    assert_eq!(lines(&run(&[[1, 90, 103]], &[7, 1, 7, 100]), "F"), ["1 11 7 1"]);
-    assert_eq!(lines(&run(&[[1, 90, 103]], &[7, 1, 7, 100, 8, 1, 7, 102]), "F"), [""; 0]);
+    assert_eq!(lines(&run(&[[1, 90, 103]], &[7, 1, 7, 100, 100]), "F"), ["1 11 7 1"]);
+    assert_eq!(lines(&run(&[[1, 90, 103]], &[7, 1, 7, 100, 100, 8, 1, 7, 102, 102]), "F"), [""; 0]);
 }
 
 #[test]

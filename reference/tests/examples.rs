@@ -159,14 +159,14 @@ fn deletions() {
 fn amendments() {
     let output = edited(&[
         &[1, 1, 7, 1, 0, 100, 110],
-        &[7, 1, 7, 101],
+        &[7, 1, 7, 101, 101],
         &[6, 1, 7, 1, 0, 101, 112], // the same arrival and track
         &[6, 1, 7, 2, 0, 101, 112], // another track
         &[6, 1, 7, 1, 0, 102, 112], // another arrival
-        &[8, 1, 7, 111],
+        &[8, 1, 7, 111, 111],
         &[6, 1, 7, 1, 0, 101, 111],
         &[6, 1, 7, 1, 0, 101, 112], // another departure
-        &[7, 1, 7, 99],             // reported anew
+        &[7, 1, 7, 99, 112],        // reported anew
         &[6, 1, 7, 1, 0, 99, 111],
     ]);
     let answers: Vec<&str> = lines(&output, "E").iter().map(|line| line.split(' ').nth(1).unwrap()).collect();

@@ -187,7 +187,7 @@ fn amending_sets_the_mark_anew() {
     assert_eq!(then(1, &[&amend(1)]), answered(&["0"], true));
     assert_eq!(then(1, &[&amend(0)]), answered(&["0"], false));
     // "Never 11": also once the arrival, or both times, have occurred.
-    let reports: [&[u32]; 2] = [&[7, 2, 7, 114], &[8, 2, 7, 114]];
+    let reports: [&[u32]; 2] = [&[7, 2, 7, 114, 114], &[8, 2, 7, 114, 2879]];
     assert_eq!(then(0, &[reports[0], &amend(1)]), answered(&["0", "0"], true));
     assert_eq!(then(1, &[reports[0], &amend(0)]), answered(&["0", "0"], false));
     assert_eq!(then(0, &[reports[0], reports[1], &amend(1)]), answered(&["0", "0", "0"], true));
@@ -199,7 +199,7 @@ fn amending_sets_the_mark_anew() {
 
 #[test]
 fn reports_and_links_keep_the_mark() {
-    let reports: [&[u32]; 2] = [&[7, 2, 7, 114], &[8, 2, 7, 114]];
+    let reports: [&[u32]; 2] = [&[7, 2, 7, 114, 114], &[8, 2, 7, 114, 2879]];
     assert_eq!(then(1, &reports), answered(&["0", "0"], true));
     assert_eq!(then(0, &reports), answered(&["0", "0"], false));
     // The last visit goes and comes back, marked or not: (p, t) is not marked by it.
@@ -321,8 +321,9 @@ fn earlier_files_are_read_with_mark_0() {
     assert_eq!(write(&timetable), file(&newest));
     assert_eq!(write(&timetable_of(&[0, 0], Form::Earlier).unwrap()), file(&[0, 0]));
 
-    let further: &[u32] = &[4, 1, 7, 2, 7, 1, 7, 130, 9, 1, 3, 5, 2, 7, 7, 10, 1, 3, 5, 2, 7, 7, 11, 7];
-    let newest = join(&[&[9], &MARKED.concat(), further]);
+    let further: &[u32] = &[4, 1, 7, 2, 9, 1, 3, 5, 2, 7, 7, 10, 1, 3, 5, 2, 7, 7, 11, 7, 7, 1, 7, 130];
+    // The last of them is a report, which in the newest form has its minute behind it.
+    let newest = join(&[&[9], &MARKED.concat(), further, &[2879]]);
     let earlier = join(&[&[9], &MARKED.map(without_mark).concat(), further]);
     let edits = edits_of(&earlier, Form::Earlier).unwrap();
     assert_eq!(edits.len(), 9);
@@ -349,7 +350,7 @@ fn each_form_read_as_the_other() {
     assert_eq!(edits_of(&[1, 1, 1, 7, 1, 1, 102], Form::Newest), Err((1, 7)));
     assert_eq!(timetable_of(&[1, 2, 7, 1, 0, 110, 0, 110, 0, 0, 0, 0], Form::Earlier), Err((3, 5)));
     assert_eq!(timetable_of(&[1, 2, 7, 1, 110, 0, 110, 0, 0, 0, 0], Form::Newest), Err((3, 4)));
-    // A file of both forms: with no visit, or no edit that carries a track.
+    // A file of both forms: with no visit, or no edit that carries a track or a minute.
     for form in [Form::Earlier, Form::Newest] {
         assert_eq!(timetable_of(&[0, 1, 2, 1, 5, 2, 7, 8], form).map(|timetable| timetable.relation_count()), Ok(1));
         assert_eq!(edits_of(&[1, 11, 7], form).map(|edits| edits.len()), Ok(1));

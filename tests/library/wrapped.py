@@ -9,7 +9,7 @@ import strakewhip as library
 NETWORK = bytes([2, 1, 1, 2, 2, 2, 1, 3, 1, 1, 1, 2, 3, 10, 10, 1, 0])
 EDITS = [bytes([1, 1, 7, 1, 0, 100, 102]), bytes([1, 2, 9, 1, 0, 110, 111]), bytes([3, 2, 7, 1, 0, 115, 115, 1, 1, 12]),
          bytes([9, 1, 1, 5, 2, 7, 9]), bytes([11, 9])]
-# The same in the earlier form, without marks.
+# The same in the earlier form, without marks; none of them is a report.
 EARLY = [edit[:4] + edit[5:] if edit[0] in (1, 3) else edit for edit in EDITS]
 # Three stations in a row: train 7 is at the middle one for a minute, where train 8 stands; a connection of the two.
 ROW = bytes([3, 1, 1, 2, 2, 2, 2, 3, 2, 2, 3, 2, 1, 1, 2, 3, 10, 10, 1, 2, 2, 3, 3, 10, 10, 1, 0])
@@ -25,6 +25,38 @@ def refused(number, file, place, call, *arguments):
         assert (found.refusal, found.file, found.place) == (number, file, place), found
         return
     raise AssertionError(f"{call.__name__} is not refused")
+
+
+def reports(division, sheet):
+    """Reports of train 7, which is at station 1: what they leave, and those from the future."""
+    bad, worse = b"\1" * library.SHEET, b"\1" * library.DIVISION
+    for kind in (7, 8):
+        # At its own minute and at a later one a report is taken, and leaves the same bytes.
+        taken = [bytes([kind, 1, 7, 101, minute]) for minute in (101, 127)]
+        sheets = [bytearray(sheet) for _ in taken]
+        assert [library.edit_sheet(NETWORK, edit, own) for edit, own in zip(taken, sheets)] == [0, 0]
+        assert sheets[0] == sheets[1] != sheet
+        # From the future it is refused before a sheet, its station or its visit is looked at.
+        for station, train in ((1, 7), (1, 8), (3, 7)):
+            future = bytes([kind, station, train, 101, 100])
+            own, rooms = bytearray(bad), bytearray(worse)
+            refused(15, 0, 0, library.names, NETWORK, future)
+            refused(15, 0, 0, library.edit, NETWORK, future, rooms)
+            refused(15, 0, 0, library.edit_sheet, NETWORK, future, own)
+            refused(15, 0, 0, library.recheck, NETWORK, own, future, [(2, 1, 1, 1), (1, 1, 1, 1)])
+            refused(15, 0, 0, library.recheck_area, NETWORK, own, future, 1, [])
+            refused(3, 0, 0, library.recheck_area, NETWORK, own, future, 0, [])
+            assert own == bad and rooms == worse
+        # A list runs on, and the tally counts it; the earlier form has no minute, and takes the report.
+        future, rooms, others = bytes([kind, 1, 7, 101, 100]), bytearray(division), bytearray(division)
+        assert library.run(NETWORK, bytes([2]) + future + taken[0], rooms) == [(15, 0), (0, 0)]
+        assert library.run_early(NETWORK, bytes([1]) + future[:4], others) == [(0, 0)] and others == rooms
+        assert library.raise_tally(future, 15, 0, [1, 2, 3, 4]) == [1, 3, 3, 4]
+        # The minute is missing, one number too many, and 2880.
+        refused(1, 2, 4, library.names, NETWORK, future[:4])
+        refused(1, 2, 5, library.run_early, NETWORK, bytes([1]) + future, others)
+        refused(3, 2, 4, library.edit, NETWORK, future[:4] + bytes([192, 22]), others)
+        assert others == rooms
 
 
 def main():
@@ -75,6 +107,8 @@ def main():
     library.merge(ROW, rooms, row)
     assert library.findings(ROW, row) == [(2, 4, 1, 0)] and row[512 + 32 + 14] == 0
     assert library.project(ROW, row, 2, 7, 105) == [(2, 105, 105, -9), (3, 117, 127, -9)]
+
+    reports(division, sheet)
 
     # Line 1 is closed up to train 7's departure, and a minute longer: a finding more, in the first area's list.
     closed = [NETWORK[:-1] + bytes([1, 1, 90, end]) for end in (102, 103)]

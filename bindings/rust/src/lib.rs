@@ -3,11 +3,11 @@
 //! A network, an edit, a list of edits and a timetable are the bytes of their files. In a network's, each line has two
 //! least running times, that of passenger trains and then that of freight trains, numbered 5000 and up; it ends with
 //! the count of its closures and the closures. Behind a track stands the stop mark of its edit or visit, 1 for a
-//! request stop, else 0; files of edits and of timetables without marks, the earlier form, have functions of their own.
-//! A sheet is [`SHEET`] bytes, a division [`DIVISION`], six sheets by area; all zeros are an empty one. Every function
-//! answers on every input. A refusal is an [`Error`], and leaves every lent element as it was; each function names its
-//! refusals in the order in which they are tested. "The network" among them stands for 1, 2 or 3, then 14, then 4 of
-//! the network's file, with its place.
+//! request stop, else 0; the last field of a report is the present minute. Files of edits and of timetables without
+//! marks and minutes, the earlier form, have functions of their own. A sheet is [`SHEET`] bytes, a division
+//! [`DIVISION`], six sheets by area; all zeros are an empty one. Every function answers on every input. A refusal is an
+//! [`Error`], and leaves every lent element as it was; each function names its refusals in the order in which they are
+//! tested. "The network" among them stands for 1, 2 or 3, then 14, then 4 of the network's file, with its place.
 
 pub mod raw;
 mod refusal;
@@ -99,14 +99,14 @@ pub fn turn(form: Form, file: &[u8], out: &mut [u8]) -> Result<usize, Error> {
 /// The areas that an edit names, so that their sheets can be locked before it runs.
 ///
 /// An edit is the bytes that it has in a file, kind and fields, and nothing behind them. Refuses: the network; 1, 2, 3
-/// of the edit; 7. A refused edit names none.
+/// of the edit; 15, 7. A refused edit names none.
 pub fn names(network: &[u8], edit: &[u8]) -> Result<Areas, Error> {
     let reply = unsafe { raw::strakewhip_names(network.as_ptr(), network.len(), edit.as_ptr(), edit.len()) };
     told(reply).map(|reply| Areas(reply.length as u8))
 }
 
 /// One edit on a division: it reads and changes only the sheets of the areas that it names. Answers how many visits it
-/// removed. Refuses: 5; the network; 1, 2, 3 of the edit; 7, 6, 8, 9, 10, 11, 12.
+/// removed. Refuses: 5; the network; 1, 2, 3 of the edit; 15, 7, 6, 8, 9, 10, 11, 12.
 pub fn edit(network: &[u8], edit: &[u8], division: &mut [u8]) -> Result<u8, Error> {
     let reply = unsafe {
         raw::strakewhip_edit(
@@ -155,8 +155,8 @@ pub fn run(network: &[u8], edits: &[u8], division: &mut [u8], answers: &mut [u8]
     told(reply).map(|reply| reply.length)
 }
 
-/// The edits of a file in the earlier form, which have no mark and carry 0. Refuses as [`run`] does, with the place in
-/// the earlier file.
+/// The edits of a file in the earlier form, which have no mark and carry 0; its reports have no minute and carry 2879.
+/// Refuses as [`run`] does, with the place in the earlier file.
 pub fn run_early(network: &[u8], edits: &[u8], division: &mut [u8], answers: &mut [u8]) -> Result<usize, Error> {
     let reply = unsafe {
         raw::strakewhip_run_early(
@@ -265,8 +265,8 @@ pub fn pair_findings(
 /// The list of findings after one edit, from the sheet of all stations after it and the list before it: what the edit
 /// does not make stale of `list`, together with what is redone. Given the list of the sheet before, it is that of the
 /// sheet after, at the cost of the stations that the edit names and of those joined to them. Answers how many numbers
-/// there are. Refuses: 5; the network; 1, 2, 3 of the edit; 7; 6; 3 of a list that does not rise strictly, four numbers
-/// a finding; 13.
+/// there are. Refuses: 5; the network; 1, 2, 3 of the edit; 15; 7; 6; 3 of a list that does not rise strictly, four
+/// numbers a finding; 13.
 pub fn recheck(network: &[u8], sheet: &[u8], edit: &[u8], list: &[u16], out: &mut [u16]) -> Result<usize, Error> {
     let reply = unsafe {
         raw::strakewhip_recheck(
@@ -285,8 +285,8 @@ pub fn recheck(network: &[u8], sheet: &[u8], edit: &[u8], list: &[u16], out: &mu
     told(reply).map(|reply| reply.length)
 }
 
-/// The same for one area, from its sheet, also where the edit names other areas alone. Refuses as [`recheck`] does, 3 of
-/// the area before 7.
+/// The same for one area, from its sheet, also where the edit names other areas alone. Refuses as [`recheck`] does, 3
+/// of the area before 15.
 pub fn recheck_area(
     network: &[u8],
     sheet: &[u8],

@@ -35,10 +35,12 @@ pub enum Refusal {
     OutputTooShort = 13,
     /// 14: a closure's end is not after its start.
     ClosureEnd = 14,
+    /// 15: a report is from the future: its time is later than the minute that it carries.
+    Future = 15,
 }
 
 impl Refusal {
-    const ALL: [Refusal; 14] = [
+    const ALL: [Refusal; 15] = [
         Refusal::FileLength,
         Refusal::NumberSpelling,
         Refusal::OutOfRange,
@@ -53,6 +55,7 @@ impl Refusal {
         Refusal::LimitReached,
         Refusal::OutputTooShort,
         Refusal::ClosureEnd,
+        Refusal::Future,
     ];
 
     /// The documents' number.
@@ -60,7 +63,7 @@ impl Refusal {
         self as u8
     }
 
-    /// The refusal of a number from 1 to 14.
+    /// The refusal of a number from 1 to 15.
     pub fn from_number(number: u8) -> Option<Refusal> {
         Refusal::ALL.into_iter().find(|refusal| refusal.number() == number)
     }
@@ -83,6 +86,7 @@ impl fmt::Display for Refusal {
             Refusal::LimitReached => "a station limit is reached",
             Refusal::OutputTooShort => "the output is too short",
             Refusal::ClosureEnd => "a closure's end is not after its start",
+            Refusal::Future => "the report is from the future: its time is later than the minute that it carries",
         })
     }
 }
@@ -112,7 +116,7 @@ impl Error {
         if reply.refusal == 0 {
             return None;
         }
-        let refusal = Refusal::from_number(reply.refusal).expect("the library answers 0 to 14");
+        let refusal = Refusal::from_number(reply.refusal).expect("the library answers 0 to 15");
         let place = match reply.file {
             0 => None,
             1 => Some((File::Network, reply.place)),

@@ -1,5 +1,5 @@
--- What refuses an edit before any sheet is looked at. Document 01, "Who brings on which number": "Order: 5, 3, 4, 7".
--- Assumes nothing.
+-- What refuses an edit before any sheet is looked at. Document 01, "Who brings on which number": "Order: 5, 3, 4, 7";
+-- straight after 3 stand W7's 15 and then W1's 14, "of numbers so placed the higher first". Assumes nothing.
 use Prim.Native.Nat.{ℕ}
 use mathlib.Core.Bool.{Bool, true, not, _&&_}
 use Rattle.base.specs.Choice.{_if_else_}
@@ -16,7 +16,7 @@ fits-network n (throughout t) = true
 unfoldable pub unknown-refusal : Network → Edit → ℕ
 unknown-refusal n e = 7 if not (fits-network n (meaning e)) else 0
 
--- 3 of the edit or the network, 4, 7, or 0
+-- 3 of the edit or the network, 15 of the edit, 14 or 4 of the network, 7 of both, or 0
 unfoldable pub early-refusal : Network → Edit → ℕ
 early-refusal n e = early (edit-refusal e) (network-refusal n) (unknown-refusal n e)
 

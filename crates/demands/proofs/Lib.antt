@@ -12,3 +12,4 @@ pub mod FilesHold
 pub mod TurningHolds
 pub mod RechecksHold
 pub mod ReleasesHold
+pub mod ReportsHold

@@ -15,7 +15,7 @@ use Rattle.railway.specs.Ranges.{station-ok}
 use Rattle.network.specs.Networks.{network-refusal, listed, area-of}
 use Rattle.timetable.specs.Tables.{empty}
 use Rattle.timetable.specs.Machine.{Timetable, nothing-placed, refusal, answer, after}
-use Rattle.timetable.specs.Groups.{six, in-group, names, names-group, divide, merge, gather, divided-answer, divided-after}
+use Rattle.timetable.specs.Groups.{six, in-group, names, names-group, divide, merge, gather, divided-answer, divided-after, naming-none}
 use Rattle.timetable.specs.Good.{Whole, table-good}
 use Rattle.timetable.proofs.Locality.{names-none, others-kept}
 use Rattle.timetable.specs.Refusals.{call-refusal}
@@ -42,15 +42,15 @@ unfolding every
 every-agree f g ok h [] t = refl
 every-agree f g ok h (x ∷ xs) t = ap₂ (λ (a b : Bool). a && b) (h x (every-head ok x xs t)) (every-agree f g ok h xs (every-tail ok x xs t))
 
--- 3 and 7 come before a sheet is looked at
-early-said : (fits : Bool) (k : ℕ) (sheets : Bool) → T (eqb (call-refusal fits k sheets 0) 3 || eqb (call-refusal fits k sheets 0) 7)
+-- 3, 7 and 15 come before a sheet is looked at
+early-said : (fits : Bool) (k : ℕ) (sheets : Bool) → T (naming-none (call-refusal fits k sheets 0))
     → (call-refusal fits k sheets 0 ≡ k) × ¬ (k ≡ 0)
 early-said false k sheets t = absurd (rw (call-short false k sheets 0 refl) at t)
 early-said true k sheets t = by-value (eqb k 0)
     (λ q. absurd (looked sheets (eqb-true k 0 q) t))
     (λ q. (call-early true k sheets 0 refl (eqb-false k 0 q), eqb-false k 0 q))
   where
-    looked : (b : Bool) → k ≡ 0 → ¬ T (eqb (call-refusal true k b 0) 3 || eqb (call-refusal true k b 0) 7)
+    looked : (b : Bool) → k ≡ 0 → ¬ T (naming-none (call-refusal true k b 0))
     looked true z u = rw (call-late true k true 0 refl z refl) at u
     looked false z u = rw (call-bad true k false 0 refl z refl) at u
 
@@ -186,20 +186,20 @@ module _ (n : Network) (e : Edit) where
         ap (λ (x : List ℕ). sheet-at x a) (division-not n e d (division-refusal n e d) refl z .1) ∙ agree a t u
         ∙ sym (ap (λ (x : List ℕ). sheet-at x a) (division-not n e d′ (division-refusal n e d) (sym refusal-same) z .1)))
 
-  -- 3 and 7 of the edit alone
+  -- 3, 7 and 15 of the edit alone
 
-  told-early : network-refusal n ≡ 0 → (d : List ℕ) → T (eqb (division-answer n e d .refusal) 3 || eqb (division-answer n e d .refusal) 7)
-      → (m : Timetable) × T (eqb (refusal n e m) 3 || eqb (refusal n e m) 7)
+  told-early : network-refusal n ≡ 0 → (d : List ℕ) → T (naming-none (division-answer n e d .refusal))
+      → (m : Timetable) × T (naming-none (refusal n e m))
   unfolding division-refusal divided-answer answer
   told-early good d t = by-value (eqb (division-refusal n e d) 0)
       (λ b. (gather γ named (parts d), rw (division-is n e d (eqb-true (division-refusal n e d) 0 b) .0) at t))
       (λ b.
-      let u : T (eqb (division-refusal n e d) 3 || eqb (division-refusal n e d) 7) =
+      let u : T (naming-none (division-refusal n e d)) =
       (rw (division-not n e d (division-refusal n e d) refl (eqb-false (division-refusal n e d) 0 b) .0) at t) in
       let (same, z) = early-said (eqb (length d) 49152) (early-refusal n e) (named-good n e d) u in
       (nothing-placed, rw (early-same n good e nothing-placed z, ← same) u))
 
-  none-named : network-refusal n ≡ 0 → (d : List ℕ) → T (eqb (division-answer n e d .refusal) 3 || eqb (division-answer n e d .refusal) 7)
+  none-named : network-refusal n ≡ 0 → (d : List ℕ) → T (naming-none (division-answer n e d .refusal))
       → (a : ℕ) → ¬ T (named a)
   none-named good d t a u =
       let (m, v) = told-early good d t in

@@ -38,8 +38,7 @@ use Rattle.machine.proofs.EditCalls.{sheet-answers, sheet-bytes, division-answe
 use Rattle.findings.specs.Lists.{sheet-list, area-list, two-list, sheet-list-refusal, area-list-refusal, two-list-refusal}
 use Rattle.recheck.specs.Rechecks.{recheck-refusal, recheck-list, area-recheck-refusal, area-recheck-list}
 use Rattle.network_writing.specs.Writing.{write-network, network-written}
-use Rattle.edit_writing.specs.Writing.{edits-bytes, write-edit, edit-written, write-edits, edits-written}
-use Rattle.timetable.specs.Machine.{edit-refusal}
+use Rattle.edit_writing.specs.Writing.{edits-bytes, range-refusal, write-edit, edit-written, write-edits, edits-written}
 use Rattle.timetable_writing.specs.Writing.{timetable-bytes, write-timetable, timetable-written}
 use Rattle.fields.specs.Outcomes.{end-of}
 use Rattle.timetable_entries.specs.Answers as sheetfile
@@ -177,7 +176,7 @@ refusals-leave-all = record {
   timetable-writing = λ n sheet buffer. output-refused (whole-refusal n sheet) (timetable-bytes n sheet) buffer;
   network-writing = λ n buffer. output-refused (network-refusal n) (bytes-of (network-numbers n)) buffer;
   network-turning = λ form file buffer. turned-refused (read-network-as form file) buffer;
-  edit-writing = λ e buffer. output-refused (edit-refusal e) (bytes-of (edit-numbers newest-form e)) buffer;
+  edit-writing = λ e buffer. output-refused (range-refusal e) (bytes-of (edit-numbers newest-form e)) buffer;
   edits-writing = λ file buffer. output-refused (formats.number (read-edits file)) (edits-bytes file) buffer;
   number-writing = λ k buffer h. rw (lt-leb (width k) (length buffer) h);
   edits-run = edits-refused;

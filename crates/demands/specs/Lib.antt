@@ -11,3 +11,4 @@ pub mod Files
 pub mod Turning
 pub mod Rechecks
 pub mod Releases
+pub mod Reports

@@ -1,7 +1,8 @@
 -- An edit reads and changes only the sheets of the areas that it names, to the byte. Document 01, "Sheets and
 -- division": "An edit names the areas of its stations s and p; edit 11 names every area with a station; one refused
--- with 3 or 7 names none. It reads and changes only the sheets of those areas." Of the edit on a division, by the
--- definitions that its contract cites; the sheets may be good or not. Nothing here is proved. Assumes nothing.
+-- with 3 or 7 names none. It reads and changes only the sheets of those areas." Document 02, W7: one refused with 15
+-- "names no area". Of the edit on a division, by the definitions that its contract cites; the sheets may be good or
+-- not. Nothing here is proved. Assumes nothing.
 use Prim.Native.Nat.{ℕ}
 use mathlib.Core.Path.{_≡_}
 use mathlib.Core.Bool.{_||_}
@@ -11,7 +12,7 @@ use lib.ListN.{length}
 use Rattle.base.specs.Choice.{if_then_else_}
 use Rattle.railway.specs.Ranges.{station-ok, area-ok}
 use Rattle.network.specs.Networks.{network-refusal, area-of}
-use Rattle.timetable.specs.Groups.{six, names, names-group}
+use Rattle.timetable.specs.Groups.{six, names, names-group, naming-none}
 use Rattle.records.specs.Bytes.{zeros}
 use Rattle.sheet.specs.Sheets.{page-at, sheet-at}
 use Rattle.machine.specs.Calls.{sheet-after, division-answer, division-after}
@@ -29,8 +30,8 @@ pub record LocalBytes (n : Network) (e : Edit) : Type 0 where
   -- "and changes only": every other sheet stays byte for byte, in a buffer of any length
   pub others-kept : (d : List ℕ) (a : Area) → T (area-ok a) → ¬ T (names-group n (area-of n) e (a .0)) → sheet-at (division-after n e d) (a .0) ≡ sheet-at d (a .0)
   pub same-length : (d : List ℕ) → length (division-after n e d) ≡ length d
-  -- "one refused with 3 or 7 names none", of a good network: 3 of a network says nothing of the edit
-  pub names-none : network-refusal n ≡ 0 → (d : List ℕ) → T (eqb (division-answer n e d .refusal) 3 || eqb (division-answer n e d .refusal) 7)
+  -- "one refused with 3 or 7 names none", nor one with 15; of a good network: 3 of a network says nothing of the edit
+  pub names-none : network-refusal n ≡ 0 → (d : List ℕ) → T (naming-none (division-answer n e d .refusal))
       → (a : ℕ) → ¬ T (names-group n (area-of n) e a)
 
 -- So a centre that holds each area's sheet in a place of its own may lend the named ones alone: at the place of every

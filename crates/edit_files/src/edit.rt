@@ -4,10 +4,11 @@ ghost use mathlib.Core.List.{[], _∷_, map};
 ghost use Prim.Native.Nat.{ℕ, _<_, _≤_};
 ghost use lib.ListN.{getD};
 ghost use Rattle.timetable.specs.Formats.{done, _and-then_, _to_, read, row};
-ghost use Rattle.timetable.specs.FileForms.{newest-form};
-ghost use Rattle.timetable.specs.EditsFile.{station-relation-entry, plan-ranges, extension-ranges};
+ghost use Rattle.timetable.specs.FileForms.{newest-form, with-fourth};
+ghost use Rattle.timetable.specs.EditsFile.{station-relation-entry, plan-ranges, extension-ranges, deletion-ranges, report-ranges};
+ghost use Rattle.timetable.specs.declared.FileForm.{FileForm};
 ghost use Rattle.railway.specs.declared.edit.Edit.the-variants.{AddRelation, RemoveRelation};
-ghost use Rattle.timetable.specs.EditsFile.{plan-of, extension-of, deletion-of, report-of, edit-ranges, edit-of, has-track, supplied, edit-fields, edit-entry};
+ghost use Rattle.timetable.specs.EditsFile.{plan-of, extension-of, deletion-of, report-of, edit-ranges, edit-of, has-track, is-report, supplied, edit-fields, edit-entry};
 ghost use Rattle.fields.specs.between.Answers.{ranges-of};
 ghost use Rattle.edit_files.specs.Answers.{edit-outcome, next-outcome};
 use fields::field::FieldRead;
@@ -89,6 +90,7 @@ fn report_from(v: [u16; 13]) -> Report
         station: Station(narrow(v[0])),
         train: Train(v[1]),
         time: Minute(v[2]),
+        present: Minute(v[3]),
     }
 }
 
@@ -143,20 +145,37 @@ fn extension_spans(form: FileForm) -> Spans
     }
 }
 
-// Three fields: station, train, and one more up to `last`.
-fn three_spans(first: u32, last: u16) -> Spans
-    ensures { λ r. ⌜ ranges-of r ≡ 1 to 16 ∷ 1 to 9999 ∷ first to last ∷ [] ⌝ }
+fn deletion_spans() -> Spans
+    ensures { λ r. ⌜ ranges-of r ≡ deletion-ranges ⌝ }
 {
     let none = Span { lo: 0, hi: 0 };
     let station = Span { lo: 1, hi: 16 };
     let train = Span { lo: 1, hi: 9999 };
-    let third = Span {
-        lo: first,
-        hi: last,
-    };
     Spans {
         count: 3,
-        spans: [station, train, third, none, none, none, none, none, none],
+        spans: [station, train, station, none, none, none, none, none, none],
+    }
+}
+
+fn report_spans(form: FileForm) -> Spans
+    ensures { λ r. ⌜ ranges-of r ≡ report-ranges form ⌝ }
+{
+    let none = Span { lo: 0, hi: 0 };
+    let station = Span { lo: 1, hi: 16 };
+    let train = Span { lo: 1, hi: 9999 };
+    let time = Span {
+        lo: 0,
+        hi: Minute::LAST,
+    };
+    match form {
+        FileForm::Earlier => Spans {
+            count: 3,
+            spans: [station, train, time, none, none, none, none, none, none],
+        },
+        FileForm::Newest => Spans {
+            count: 4,
+            spans: [station, train, time, time, none, none, none, none, none],
+        },
     }
 }
 
@@ -185,19 +204,19 @@ fn edit_spans(form: FileForm, kind: u16) -> Spans
         return extension_spans(form);
     }
     if kind == 4 {
-        return three_spans(1, 16);
+        return deletion_spans();
     }
     if kind == 5 {
-        return three_spans(1, 16);
+        return deletion_spans();
     }
     if kind == 6 {
         return plan_spans(form);
     }
     if kind == 7 {
-        return three_spans(0, Minute::LAST);
+        return report_spans(form);
     }
     if kind == 8 {
-        return three_spans(0, Minute::LAST);
+        return report_spans(form);
     }
     train_spans()
 }
@@ -243,6 +262,37 @@ fn has_track(kind: u16) -> bool
     kind == 6
 }
 
+// The edit reports an arrival or a departure.
+fn is_report(kind: u16) -> bool
+    ensures { λ r. ⌜ r ≡ is-report kind ⌝ }
+{
+    if kind == 7 {
+        return true;
+    }
+    kind == 8
+}
+
+// The numbers of the earlier form with the one that stands fourth in the newest.
+fn with_fourth(x: u16, v: [u16; 13]) -> [u16; 13]
+    ensures { λ r. ⌜ ((i : ℕ) → i < 13 → getD r i 0 ≡ getD (with-fourth FileForm.Earlier x v) i 0) ⌝ }
+{
+    [
+        v[0],
+        v[1],
+        v[2],
+        x,
+        v[3],
+        v[4],
+        v[5],
+        v[6],
+        v[7],
+        v[8],
+        v[9],
+        v[10],
+        v[11],
+    ]
+}
+
 // The numbers as the newest form has them.
 fn supplied(form: FileForm, kind: u16, v: [u16; 13]) -> [u16; 13]
     ensures { λ r. ⌜ ((i : ℕ) → i < 13 → getD r i 0 ≡ getD (supplied form kind v) i 0) ⌝ }
@@ -251,21 +301,10 @@ fn supplied(form: FileForm, kind: u16, v: [u16; 13]) -> [u16; 13]
         FileForm::Newest => v,
         FileForm::Earlier => {
             if has_track(kind) {
-                return [
-                    v[0],
-                    v[1],
-                    v[2],
-                    0,
-                    v[3],
-                    v[4],
-                    v[5],
-                    v[6],
-                    v[7],
-                    v[8],
-                    v[9],
-                    v[10],
-                    v[11],
-                ];
+                return with_fourth(0, v);
+            }
+            if is_report(kind) {
+                return with_fourth(Minute::LAST, v);
             }
             v
         }

@@ -16,7 +16,7 @@ use Rattle.edit_replies.specs.Types.{Edit, Network, Answer, Tally, Reply
 
 -- the areas that an edit names
 
--- what refuses it before any sheet is looked at, or the areas: "one refused with 3 or 7 names none"
+-- what refuses it before any sheet is looked at, or the areas: "one refused with 3 or 7 names none", nor with 15
 unfoldable pub named : Network → Edit → Reply
 named n e = if eqb (early-refusal n e) 0 then sized 0 (bits (names-group n (area-of n) e)) else plain (early-refusal n e)
 

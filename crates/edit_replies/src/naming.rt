@@ -31,7 +31,7 @@ fn named_areas(n: Network, e: Edit) -> usize
     low + high
 }
 
-// Under a network that is read. "one refused with 3 or 7 names none"
+// Under a network that is read. "one refused with 3 or 7 names none", nor with 15
 fn names_of(n: Network, e: Edit) -> Reply
     ensures { λ r. ⌜ r ≡ named n e ⌝ }
 {

@@ -10,7 +10,6 @@ use Rattle.railway.specs.declared.edit.Edit.{Edit}
 use Rattle.railway.specs.Edits.{edit-ok}
 use Rattle.numbers.specs.Numbers.{write-number}
 use Rattle.timetable.specs.declared.Output.{Output}
-use Rattle.timetable.specs.Machine.{edit-refusal}
 use Rattle.timetable.specs.Formats.{Outcome, accepted, refused, number, value-or, field-at, read, read-file, entries, bytes-of, Placed, placed}
 use Rattle.timetable.specs.FileForms.{newest-form}
 use Rattle.timetable.specs.EditsFile.{edit-numbers, edits-on, edits-format, read-edits, read-edits-as, edits-numbers}
@@ -21,21 +20,21 @@ use Rattle.fields.proofs.EntryLaws.{placed-read}
 use Rattle.fields.proofs.NumbersPut.{bytes-two}
 use Rattle.edit_files.specs.declared.list.EditsRead.{EditsRead}
 use Rattle.edit_files.specs.Answers.{no-edits, edits-answer}
-use Rattle.edit_writing.specs.Writing.{write-edit, edit-written, edits-bytes, write-edits, edits-written}
+use Rattle.edit_writing.specs.Writing.{range-refusal, write-edit, edit-written, edits-bytes, write-edits, edits-written}
 use Rattle.edit_files.proofs.EditsParts.{edits-many}
 
 module _ (e : Edit) (out : List ℕ) where
   pub edit-bad : edit-ok e ≡ false → (reply (Output.Refused 3) ≡ write-edit e out) × (out ≡ edit-written e out)
-  unfolding write-edit edit-written edit-refusal
+  unfolding write-edit edit-written range-refusal
   edit-bad f = rw f (refused-so (bytes-of (edit-numbers newest-form e)) out 3 (λ z. omega arith))
 
   module _ (ok : edit-ok e ≡ true) (k : ℕ) (needed : k ≡ length (bytes-of (edit-numbers newest-form e))) where
     pub edit-short : length out < k → (reply (Output.TooShort k) ≡ write-edit e out) × (out ≡ edit-written e out)
-    unfolding write-edit edit-written edit-refusal
+    unfolding write-edit edit-written range-refusal
     edit-short h = rw ok (too-short (bytes-of (edit-numbers newest-form e)) out k needed h)
 
     pub edit-fits : k ≤ length out → (reply (Output.Written k) ≡ write-edit e out) × (put 0 (bytes-of (edit-numbers newest-form e)) out ≡ edit-written e out)
-    unfolding write-edit edit-written edit-refusal
+    unfolding write-edit edit-written range-refusal
     edit-fits h = rw ok (fits-in (bytes-of (edit-numbers newest-form e)) out k needed h)
 
 -- edits one behind the other

@@ -2,22 +2,27 @@
 -- the numbers of timetable EditsFile. Assumes nothing.
 use Prim.Native.Nat.{ℕ, _+_}
 use mathlib.Core.Path.{_≡_}
+use mathlib.Core.Bool.{not}
 use mathlib.Core.List.{List}
 use lib.ListN.{length}
+use Rattle.base.specs.Choice.{_if_else_}
 use Rattle.railway.specs.declared.edit.Edit.{Edit}
-use Rattle.timetable.specs.Machine.{edit-refusal}
+use Rattle.railway.specs.Edits.{edit-ok}
 use Rattle.timetable.specs.Formats.{accepted, number, value-or, read, bytes-of}
 use Rattle.timetable.specs.FileForms.{newest-form}
 use Rattle.timetable.specs.EditsFile.{edit-numbers, edits-on, read-edits, edits-numbers}
 use Rattle.timetable.specs.Outputs.{Reply, output, output-after, put}
 use Rattle.edit_files.specs.Answers.{no-edits}
 
--- 3, 13
+-- 3, 13; a report from the future is written: 15 is "the edit's answer, never a file's"
+unfoldable pub range-refusal : Edit → ℕ
+range-refusal e = 3 if not (edit-ok e) else 0
+
 unfoldable pub write-edit : Edit → List ℕ → Reply
-write-edit e buffer = output (edit-refusal e) (bytes-of (edit-numbers newest-form e)) buffer
+write-edit e buffer = output (range-refusal e) (bytes-of (edit-numbers newest-form e)) buffer
 
 unfoldable pub edit-written : Edit → List ℕ → List ℕ
-edit-written e buffer = output-after (edit-refusal e) (bytes-of (edit-numbers newest-form e)) buffer
+edit-written e buffer = output-after (range-refusal e) (bytes-of (edit-numbers newest-form e)) buffer
 
 -- a list of edits, lent as a file that reads to it: the file's refusal, 13
 
@@ -39,5 +44,5 @@ PutsList file first count numbers at before r after =
 
 -- The key ring of this module: `unfolding opened` opens every definition above.
 unfoldable pub opened : Unit {0}
-unfolding write-edit edit-written edits-bytes write-edits edits-written
+unfolding range-refusal write-edit edit-written edits-bytes write-edits edits-written
 opened = tt

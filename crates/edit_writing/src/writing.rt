@@ -17,7 +17,6 @@ use railway::edit::Edit;
 use railway::edit::Extension;
 use railway::edit::Plan;
 use railway::edit::Report;
-use railway::sorts::Station;
 use railway::sorts::Train;
 use relation_files::row::led_numbers;
 use timetable::FileForm;
@@ -72,27 +71,41 @@ fn extension_row(kind: u16, x: Extension) -> Numbers
     }
 }
 
-// A visit's station and train, and one number more.
-fn visit_row(kind: u16, s: Station, t: Train, n: u16) -> Numbers
-    ensures { λ r. ⌜ r ≡ row-of (kind ∷ s .0 ∷ t .0 ∷ n ∷ []) ⌝ }
-{
-    Numbers {
-        from: 0,
-        to: 4,
-        values: [kind, s.0 as u16, t.0, n, 0, 0, 0, 0, 0, 0, 0, 0, 0],
-    }
-}
-
 fn deletion_row(kind: u16, d: Deletion) -> Numbers
     ensures { λ r. ⌜ r ≡ row-of (kind ∷ deletion-numbers d) ⌝ }
 {
-    visit_row(kind, d.station, d.train, d.other.0 as u16)
+    let s = d.station.0 as u16;
+    let p = d.other.0 as u16;
+    Numbers {
+        from: 0,
+        to: 4,
+        values: [kind, s, d.train.0, p, 0, 0, 0, 0, 0, 0, 0, 0, 0],
+    }
 }
 
 fn report_row(kind: u16, r: Report) -> Numbers
-    ensures { λ q. ⌜ q ≡ row-of (kind ∷ report-numbers r) ⌝ }
+    ensures { λ q. ⌜ q ≡ row-of (kind ∷ report-numbers newest-form r) ⌝ }
 {
-    visit_row(kind, r.station, r.train, r.time.0)
+    let s = r.station.0 as u16;
+    Numbers {
+        from: 0,
+        to: 5,
+        values: [
+            kind,
+            s,
+            r.train.0,
+            r.time.0,
+            r.present.0,
+            0,
+            0,
+            0,
+            0,
+            0,
+            0,
+            0,
+            0,
+        ],
+    }
 }
 
 fn cancellation_row(t: Train) -> Numbers

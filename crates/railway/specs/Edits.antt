@@ -17,8 +17,9 @@ extension-ok x = plan-ok (x .plan) && (station-ok (x .other) && (line-ok (x .lin
 unfoldable pub deletion-ok : Deletion → Bool
 deletion-ok d = station-ok (d .station) && (train-ok (d .train) && station-ok (d .other))
 
+-- "the present minute, 0..2879"
 unfoldable pub report-ok : Report → Bool
-report-ok r = station-ok (r .station) && (train-ok (r .train) && minute-ok (r .time))
+report-ok r = (station-ok (r .station) && train-ok (r .train)) && (minute-ok (r .time) && minute-ok (r .present))
 
 unfoldable pub station-relation-ok : StationRelation → Bool
 station-relation-ok r = station-ok (r .station) && relation-ok (r .relation)

@@ -34,11 +34,12 @@ pub struct Deletion {
     pub other: Station,
 }
 
-// "(s, t, time)"
+// "(s, t, time)", and "the present minute .. as a last field"
 pub struct Report {
     pub station: Station,
     pub train: Train,
     pub time: Minute,
+    pub present: Minute,
 }
 
 // "(s, relation)"
@@ -117,7 +118,9 @@ impl Report {
     {
         if self.station.valid() {
             if self.train.valid() {
-                return self.time.valid();
+                if self.time.valid() {
+                    return self.present.valid();
+                }
             }
         }
         false

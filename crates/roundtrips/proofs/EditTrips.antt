@@ -7,19 +7,19 @@ use native.Mathlib.Omega.{arith}
 use lib.Dec.{T}
 use lib.ListN.{length, drop}
 use Rattle.base.specs.Lists.{every}
-use Rattle.base.proofs.Tests.{every-head, every-tail, every-cons, every-all}
+use Rattle.base.proofs.Tests.{both, every-head, every-tail, every-cons, every-all}
 use Rattle.numbers.specs.Numbers.{width}
 use Rattle.railway.specs.Edits.{edit-ok}
 use Rattle.timetable.specs.declared.FileForm.{FileForm}
 use Rattle.timetable.specs.Formats.{bytes-of, Placed}
-use Rattle.timetable.specs.FileForms.{newest-form}
-use Rattle.timetable.specs.EditsFile.{edit-entry, edit-numbers, mark-of, edit-said, edits-on, edits-format, read-edits-as, edits-numbers}
+use Rattle.timetable.specs.FileForms.{newest-form, mark-said, minute-said}
+use Rattle.timetable.specs.EditsFile.{edit-entry, edit-numbers, mark-of, minute-of, edit-said, edits-on, edits-format, read-edits-as, edits-numbers}
 use Rattle.roundtrips.specs.Types.{Edit}
 use Rattle.roundtrips.proofs.Walks.{walks}
 use Rattle.roundtrips.specs.RoundTrips.{EditRoundTrip, EditsRoundTrip}
 use Rattle.roundtrips.proofs.WalkLaws.{span, read-walks, walks-read, file-read, file-walks}
 use Rattle.roundtrips.proofs.RowsWalked.{Chain, walks-placed, placed-walks, Entry, walks-plain, plain-walks}
-use Rattle.roundtrips.proofs.MarkLaws.{newest-says}
+use Rattle.roundtrips.proofs.MarkLaws.{newest-says, newest-tells}
 use Rattle.roundtrips.proofs.EditWalks.{walks-edit, edit-walks}
 
 pub edit-trip : (form : FileForm) → EditRoundTrip form
@@ -35,7 +35,7 @@ edit-trip form = record {
 
 pub edit-said-newest : (e : Edit) → T (edit-said newest-form e)
 unfolding edit-said
-edit-said-newest e = newest-says (mark-of e)
+edit-said-newest e = both (mark-said newest-form (mark-of e)) (minute-said newest-form (minute-of e)) (newest-says (mark-of e)) (newest-tells (minute-of e))
 
 pub edits-said-newest : (es : List Edit) → T (every (edit-said newest-form) es)
 edits-said-newest es = every-all (edit-said newest-form) edit-said-newest es

@@ -17,7 +17,7 @@ use Rattle.numbers.specs.Numbers.{width}
 use Rattle.railway.specs.Ranges.{last-minute, station-ok, train-ok, track-ok, line-ok, minute-ok, run-ok}
 use Rattle.timetable.specs.declared.FileForm.{FileForm}
 use Rattle.timetable.specs.Formats.{done, field, _and-then_, _to_, row}
-use Rattle.timetable.specs.FileForms.{status-number, mark-range, mark-numbers, mark-said, with-mark}
+use Rattle.timetable.specs.FileForms.{status-number, mark-range, mark-numbers, mark-said, with-fourth, with-mark}
 use Rattle.timetable.specs.TimetableFile.{StationVisit, visit-ranges, in-link-entry, out-link-entry, in-link-numbers, out-link-numbers}
 use Rattle.timetable.specs.TimetableFile.{station-visit-of, visit-entry, visit-numbers, visit-said}
 use Rattle.roundtrips.specs.Types.{InLink, OutLink}
@@ -163,7 +163,7 @@ flagged e m a d = record {
 }
 
 row-back : (form : FileForm) (e : StationVisit) → T (said form e) → station-visit-of (with-mark form (visit-row form e)) (e .visit .inward) (e .visit .outward) ≡ e
-unfolding station-visit-of mark-numbers mark-said with-mark visit-said
+unfolding station-visit-of mark-numbers mark-said with-fourth visit-said
 row-back form e t = go form t
   where
     flags : (m : Bool) → m ≡ e .visit .marked → flagged e m (eqb (status-number (e .visit .arrived)) 1) (eqb (status-number (e .visit .departed)) 1) ≡ e
@@ -178,7 +178,7 @@ row-back form e t = go form t
 -- the numbers of a row, and links, make a visit in range that the form can say, and that is written with them
 module _ (i : InLink) (o : OutLink) where
   row-written : (form : FileForm) (ns : List ℕ) → RowIn (visit-ranges form) ns → ns ≡ visit-row form (station-visit-of (with-mark form ns) i o)
-  unfolding station-visit-of visit-ranges by-index mark-range mark-numbers with-mark
+  unfolding station-visit-of visit-ranges by-index mark-range mark-numbers with-fourth
   row-written FileForm.Earlier ns r =
       row-exact (visit-ranges FileForm.Earlier) ns r
       ∙ rw (getD-drop 3 ns 0 0, getD-drop 3 ns 1 0, getD-drop 3 ns 2 0, getD-drop 3 ns 3 0)
@@ -194,7 +194,7 @@ module _ (i : InLink) (o : OutLink) where
       (sym (back-status (getD ns 7 0) (row-at (visit-ranges FileForm.Newest) ns r 7 (omega arith))))
 
   row-good : T (in-link-ok i) → T (out-link-ok o) → (form : FileForm) (ns : List ℕ) → RowIn (visit-ranges form) ns → T (visit-fits form (station-visit-of (with-mark form ns) i o))
-  unfolding station-visit-of visit-ranges visit-ok visit-said mark-range mark-said with-mark
+  unfolding station-visit-of visit-ranges visit-ok visit-said mark-range mark-said with-fourth
   row-good u v FileForm.Earlier ns r =
       let t₁ = in-test 1 16 (getD ns 0 0) (row-at (visit-ranges FileForm.Earlier) ns r 0 (omega arith)) in
       let t₂ = in-test 1 9999 (getD ns 1 0) (row-at (visit-ranges FileForm.Earlier) ns r 1 (omega arith)) in

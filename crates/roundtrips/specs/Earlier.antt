@@ -1,7 +1,8 @@
--- Files of the earlier form and of the newest hold the same, where no mark is 1. Document 02, W6: "Old files are read
--- as before by naming the earlier form when reading, and their visits get mark 0; what is written is the new form, and
--- round trips are compared in that form." The proofs are in proofs/EarlierTrips; nothing here is proved. The letters
--- are those of RoundTrips. Assumes nothing.
+-- Files of the earlier form and of the newest hold the same, where no mark is 1 and every report carries the last
+-- minute. Document 02, W6: "Old files are read as before by naming the earlier form when reading, and their visits get
+-- mark 0; what is written is the new form, and round trips are compared in that form"; W7: "A report read in W6's
+-- earlier form carries 2879." The proofs are in proofs/EarlierTrips; nothing here is proved. The letters are those of
+-- RoundTrips. Assumes nothing.
 use Prim.Native.Nat.{ℕ, _≤_}
 use mathlib.Core.Path.{_≡_}
 use mathlib.Core.Bool.{not}
@@ -15,7 +16,7 @@ use Rattle.network.specs.Networks.{network-refusal}
 use Rattle.timetable.specs.declared.FileForm.{FileForm}
 use Rattle.timetable.specs.Formats.{accepted, bytes-of, Placed}
 use Rattle.timetable.specs.FileForms.{newest-form}
-use Rattle.timetable.specs.EditsFile.{mark-of, read-edits-as, edits-numbers}
+use Rattle.timetable.specs.EditsFile.{edit-said, read-edits-as, edits-numbers}
 use Rattle.timetable.specs.Machine.{Timetable}
 use Rattle.timetable.specs.Good.{Whole}
 use Rattle.timetable.specs.TimetableFile.{read-timetable-as, timetable-numbers-as}
@@ -28,15 +29,16 @@ use Rattle.roundtrips.specs.RoundTrips.{Bytes}
 abbrev pub edits-file : FileForm → List Edit → List ℕ
 edits-file form es = bytes-of (edits-numbers form es)
 
--- what an earlier file reads to, the newest file of the same edits reads to, the place of the first edit too
+-- what an earlier file reads to has no mark and only the last minute, and the newest file of the same edits reads to
+-- it, the place of the first edit too
 abbrev pub EarlierEdits : Type 0
 EarlierEdits = (file : List ℕ) (es : Placed (List Edit)) (next : ℕ) → Bytes file → read-edits-as FileForm.Earlier file ≡ accepted es next
-    → T (every (λ e. not (mark-of e)) (es .entry))
+    → T (every (edit-said FileForm.Earlier) (es .entry))
     × (read-edits-as newest-form (edits-file newest-form (es .entry)) ≡ accepted es (length (edits-file newest-form (es .entry))))
 
--- edits with no mark are read from their earlier file
-abbrev pub UnmarkedEdits : Type 0
-UnmarkedEdits = (es : List Edit) → length es ≤ 1000 → T (every edit-ok es) → T (every (λ e. not (mark-of e)) es)
+-- edits with no mark and, of reports, with the last minute are read from their earlier file
+abbrev pub SaidEdits : Type 0
+SaidEdits = (es : List Edit) → length es ≤ 1000 → T (every edit-ok es) → T (every (edit-said FileForm.Earlier) es)
     → read-edits-as FileForm.Earlier (edits-file FileForm.Earlier es)
     ≡ accepted (record { place = width (length es); entry = es }) (length (edits-file FileForm.Earlier es))
 

@@ -1,23 +1,29 @@
--- The machine of the release before W6 answers every edit as the newest does, and leaves what the newest leaves, marks
--- aside: edit by edit the older meaning is the newer one on tables without their marks (Forgotten), and from there the
--- two machines are one text. Assumes nothing.
+-- The machine of the release before W6 answers an edit as the newest does, and leaves what the newest leaves, marks
+-- aside, where both judge its values alike: where it is sound, or carries the last minute. Edit by edit the older
+-- meaning is the newer one on tables without their marks (Forgotten), and from there the two machines are one text.
+-- Assumes nothing.
 use Prim.Native.Nat.{ℕ}
-use mathlib.Core.Path.{_≡_, refl, ap, fun-ext}
+use mathlib.Core.Path.{_≡_, refl, sym, ap, _∙_, fun-ext}
 use mathlib.Core.Bool.{Bool, true, false, not, _&&_}
-use lib.Dec.{eqb}
+use lib.Dec.{T, ltb, leb, eqb, eqb→eq}
+use borrow.Author.Tests.{leb-true, le-ltb}
 use Rattle.base.specs.Choice.{if_then_else_, _if_else_}
 use Rattle.base.specs.Lists.{is, count}
-use Rattle.railway.specs.Ranges.{same-station}
-use Rattle.railway.specs.Edits.{plan-ok, extension-ok, edit-ok}
+use Rattle.base.proofs.Tests.{T-true, both, parts}
+use Rattle.railway.specs.Ranges.{last-minute, station-ok, train-ok, minute-ok, same-station}
+use Rattle.railway.specs.Edits.{plan-ok, extension-ok, report-ok, edit-ok}
 use Rattle.network.specs.Networks.{stations-of, listed}
 use Rattle.timetable.specs.Visits.{lacks-in, lacks-out, with-in, with-out, planned, amended, arrived-at, departed-at, first-stands, last-stands, alters}
 use Rattle.timetable.specs.Tables.{Table, visit-of, has-relation, add-relation, drop-relation, without, full-relations}
-use Rattle.timetable.specs.Machine.{Timetable, put, Action, Meaning, local, throughout, as-it-was, meaning, known, refused-as, edit-refusal, refusal, changed, removed-by, answer, after}
-use Rattle.theory.specs.Types.{Station, Network, Deletion}
+use Rattle.timetable.specs.Reports.{ahead, future}
+use Rattle.timetable.specs.EditsFile.{minute-of}
+use Rattle.timetable.specs.Machine.{Timetable, put, Action, Meaning, local, throughout, as-it-was, meaning, known, refused-as, edit-refusal, sound, refusal, changed, removed-by, answer, after}
+use Rattle.theory.specs.Types.{Station, Network, Deletion, Report}
 use Rattle.theory.specs.Types.{Edit, Place, Prepend, Append, DeleteFirst, DeleteLast, Amend}
 use Rattle.theory.specs.Types.{ReportArrival, ReportDeparture, AddRelation, RemoveRelation, DeleteTrain}
 use Rattle.theory.specs.Earlier as Earlier
-use Rattle.theory.specs.Releases.{early-visit, early-table, early-plan, early-extension, early-edit}
+use Rattle.theory.specs.Releases.{early-visit, early-table, early-plan, early-extension, early-report, early-edit}
+use Rattle.theory.proofs.Kept.{sound-ok}
 use Rattle.theory.proofs.Forgotten.{add-early, change-early, without-early, asked-early, has-early, room-early}
 use Rattle.theory.proofs.Forgotten.{lacks-in-early, lacks-out-early, first-stands-early, last-stands-early, alters-early}
 
@@ -63,7 +69,7 @@ last-refused d here there =
 same-meaning : (e : Edit) → Same (meaning e) (Earlier.meaning (early-edit e))
 unfolding meaning as-it-was with-in with-out planned amended arrived-at departed-at has-relation add-relation drop-relation full-relations
     Earlier.meaning Earlier.as-it-was Earlier.with-in Earlier.with-out Earlier.planned Earlier.amended Earlier.arrived-at Earlier.departed-at Earlier.has-relation Earlier.with-relation Earlier.drop-relation
-    early-visit early-plan early-extension early-edit early-table
+    early-visit early-plan early-extension early-report early-edit early-table
 same-meaning (Place p) = record {
   home = refl;
   away = refl;
@@ -195,24 +201,64 @@ module _ (n : Network) (m : Timetable) where
   changed-alike (local a) (Earlier.throughout u) s k = absurd s
   changed-alike (throughout t) (Earlier.local b) s k = absurd s
 
-ok-alike : (e : Edit) → Earlier.edit-ok (early-edit e) ≡ edit-ok e
-unfolding edit-ok plan-ok extension-ok Earlier.edit-ok Earlier.plan-ok Earlier.extension-ok early-plan early-extension early-edit
-ok-alike (Place p) = refl
-ok-alike (Prepend x) = refl
-ok-alike (Append x) = refl
-ok-alike (DeleteFirst d) = refl
-ok-alike (DeleteLast d) = refl
-ok-alike (Amend p) = refl
-ok-alike (ReportArrival r) = refl
-ok-alike (ReportDeparture r) = refl
-ok-alike (AddRelation r) = refl
-ok-alike (RemoveRelation r) = refl
-ok-alike (DeleteTrain c) = refl
+-- an edit's own values
 
-module _ (n : Network) (e : Edit) (m : Timetable) where
+-- both releases judge them alike
+abbrev pub Judged : Edit → Type 0
+Judged e = edit-refusal e ≡ (3 if not (Earlier.edit-ok (early-edit e)) else 0)
+
+-- a report whose minute is the last: no minute is later
+last-judged : (r : Report) → r .present .0 ≡ last-minute
+    → (3 if not (report-ok r) else 15 if ahead r else 0) ≡ (3 if not (Earlier.report-ok (early-report r)) else 0)
+unfolding report-ok ahead Earlier.report-ok early-report
+last-judged r q = rw q (go (station-ok (r .station)) (train-ok (r .train)) (r .time .0))
+  where
+    in-time : (t : ℕ) (b : Bool) → leb t last-minute ≡ b → (3 if not (b && true) else 15 if ltb last-minute t else 0) ≡ (3 if not b else 0)
+    in-time t true e = rw (le-ltb last-minute t (leb-true t last-minute e))
+    in-time t false e = refl
+
+    go : (x y : Bool) (t : ℕ) → (3 if not ((x && y) && (leb t last-minute && leb last-minute last-minute)) else 15 if ltb last-minute t else 0)
+        ≡ (3 if not (x && (y && leb t last-minute)) else 0)
+    go true true t = in-time t (leb t last-minute) refl
+    go true false t = refl
+    go false y t = refl
+
+pub judged-last : (e : Edit) → minute-of e ≡ last-minute → Judged e
+unfolding edit-refusal future edit-ok plan-ok extension-ok Earlier.edit-ok Earlier.plan-ok Earlier.extension-ok early-plan early-extension early-edit minute-of
+judged-last (Place p) q = refl
+judged-last (Prepend x) q = refl
+judged-last (Append x) q = refl
+judged-last (DeleteFirst d) q = refl
+judged-last (DeleteLast d) q = refl
+judged-last (Amend p) q = refl
+judged-last (ReportArrival r) q = last-judged r q
+judged-last (ReportDeparture r) q = last-judged r q
+judged-last (AddRelation r) q = refl
+judged-last (RemoveRelation r) q = refl
+judged-last (DeleteTrain c) q = refl
+
+-- what is in range is in range without its minute
+early-ok : (e : Edit) → T (edit-ok e) → T (Earlier.edit-ok (early-edit e))
+unfolding edit-ok plan-ok extension-ok report-ok Earlier.edit-ok Earlier.plan-ok Earlier.extension-ok Earlier.report-ok early-plan early-extension early-report early-edit
+early-ok (Place p) t = t
+early-ok (Prepend x) t = t
+early-ok (Append x) t = t
+early-ok (DeleteFirst d) t = t
+early-ok (DeleteLast d) t = t
+early-ok (Amend p) t = t
+early-ok (ReportArrival r) t = both (station-ok (r .station)) _ (search parts) (both (train-ok (r .train)) (minute-ok (r .time)) (search parts) (search parts))
+early-ok (ReportDeparture r) t = both (station-ok (r .station)) _ (search parts) (both (train-ok (r .train)) (minute-ok (r .time)) (search parts) (search parts))
+early-ok (AddRelation r) t = t
+early-ok (RemoveRelation r) t = t
+early-ok (DeleteTrain c) t = t
+
+pub judged-sound : (e : Edit) → T (sound e) → Judged e
+judged-sound e t = eqb→eq (edit-refusal e) 0 t ∙ sym (rw (T-true (Earlier.edit-ok (early-edit e)) (early-ok e (sound-ok e t))))
+
+module _ (n : Network) (e : Edit) (m : Timetable) (judged : Judged e) where
   refusal-early : Earlier.refusal n (early-edit e) (early m) ≡ refusal n e m
-  unfolding refusal Earlier.refusal edit-refusal
-  refusal-early = rw (ok-alike e, refused-alike n m (meaning e) (Earlier.meaning (early-edit e)) (same-meaning e)) (go (edit-ok e))
+  unfolding refusal Earlier.refusal
+  refusal-early = rw (judged, refused-alike n m (meaning e) (Earlier.meaning (early-edit e)) (same-meaning e)) (go (Earlier.edit-ok (early-edit e)))
     where
       go : (b : Bool) → (3 if not b else refused-as n (meaning e) m) ≡ (if eqb (3 if not b else 0) 0 then refused-as n (meaning e) m else (3 if not b else 0))
       go true = refl

@@ -23,4 +23,5 @@ pub mod Forgotten
 pub mod Forgetting
 pub mod Unmarked
 pub mod ReleasesMerge
+pub mod ReportsJudged
 pub mod EarlyFiles

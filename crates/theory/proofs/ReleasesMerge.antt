@@ -17,8 +17,8 @@ use Rattle.base.specs.Runs.{run, answers}
 use Rattle.base.proofs.Tests.{true-T, if-yes, and-l, and-r, both}
 use Rattle.network.specs.Networks.{listed}
 use Rattle.timetable.specs.Tables.{empty}
-use Rattle.timetable.specs.Machine.{Timetable, answer, after}
-use Rattle.timetable.specs.Groups.{Grouping, names-group, in-group, Divided, divide, merge, gather, divided-answer, divided-after}
+use Rattle.timetable.specs.Machine.{Timetable, meaning, sound, answer, after}
+use Rattle.timetable.specs.Groups.{Grouping, reaches, names, names-group, in-group, Divided, divide, merge, gather, divided-answer, divided-after}
 use Rattle.theory.specs.Types.{Station, Network, Edit, Answer}
 use Rattle.theory.specs.Reordering.{at, along}
 use Rattle.theory.specs.Statements.{AnyOrder}
@@ -27,10 +27,10 @@ use Rattle.theory.specs.Releases.{early-table, early-edit, unmarked-tabl
 use Rattle.theory.specs.Releases.{UnmarkedThere, marks-there, none-marks, ReleasesMerge}
 use Rattle.theory.proofs.Positions.{at-both, along-cons}
 use Rattle.theory.proofs.Split.{which-group, grouped-in, merged-grouped}
-use Rattle.theory.proofs.Divided.{answer-divided, after-divided}
+use Rattle.theory.proofs.Divided.{named-group, answer-divided, after-divided}
 use Rattle.theory.proofs.Ordered.{any-order, round-trip}
 use Rattle.theory.proofs.Kept.{run-whole}
-use Rattle.theory.proofs.Forgetting.{early, answer-early, after-early}
+use Rattle.theory.proofs.Forgetting.{early, Judged, judged-sound, answer-early, after-early}
 use Rattle.theory.proofs.Unmarked.{table-back, after-unmarked}
 
 -- the railway of a central timetable
@@ -81,6 +81,11 @@ module _ (n : Network) (γ : Grouping) (g : ℕ) (m : Timetable) (plain : Unmark
         go k true q = ap (λ (x : Earlier.Timetable). x k) older-part ∙ ap early-table (sym (read-own t k (true-T (in-group γ g k) q)))
         go k false q = ap (λ (d : Divided). early-table (gather γ (names-group n γ e) d k)) handed-back
 
+    -- an edit that names a group is sound
+    judged : T (names-group n γ e g) → Judged e
+    unfolding names
+    judged t = let (k, q, u) = named-group n γ e g t in judged-sound e (and-l (sound e) (reaches n (meaning e) k) u)
+
     older-early : older-after n γ g e rooms ≡ early (divided-after n γ e (divide γ m) g)
     unfolding older-after divided-after divide early-table empty Earlier.empty
     older-early = go (names-group n γ e g) refl
@@ -92,7 +97,9 @@ module _ (n : Network) (γ : Grouping) (g : ℕ) (m : Timetable) (plain : Unmark
         go : (b : Bool) → names-group n γ e g ≡ b
             → (if b then (λ k. if in-group γ g k then Earlier.after n (early-edit e) (older-sees n γ g e rooms) k else Earlier.empty) else rooms .older)
             ≡ early (if b then divide γ (after n e read) g else divide γ m g)
-        go true q = rw (sees-early (true-T (names-group n γ e g) q)) (fun-ext λ k. rw (after-early n e read k) (own k (in-group γ g k)))
+        go true q =
+            let t = true-T (names-group n γ e g) q in
+            rw (sees-early t) (fun-ext λ k. rw (after-early n e read (judged t) k) (own k (in-group γ g k)))
         go false q = older-part
 
     newer-told : newer-answer n γ g e rooms ≡ divided-answer n γ e (divide γ m)
@@ -105,7 +112,7 @@ module _ (n : Network) (γ : Grouping) (g : ℕ) (m : Timetable) (plain : Unmark
       where
         go : (b : Bool) → names-group n γ e g ≡ b
             → (if b then Earlier.answer n (early-edit e) (older-sees n γ g e rooms) else newer-answer n γ g e rooms) ≡ answer n e read
-        go true q = rw (sees-early (true-T (names-group n γ e g) q)) (answer-early n e read)
+        go true q = let t = true-T (names-group n γ e g) q in rw (sees-early t) (answer-early n e read (judged t))
         go false q = newer-told
 
 -- the edits one after another

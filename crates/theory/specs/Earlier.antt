@@ -1,8 +1,8 @@
--- The release before W6, kept as it was: visits without a stop mark, when they stop, tables of them, the machine, and
--- the timetable file in which such a release hands its sheet over. Document 01, "The railway and its numbers", "The
--- central machine" and "Files". Document 02, W6, speaks of "two control rooms at different releases"; what it claims of
--- them is in Releases. What has no visit in it (networks, relations, deletions, reports) is shared with the newest
--- release. Assumes nothing.
+-- The release before W6, kept as it was: visits without a stop mark, when they stop, tables of them, reports without a
+-- minute, the machine, and the timetable file in which such a release hands its sheet over. Document 01, "The railway
+-- and its numbers", "The central machine" and "Files". Document 02, W6, speaks of "two control rooms at different
+-- releases"; what it claims of them is in Releases. Networks, relations and deletions, which have not changed since,
+-- are shared with the newest release. Assumes nothing.
 use Prim.Native.Nat.{ℕ}
 use mathlib.Core.Bool.{Bool, true, false, not, _&&_, _||_}
 use mathlib.Core.List.{List, [], _∷_, _++_, map, flatMap}
@@ -13,7 +13,7 @@ use Rattle.base.specs.Choice.{if_then_else_, _if_else_}
 use Rattle.base.specs.Lists.{any, keep, first, is, count}
 use Rattle.railway.specs.Ranges.{station-ok, train-ok, track-ok, line-ok, minute-ok, run-ok, same-station, same-train, same-track, same-line, same-minute}
 use Rattle.railway.specs.Relations.{same-relation}
-use Rattle.railway.specs.Edits.{deletion-ok, report-ok, station-relation-ok}
+use Rattle.railway.specs.Edits.{deletion-ok, station-relation-ok}
 use Rattle.network.specs.Networks.{stations-of, listed, track-known, runs}
 use Rattle.timetable.specs.Tables.{insert, lose-all}
 use Rattle.timetable.specs.Visits.{from, onward}
@@ -21,7 +21,7 @@ use Rattle.timetable.specs.FileForms.{status-number}
 use Rattle.timetable.specs.EditsFile.{station-relation-numbers}
 use Rattle.timetable.specs.TimetableFile.{in-link-numbers, out-link-numbers}
 use Rattle.theory.specs.Types.{Station, Train, Track, Line, Minute, Inward, Outward, InLink, OutLink, Relation, Network, Answer}
-use Rattle.theory.specs.Types.{Deletion, Report, StationRelation, Cancellation}
+use Rattle.theory.specs.Types.{Deletion, StationRelation, Cancellation}
 
 -- visits and edits
 
@@ -49,6 +49,12 @@ pub record Extension : Type 0 where
   pub other : Station
   pub line : Line
   pub run : ℕ
+
+-- "(s, t, time)"
+pub record Report : Type 0 where
+  pub station : Station
+  pub train : Train
+  pub time : Minute
 
 pub data Edit : Type 0 where
   place : Plan → Edit
@@ -302,6 +308,9 @@ plan-ok p = (station-ok (p .station) && train-ok (p .train)) && (track-ok (p .tr
 unfoldable pub extension-ok : Extension → Bool
 extension-ok x = plan-ok (x .plan) && (station-ok (x .other) && (line-ok (x .line) && run-ok (x .run)))
 
+unfoldable pub report-ok : Report → Bool
+report-ok r = station-ok (r .station) && (train-ok (r .train) && minute-ok (r .time))
+
 unfoldable pub edit-ok : Edit → Bool
 edit-ok (place p) = plan-ok p
 edit-ok (prepend x) = extension-ok x
@@ -359,6 +368,6 @@ timetable-numbers n m =
 -- The key ring of this module: `unfolding opened` opens every definition above.
 unfoldable pub opened : Unit {0}
 unfolding lacks-in lacks-out comes leaves stops first-stands last-stands alters with-in with-out planned amended arrived-at departed-at empty visit-of has-visit enter add-visit
-    change-entry change-visit has-relation with-relation drop-relation without room as-it-was meaning plan-ok extension-ok edit-ok put refused-as refusal changed removed-by
+    change-entry change-visit has-relation with-relation drop-relation without room as-it-was meaning plan-ok extension-ok report-ok edit-ok put refused-as refusal changed removed-by
     answer after visit-numbers timetable-numbers
 opened = tt

@@ -8,3 +8,4 @@ pub mod Freight
 pub mod Rechecks
 pub mod Earlier
 pub mod Releases
+pub mod Reports

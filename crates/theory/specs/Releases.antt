@@ -17,7 +17,7 @@ use Rattle.timetable.specs.Machine.{Timetable, local, throughout, meaning, answ
 use Rattle.timetable.specs.EditsFile.{mark-of}
 use Rattle.timetable.specs.Groups.{Grouping, names-group, in-group, Divided, divide, merge, gather, divided-answer, divided-after}
 use Rattle.timetable.specs.Good.{Whole}
-use Rattle.theory.specs.Types.{Station, Visit, Plan, Extension, Network, Answer}
+use Rattle.theory.specs.Types.{Station, Visit, Plan, Extension, Report, Network, Answer}
 use Rattle.theory.specs.Types.{Edit, Place, Prepend, Append, DeleteFirst, DeleteLast, Amend}
 use Rattle.theory.specs.Types.{ReportArrival, ReportDeparture, AddRelation, RemoveRelation, DeleteTrain}
 use Rattle.theory.specs.Reordering.{along, Reordering}
@@ -26,7 +26,7 @@ use Rattle.theory.specs.Earlier as Earlier
 
 -- from the one release to the other
 
--- what the older room sees of a visit, a table and an edit: all but the mark
+-- what the older room sees of a visit, a table and an edit: all but the mark and a report's minute
 unfoldable pub early-visit : Visit → Earlier.Visit
 early-visit v = record {
   track = v .track;
@@ -47,6 +47,9 @@ early-plan p = record { station = p .station; train = p .train; track = p .track
 unfoldable pub early-extension : Extension → Earlier.Extension
 early-extension x = record { plan = early-plan (x .plan); other = x .other; line = x .line; run = x .run }
 
+unfoldable pub early-report : Report → Earlier.Report
+early-report r = record { station = r .station; train = r .train; time = r .time }
+
 unfoldable pub early-edit : Edit → Earlier.Edit
 early-edit (Place p) = Earlier.place (early-plan p)
 early-edit (Prepend x) = Earlier.prepend (early-extension x)
@@ -54,8 +57,8 @@ early-edit (Append x) = Earlier.append (early-extension x)
 early-edit (DeleteFirst d) = Earlier.delete-first d
 early-edit (DeleteLast d) = Earlier.delete-last d
 early-edit (Amend p) = Earlier.amend (early-plan p)
-early-edit (ReportArrival r) = Earlier.report-arrival r
-early-edit (ReportDeparture r) = Earlier.report-departure r
+early-edit (ReportArrival r) = Earlier.report-arrival (early-report r)
+early-edit (ReportDeparture r) = Earlier.report-departure (early-report r)
 early-edit (AddRelation r) = Earlier.add-relation r
 early-edit (RemoveRelation r) = Earlier.remove-relation r
 early-edit (DeleteTrain c) = Earlier.delete-train c
@@ -147,6 +150,6 @@ ReleasesMerge = (n : Network) → GoodNetwork n → (γ : Grouping) (gs : List �
 
 -- The key ring of this module: `unfolding opened` opens every definition above.
 unfoldable pub opened : Unit {0}
-unfolding early-visit early-table early-plan early-extension early-edit unmarked-visit unmarked-table unmarked handed older-sees older-after both-after
+unfolding early-visit early-table early-plan early-extension early-report early-edit unmarked-visit unmarked-table unmarked handed older-sees older-after both-after
     newer-answer older-answer two-releases marks-there none-marks
 opened = tt

@@ -19,7 +19,7 @@ use Rattle.base.specs.Lists.{any, count, each-two, pairs, below, same}
 use Rattle.base.specs.Runs.{run, answers}
 use Rattle.network.specs.Networks.{network-refusal, listed}
 use Rattle.timetable.specs.Machine.{Timetable, refusal, answer, after}
-use Rattle.timetable.specs.Groups.{Grouping, areas, six, names, names-group, Divided, divide, merge, gather, divided-answer, divided-after}
+use Rattle.timetable.specs.Groups.{Grouping, areas, six, names, names-group, Divided, divide, merge, gather, divided-answer, divided-after, naming-none}
 use Rattle.timetable.specs.Good.{Whole, GoodDivision}
 use Rattle.timetable.specs.Findings.{findings, numbers, own-list, pair-list}
 use Rattle.timetable.specs.Count.{zero-tally, raise-all, counts-in-full, visit-count}
@@ -38,14 +38,14 @@ pub record Grouped (n : Network) (γ : Grouping) (gs : List ℕ) : Type 0 where
   pub in-one : (k : Station) → T (listed n k) → count (eqb (γ k)) gs ≡ 1
   pub in-none : (k : Station) → listed n k ≡ ltb 0 (γ k)
 
--- 1. An edit reads and changes only the tables of the stations that it names; "one refused with 3 or 7 names none". So
--- two timetables that agree at those stations give the same answer and the same new tables there, whatever they have
--- elsewhere; and elsewhere nothing changes.
+-- 1. An edit reads and changes only the tables of the stations that it names; "one refused with 3 or 7 names none", nor
+-- does one refused with 15. So two timetables that agree at those stations give the same answer and the same new tables
+-- there, whatever they have elsewhere; and elsewhere nothing changes.
 pub record Local (n : Network) (e : Edit) : Type 0 where
   pub same-answer : (m m′ : Timetable) → ((k : Station) → T (names n e k) → m k ≡ m′ k) → answer n e m ≡ answer n e m′
   pub same-change : (m m′ : Timetable) → ((k : Station) → T (names n e k) → m k ≡ m′ k) → (k : Station) → T (names n e k) → after n e m k ≡ after n e m′ k
   pub others-kept : (m : Timetable) (k : Station) → ¬ T (names n e k) → after n e m k ≡ m k
-  pub names-none : (m : Timetable) → T (eqb (refusal n e m) 3 || eqb (refusal n e m) 7) → (k : Station) → ¬ T (names n e k)
+  pub names-none : (m : Timetable) → T (naming-none (refusal n e m)) → (k : Station) → ¬ T (names n e k)
 
 -- 2. Any order: the central machine takes the edits in the order ps instead. Each edit answers as it did in the first
 -- order (the answers come in the new order, hence "along ps"), and the last timetable is the same.

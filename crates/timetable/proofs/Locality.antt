@@ -1,11 +1,12 @@
--- An edit reads and changes only the tables of the stations that it names, and one refused with 3 or 7 names none. An
--- edit's meaning sees the tables of s and p alone, so each fact is proved once for all meanings, by the tests that
--- decide what an edit names: its values are in range (`edit-ok`), its network knows it (`known`), and the station is s
--- or p. Assumes nothing.
+-- An edit reads and changes only the tables of the stations that it names, and one refused with 3, 7 or 15 names none.
+-- An edit's meaning sees the tables of s and p alone, so each fact is proved once for all meanings, by the tests that
+-- decide what an edit names: its values do not refuse it (`sound`), its network knows it (`known`), and the station is
+-- s or p. Assumes nothing.
 use Prim.Native.Nat.{ℕ, _+_}
 use mathlib.Core.Path.{_≡_, refl, sym, _∙_, ap, ap₂}
 use mathlib.Core.Bool.{Bool, true, false, not, _&&_, _||_}
 use mathlib.Core.List.{List, [], _∷_}
+use native.Mathlib.Omega.{arith}
 use lib.Dec.{T, eqb, eqb-refl, eqb→eq}
 use borrow.Author.Tests.{ne-eqb, eqb-false}
 use Rattle.base.specs.Choice.{if_then_else_, _if_else_}
@@ -19,7 +20,7 @@ use Rattle.timetable.specs.Types.{ReportArrival, ReportDeparture, AddRel
 use Rattle.timetable.specs.Visits.{lacks-in, lacks-out, first-stands, last-stands, alters}
 use Rattle.timetable.specs.Tables.{Table, without, visit-of, has-visit, has-relation, full-visits, full-relations}
 use Rattle.timetable.specs.Machine.{Timetable, put, Action, Meaning, local, throughout, meaning, known, room, edit-refusal, sound, refused-as, refusal, changed, removed-by, answer, after}
-use Rattle.timetable.specs.Groups.{reaches, names}
+use Rattle.timetable.specs.Groups.{reaches, names, naming-none}
 
 pub same-station-equal : (k s : Station) → T (same-station k s) → k ≡ s
 same-station-equal k s t = λ i. record { 0 = eqb→eq (k .0) (s .0) t i }
@@ -156,10 +157,10 @@ others-kept n e m k away = meaning-kept n m (sound e) (edit-refusal e) (meaning 
 
 -- what an edit names
 
--- 3 and 7 are decided before any table is read: what the tables say is neither, edit by edit
+-- 3, 7 and 15 are decided before any table is read: what the tables say is none of them, edit by edit
 
 abbrev Later : ℕ → Type 0
-Later r = ¬ T (eqb r 3 || eqb r 7)
+Later r = ¬ T (naming-none r)
 
 either : (r : ℕ) (b : Bool) (q : ℕ) → Later r → Later q → Later (r if b else q)
 either r true q x y = x
@@ -204,22 +205,35 @@ tables-later (AddRelation r) = λ n here there. either 8 (has-relation (r .relat
 tables-later (RemoveRelation r) = λ n here there. either 9 (not (has-relation (r .relation) here)) 0 no no
 tables-later (DeleteTrain c) = tt
 
+-- 15 is said by no network and no table
+meaning-past : (n : Network) (μ : Meaning) (m : Timetable) → Tables-later μ → ¬ (refused-as n μ m ≡ 15)
+unfolding refused-as
+meaning-past n (throughout t) m later q = omega (arith, q)
+meaning-past n (local a) m later q = go (known n a) q
+  where
+    go : (c : Bool) → ¬ ((7 if not c else a .refuses n (m (a .home)) (m (a .away))) ≡ 15)
+    go true r = later n (m (a .home)) (m (a .away)) (rw r tt)
+    go false r = omega (arith, r)
+
+pub tables-past : (n : Network) (e : Edit) (m : Timetable) → ¬ (refused-as n (meaning e) m ≡ 15)
+tables-past n e m = meaning-past n (meaning e) m (tables-later e)
+
 -- c says that the network knows the action, r is what its tables refuse it with
-unknown-none : (a : Action) (c : Bool) (r : ℕ) (k : Station) → Later r → T (eqb (7 if not c else r) 3 || eqb (7 if not c else r) 7) → ¬ T (c && at-ends a k)
+unknown-none : (a : Action) (c : Bool) (r : ℕ) (k : Station) → Later r → T (naming-none (7 if not c else r)) → ¬ T (c && at-ends a k)
 unknown-none a true r k later t u = later t
 unknown-none a false r k later t u = u
 
 -- b says that the edit's values are in range
 meaning-none : (n : Network) (b : Bool) (v : ℕ) (μ : Meaning) (m : Timetable) (k : Station) → Tables-later μ
-    → T (eqb (if b then refused-as n μ m else v) 3 || eqb (if b then refused-as n μ m else v) 7) → ¬ T (b && reaches n μ k)
+    → T (naming-none (if b then refused-as n μ m else v)) → ¬ T (b && reaches n μ k)
 unfolding refused-as reaches
 meaning-none n false v μ m k later t u = u
 meaning-none n true v (local a) m k later t u =
     unknown-none a (known n a) (a .refuses n (m (a .home)) (m (a .away))) k (later n (m (a .home)) (m (a .away))) t u
 meaning-none n true v (throughout x) m k later t u = t
 
--- "one refused with 3 or 7 names none"
-pub names-none : (n : Network) (e : Edit) (m : Timetable) → T (eqb (refusal n e m) 3 || eqb (refusal n e m) 7) → (k : Station) → ¬ T (names n e k)
+-- "one refused with 3 or 7 names none"; 15: "such an edit names no area"
+pub names-none : (n : Network) (e : Edit) (m : Timetable) → T (naming-none (refusal n e m)) → (k : Station) → ¬ T (names n e k)
 unfolding refusal names
 names-none n e m t k = meaning-none n (sound e) (edit-refusal e) (meaning e) m k (tables-later e) t
 

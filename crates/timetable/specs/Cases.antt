@@ -24,6 +24,7 @@ use Rattle.timetable.specs.Types.{Edit, Place, Prepend, Append, DeleteFi
 use Rattle.timetable.specs.Types.{ReportArrival, ReportDeparture, AddRelation, RemoveRelation, DeleteTrain}
 use Rattle.timetable.specs.Types.{StationRow, LineRow, Closure, Network, NetworkForm, FileForm, Answer, Finding, Row, Tally}
 use Rattle.timetable.specs.Refusals as Refusals
+use Rattle.timetable.specs.Refusals.{early}
 use Rattle.timetable.specs.Formats as Formats
 use Rattle.timetable.specs.Formats.{Outcome, accepted, refused, Placed}
 use Rattle.timetable.specs.FileForms as FileForms
@@ -42,8 +43,9 @@ use Rattle.timetable.specs.Pieces as Pieces
 use Rattle.timetable.specs.Visits as Visits
 use Rattle.timetable.specs.Tables as Tables
 use Rattle.timetable.specs.Tables.{Entry, Table}
+use Rattle.timetable.specs.Reports as Reports
 use Rattle.timetable.specs.Machine as Machine
-use Rattle.timetable.specs.Machine.{Timetable, put, nothing-placed, answer, after}
+use Rattle.timetable.specs.Machine.{Timetable, put, nothing-placed, edit-refusal, answer, after}
 use Rattle.timetable.specs.Groups as Groups
 use Rattle.timetable.specs.Groups.{names-group, divide}
 use Rattle.timetable.specs.Good as Good
@@ -98,11 +100,18 @@ delete-first s t p = DeleteFirst (record { station = st s; train = tr t; other =
 unfoldable pub delete-last : ℕ → ℕ → ℕ → Edit
 delete-last s t p = DeleteLast (record { station = st s; train = tr t; other = st p })
 
+-- s, t, time, and the minute that it carries; with the last minute
+unfoldable pub arrives-by : ℕ → ℕ → ℕ → ℕ → Edit
+arrives-by s t m p = ReportArrival (record { station = st s; train = tr t; time = at m; present = at p })
+
+unfoldable pub departs-by : ℕ → ℕ → ℕ → ℕ → Edit
+departs-by s t m p = ReportDeparture (record { station = st s; train = tr t; time = at m; present = at p })
+
 unfoldable pub arrives : ℕ → ℕ → ℕ → Edit
-arrives s t m = ReportArrival (record { station = st s; train = tr t; time = at m })
+arrives s t m = arrives-by s t m 2879
 
 unfoldable pub departs : ℕ → ℕ → ℕ → Edit
-departs s t m = ReportDeparture (record { station = st s; train = tr t; time = at m })
+departs s t m = departs-by s t m 2879
 
 unfoldable pub relate : Relation → Edit
 relate r = AddRelation (record { station = st 1; relation = r })
@@ -276,6 +285,8 @@ pub data Case : Type 0 where
   ordered : List Relation → Bool → Case
   -- the network's refusal, 0 for a good one
   network-is : Network → ℕ → Case
+  -- the first refusal of an edit and a network, before any sheet is looked at
+  refused-early : Network → Edit → ℕ → Case
   -- the areas of 1..6 that the edit names
   naming : Network → Edit → List ℕ → Case
   -- the table is good at station 1, or not
@@ -357,6 +368,7 @@ passes (answered n es ks) = same ks (answer-numbers (answers (after n) (answer n
 passes (answered-on m es ks) = same ks (answer-numbers (answers (after net) (answer net) es m))
 passes (ordered rs b) = Bool·beq b (each-before rs)
 passes (network-is n k) = eqb k (network-refusal n)
+passes (refused-early n e k) = eqb k (early (edit-refusal e) (network-refusal n) 0)
 passes (naming n e gs) = same gs (keep (names-group n (area-of n) e) (1 ∷ 2 ∷ 3 ∷ 4 ∷ 5 ∷ 6 ∷ []))
 passes (table-is tab b) = Bool·beq b (table-good net (st 1) tab)
 passes (area-has n m a ks) = same ks (numbers-of (area-part n a m))
@@ -379,10 +391,10 @@ failing k (c ∷ cs) = if passes c then failing (suc k) cs else k ∷ failing (s
 
 -- The key ring of this module and of all that it computes with.
 unfoldable pub opened : Unit {0}
-unfolding st tr ln at marked-plan plan place prepend append delete-first delete-last arrives departs relate unrelate delete-train four two pair station timed-line line network closure closed-lines closed windows
+unfolding st tr ln at marked-plan plan place prepend append delete-first delete-last arrives-by departs-by arrives departs relate unrelate delete-train four two pair station timed-line line network closure closed-lines closed windows
     timed with-capacity net branch leaving inbound crowd connections stopping visiting by to tabled standing bare request later counted told run-in run-of area-part listed-edits
     outcome-numbers placed-edits shift-numbers reads-as reads-refused lists answer-numbers signed row-numbers each-before along reply-numbers passes failing
     Lists.opened Runs.opened Numbers.opened Relations.opened Edits.opened Networks.opened
     Refusals.opened Formats.opened FileForms.opened NetworkFile.opened Outputs.opened Turning.opened EditsFile.opened TimetableFile.opened Pieces.opened
-    Visits.opened Tables.opened Machine.opened Groups.opened Good.opened Rules.opened Findings.opened Recheck.opened Projection.opened Count.opened Listing.opened
+    Visits.opened Tables.opened Reports.opened Machine.opened Groups.opened Good.opened Rules.opened Findings.opened Recheck.opened Projection.opened Count.opened Listing.opened
 opened = tt

@@ -1,9 +1,9 @@
 -- The edits file, and the input of `shift`. Document 01, "Files": "Edits: count (0..1000), then kind and fields; a
 -- relation is kind (1, 2, 3), interval, count of trains, trains (rising, except arriver, departer, whose count is 2)."
--- Document 02, W6: a stop mark "after its track in every edit that carries a track"; an edit is read and written in a
--- form. Assumes nothing.
+-- Document 02, W6: a stop mark "after its track in every edit that carries a track"; W7: reports "carry the present
+-- minute .. as a last field"; an edit is read and written in a form. Assumes nothing.
 use Prim.Native.Nat.{ℕ, zero, suc, _+_}
-use mathlib.Core.Bool.{Bool, false, not, _||_}
+use mathlib.Core.Bool.{Bool, false, not, _&&_, _||_}
 use mathlib.Core.List.{List, [], _∷_, _++_, map, flatMap}
 use lib.Dec.{leb, eqb}
 use lib.ListN.{length, getD}
@@ -16,7 +16,7 @@ use Rattle.timetable.specs.Types.{Edit, Place, Prepend, Append, DeleteFi
 use Rattle.timetable.specs.Types.{ReportArrival, ReportDeparture, AddRelation, RemoveRelation, DeleteTrain}
 use Rattle.timetable.specs.Tables.{packed}
 use Rattle.timetable.specs.Formats.{Format, done, field, _and-then_, Outcome, accepted, behind, read-file, Range, _to_, compared, row, entries, Placed, placed}
-use Rattle.timetable.specs.FileForms.{newest-form, mark-range, mark-numbers, mark-said, with-mark}
+use Rattle.timetable.specs.FileForms.{newest-form, mark-range, mark-numbers, mark-said, with-mark, minute-range, minute-numbers, minute-said, with-minute}
 use Rattle.timetable.specs.NetworkFile.{Listed, network-format, network-of, network-fault, unless-fault}
 
 -- relations
@@ -112,15 +112,20 @@ deletion-of ns = record { station = record { 0 = getD ns 0 0 }; train = record {
 unfoldable pub deletion-numbers : Deletion → List ℕ
 deletion-numbers d = d .station .0 ∷ d .train .0 ∷ d .other .0 ∷ []
 
--- "(s, t, time)"
-unfoldable pub report-ranges : List Range
-report-ranges = 1 to 16 ∷ 1 to 9999 ∷ 0 to last-minute ∷ []
+-- "(s, t, time)", the present minute last
+unfoldable pub report-ranges : FileForm → List Range
+report-ranges form = 1 to 16 ∷ 1 to 9999 ∷ 0 to last-minute ∷ minute-range form
 
 unfoldable pub report-of : List ℕ → Report
-report-of ns = record { station = record { 0 = getD ns 0 0 }; train = record { 0 = getD ns 1 0 }; time = record { 0 = getD ns 2 0 } }
+report-of ns = record {
+  station = record { 0 = getD ns 0 0 };
+  train = record { 0 = getD ns 1 0 };
+  time = record { 0 = getD ns 2 0 };
+  present = record { 0 = getD ns 3 0 };
+}
 
-unfoldable pub report-numbers : Report → List ℕ
-report-numbers r = r .station .0 ∷ r .train .0 ∷ r .time .0 ∷ []
+unfoldable pub report-numbers : FileForm → Report → List ℕ
+report-numbers form r = r .station .0 ∷ r .train .0 ∷ r .time .0 ∷ minute-numbers form (r .present .0)
 
 -- the ranges of an edit's fields, and the edit of such fields, by the kind; 9 and 10 hold a relation instead
 
@@ -132,8 +137,8 @@ edit-ranges form kind =
     else if eqb kind 4 then deletion-ranges
     else if eqb kind 5 then deletion-ranges
     else if eqb kind 6 then plan-ranges form
-    else if eqb kind 7 then report-ranges
-    else if eqb kind 8 then report-ranges
+    else if eqb kind 7 then report-ranges form
+    else if eqb kind 8 then report-ranges form
     else (1 to 9999 ∷ [])
 
 unfoldable pub edit-of : ℕ → List ℕ → Edit
@@ -152,9 +157,13 @@ edit-of kind ns =
 unfoldable pub has-track : ℕ → Bool
 has-track kind = leb kind 3 || eqb kind 6
 
+-- "Reports of arrival and departure"
+unfoldable pub is-report : ℕ → Bool
+is-report kind = eqb kind 7 || eqb kind 8
+
 -- what the earlier form lacks of such fields is supplied
 unfoldable pub supplied : FileForm → ℕ → List ℕ → List ℕ
-supplied form kind ns = if has-track kind then with-mark form ns else ns
+supplied form kind ns = if has-track kind then with-mark form ns else if is-report kind then with-minute form ns else ns
 
 unfoldable pub edit-fields : FileForm → ℕ → Format Edit
 edit-fields form kind =
@@ -172,8 +181,8 @@ edit-numbers form (Append x) = 3 ∷ extension-numbers form x
 edit-numbers form (DeleteFirst d) = 4 ∷ deletion-numbers d
 edit-numbers form (DeleteLast d) = 5 ∷ deletion-numbers d
 edit-numbers form (Amend p) = 6 ∷ plan-numbers form p
-edit-numbers form (ReportArrival r) = 7 ∷ report-numbers r
-edit-numbers form (ReportDeparture r) = 8 ∷ report-numbers r
+edit-numbers form (ReportArrival r) = 7 ∷ report-numbers form r
+edit-numbers form (ReportDeparture r) = 8 ∷ report-numbers form r
 edit-numbers form (AddRelation r) = 9 ∷ station-relation-numbers r
 edit-numbers form (RemoveRelation r) = 10 ∷ station-relation-numbers r
 edit-numbers form (DeleteTrain c) = 11 ∷ c .train .0 ∷ []
@@ -192,9 +201,23 @@ mark-of (AddRelation r) = false
 mark-of (RemoveRelation r) = false
 mark-of (DeleteTrain c) = false
 
+-- the minute that an edit carries, the last where it is no report
+unfoldable pub minute-of : Edit → ℕ
+minute-of (Place p) = last-minute
+minute-of (Prepend x) = last-minute
+minute-of (Append x) = last-minute
+minute-of (DeleteFirst d) = last-minute
+minute-of (DeleteLast d) = last-minute
+minute-of (Amend p) = last-minute
+minute-of (ReportArrival r) = r .present .0
+minute-of (ReportDeparture r) = r .present .0
+minute-of (AddRelation r) = last-minute
+minute-of (RemoveRelation r) = last-minute
+minute-of (DeleteTrain c) = last-minute
+
 -- a form can say it: the earlier one only what has the values that it is supplied with
 unfoldable pub edit-said : FileForm → Edit → Bool
-edit-said form e = mark-said form (mark-of e)
+edit-said form e = mark-said form (mark-of e) && minute-said form (minute-of e)
 
 -- lists of edits: edits have no order
 
@@ -238,5 +261,5 @@ read-shift file =
 unfoldable pub opened : Unit {0}
 unfolding trains-format pair-of group-of relation-of most-trains trains-part train-count-part interval-part relation-entry group-numbers relation-numbers station-relation-entry station-relation-numbers
     plan-ranges plan-of plan-numbers extension-ranges extension-of extension-numbers deletion-ranges deletion-of deletion-numbers report-ranges report-of
-    report-numbers edit-ranges edit-of has-track supplied edit-fields edit-entry edit-numbers mark-of edit-said edits-on edits-format read-edits-as edits-numbers shift-format read-shift
+    report-numbers edit-ranges edit-of has-track is-report supplied edit-fields edit-entry edit-numbers mark-of minute-of edit-said edits-on edits-format read-edits-as edits-numbers shift-format read-shift
 opened = tt

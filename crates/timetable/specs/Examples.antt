@@ -10,12 +10,12 @@ use Rattle.timetable.specs.Findings.{finding}
 use Rattle.timetable.specs.Machine.{nothing-placed}
 use Rattle.timetable.specs.Formats.{bytes-of}
 use Rattle.timetable.specs.Pieces.{cut, size, station-row, timed-row, line-row, old-row, up-to-lines, network-row, one-station, headway-place, joined-by, first-line, second-line, closure-row, up-to-closures, closed-row, closed-by, first-closure, second-closure, old-file, old-second, old-closure, two-stations}
-use Rattle.timetable.specs.Pieces.{marked-row, extension-row, edit-row, net-numbers, loop-numbers, listed-numbers, each-with, each-kind, crowd-visits, connected}
+use Rattle.timetable.specs.Pieces.{marked-row, extension-row, dated-row, report-row, edit-row, net-numbers, loop-numbers, listed-numbers, each-with, each-kind, crowd-visits, connected}
 use Rattle.timetable.specs.Cases as Cases
-use Rattle.timetable.specs.Cases.{st, plan, place, prepend, append, delete-first, delete-last, arrives, departs, relate, unrelate, delete-train}
+use Rattle.timetable.specs.Cases.{st, plan, place, prepend, append, delete-first, delete-last, arrives-by, departs-by, arrives, departs, relate, unrelate, delete-train}
 use Rattle.timetable.specs.Cases.{four, two, pair, station, line, network, closure, closed-lines, closed, windows, timed, with-capacity, net, branch, leaving, inbound, crowd, connections}
 use Rattle.timetable.specs.Cases.{marked-plan, request, later, visiting, by, to, tabled, standing, bare, counted, told}
-use Rattle.timetable.specs.Cases.{Case, bytes, unread, found, stands, related, answered, answered-on, ordered, network-is, naming, table-is}
+use Rattle.timetable.specs.Cases.{Case, bytes, unread, found, stands, related, answered, answered-on, ordered, network-is, refused-early, naming, table-is}
 use Rattle.timetable.specs.Cases.{network-file, turning, edits-file, shift-file, timetable-file, early-edits-file, early-timetable-file}
 use Rattle.timetable.specs.Cases.{area-has, pair-has, rechecks, rechecks-area, rechecks-other, rechecks-other-area, list-is, projected, tallied, printed, failing, run-in, run-of, listed-edits}
 
@@ -718,8 +718,8 @@ request-stops =
     -- a mark on a visit that stops anyway is kept: two such files differ
     ∷ timetable-file net (bytes-of (1 ∷ 1 ∷ 7 ∷ 1 ∷ 1 ∷ 100 ∷ 0 ∷ 102 ∷ 0 ∷ 0 ∷ 0 ∷ 0 ∷ [])) (0 ∷ 12 ∷ 1 ∷ 1 ∷ 7 ∷ 1 ∷ 1 ∷ 100 ∷ 0 ∷ 102 ∷ 0 ∷ 0 ∷ 0 ∷ 0 ∷ [])
     -- a mark of 2; a fault behind it, in both forms; the newest form is not the earlier one
-    ∷ edits-file (bytes-of (each-with (marked-row 1 7 1 1 100 102))) (0 ∷ size each-kind ∷ 1 ∷ each-with (marked-row 1 7 1 1 100 102))
-    ∷ early-edits-file (bytes-of (each-with (1 ∷ 7 ∷ 1 ∷ 100 ∷ 102 ∷ []))) (0 ∷ (size each-kind - 4) ∷ 1 ∷ each-kind)
+    ∷ edits-file (bytes-of (each-with (marked-row 1 7 1 1 100 102) (report-row 1 7 100))) (0 ∷ size each-kind ∷ 1 ∷ each-with (marked-row 1 7 1 1 100 102) (report-row 1 7 100))
+    ∷ early-edits-file (bytes-of (each-with (1 ∷ 7 ∷ 1 ∷ 100 ∷ 102 ∷ []) (1 ∷ 7 ∷ 100 ∷ []))) (0 ∷ (size each-kind - 8) ∷ 1 ∷ each-kind)
     ∷ edits-file (bytes-of (1 ∷ edit-row 1 (marked-row 1 7 1 2 100 102))) (3 ∷ 5 ∷ [])
     ∷ edits-file (bytes-of (1 ∷ edit-row 6 (marked-row 1 7 1 2 100 102))) (3 ∷ 5 ∷ [])
     ∷ edits-file (bytes-of (1 ∷ edit-row 2 (extension-row (marked-row 1 7 1 2 100 102) 2 1 12))) (3 ∷ 5 ∷ [])
@@ -731,9 +731,56 @@ request-stops =
     ∷ early-timetable-file net (bytes-of (1 ∷ 1 ∷ 7 ∷ 1 ∷ 0 ∷ 100 ∷ 0 ∷ 102 ∷ 0 ∷ 0 ∷ 0 ∷ 0 ∷ [])) (3 ∷ 5 ∷ [])
     ∷ []
 
+-- document 02, W7
+pub future-reports : List Case
+future-reports =
+    -- "later than the minute it carries": the same minute is taken, one minute later is not; both reports
+    answered net (place 1 7 1 100 102 ∷ arrives-by 1 7 105 105 ∷ arrives-by 1 7 106 105 ∷ departs-by 1 7 107 107 ∷ departs-by 1 7 108 107 ∷ [])
+    (0 ∷ 0 ∷ 0 ∷ 0 ∷ 15 ∷ 0 ∷ 0 ∷ 0 ∷ 15 ∷ 0 ∷ [])
+    ∷ answered net (place 1 7 1 100 102 ∷ arrives-by 1 7 0 0 ∷ arrives-by 1 7 1 0 ∷ arrives-by 1 7 2879 2879 ∷ arrives-by 1 7 2879 2878 ∷ [])
+    (0 ∷ 0 ∷ 0 ∷ 0 ∷ 15 ∷ 0 ∷ 0 ∷ 0 ∷ 15 ∷ 0 ∷ [])
+    -- "A clock that goes back is allowed, since each report is judged by its own minute."
+    ∷ answered net (place 1 7 1 100 102 ∷ arrives-by 1 7 105 110 ∷ departs-by 1 7 90 95 ∷ departs-by 1 7 96 95 ∷ arrives-by 1 7 111 112 ∷ [])
+    (0 ∷ 0 ∷ 0 ∷ 0 ∷ 0 ∷ 0 ∷ 15 ∷ 0 ∷ 0 ∷ 0 ∷ [])
+    -- "tested straight after 3": 15 before 7 of an unknown station and before 9 of a missing visit, 3 before 15
+    ∷ answered net (arrives-by 3 7 106 105 ∷ arrives-by 3 7 105 105 ∷ departs-by 1 7 106 105 ∷ departs-by 1 7 105 105 ∷ []) (15 ∷ 0 ∷ 7 ∷ 0 ∷ 15 ∷ 0 ∷ 9 ∷ 0 ∷ [])
+    ∷ answered net (place 1 7 1 100 102 ∷ arrives-by 1 7 100 2880 ∷ arrives-by 1 7 2880 2879 ∷ arrives-by 17 7 106 105 ∷ departs-by 1 0 106 105 ∷ [])
+    (0 ∷ 0 ∷ 3 ∷ 0 ∷ 3 ∷ 0 ∷ 3 ∷ 0 ∷ 3 ∷ 0 ∷ [])
+    -- "(of numbers so placed the higher first)": before 14 and 4 of the network, behind its 3
+    ∷ refused-early (closed (closure 1 100 100 ∷ [])) (arrives-by 1 7 106 105) 15
+    ∷ refused-early (closed (closure 1 100 100 ∷ [])) (arrives-by 1 7 105 105) 14
+    ∷ refused-early (closed (closure 2 100 110 ∷ [])) (departs-by 1 7 106 105) 15
+    ∷ refused-early (closed (closure 2 100 110 ∷ [])) (departs-by 1 7 105 105) 4
+    ∷ refused-early (network [] 3 []) (arrives-by 1 7 106 105) 3
+    ∷ refused-early net (arrives-by 1 7 106 105) 15
+    -- "such an edit names no area", and changes nothing; amendments are not judged
+    ∷ naming net (arrives-by 1 7 106 105) []
+    ∷ naming net (arrives-by 1 7 105 105) (1 ∷ [])
+    ∷ projected (run-of (place 1 7 1 100 102 ∷ arrives-by 1 7 106 105 ∷ [])) 7 1 120 (1 ∷ 120 ∷ 121 ∷ 0 ∷ 20 ∷ [])
+    ∷ projected (run-of (place 1 7 1 100 102 ∷ arrives-by 1 7 106 106 ∷ [])) 7 1 120 (1 ∷ 106 ∷ 107 ∷ 0 ∷ 0 ∷ [])
+    ∷ answered net (place 1 7 1 100 102 ∷ arrives-by 1 7 100 100 ∷ Amend (plan 1 7 1 100 2879) ∷ []) (0 ∷ 0 ∷ 0 ∷ 0 ∷ 0 ∷ 0 ∷ [])
+    -- it "counts as refused"
+    ∷ tallied (counted 1 2 3 4) (arrives-by 1 7 106 105) (told 15 0) (0 ∷ 65 ∷ 1 ∷ 3 ∷ 3 ∷ 4 ∷ [])
+    -- files: the minute is the last field, and 15 never a file's; 2880 is 3 at it, an earlier report carries 2879
+    ∷ edits-file (bytes-of (1 ∷ edit-row 7 (dated-row 1 7 106 105))) (0 ∷ 6 ∷ 1 ∷ 1 ∷ edit-row 7 (dated-row 1 7 106 105))
+    ∷ edits-file (bytes-of (1 ∷ edit-row 7 (dated-row 1 7 105 2880))) (3 ∷ 5 ∷ [])
+    ∷ edits-file (bytes-of (1 ∷ edit-row 8 (dated-row 1 300 105 2880))) (3 ∷ 6 ∷ [])
+    ∷ edits-file (bytes-of (1 ∷ edit-row 8 (cut (dated-row 1 7 105 0)))) (1 ∷ 5 ∷ [])
+    ∷ early-edits-file (bytes-of (1 ∷ edit-row 8 (1 ∷ 7 ∷ 105 ∷ []))) (0 ∷ 5 ∷ 1 ∷ 1 ∷ edit-row 8 (dated-row 1 7 105 2879))
+    ∷ early-edits-file (bytes-of (1 ∷ edit-row 7 (dated-row 1 7 105 105))) (1 ∷ 5 ∷ [])
+    ∷ early-edits-file (bytes-of (1 ∷ edit-row 7 (1 ∷ 7 ∷ 2880 ∷ []))) (3 ∷ 4 ∷ [])
+    -- the program prints it as an edit's answer
+    ∷ printed (place 1 7 1 100 102 ∷ departs-by 1 7 103 102 ∷ [])
+    ((69 ∷ 1 ∷ 0 ∷ 0 ∷ [])
+    ∷ (69 ∷ 2 ∷ 15 ∷ 0 ∷ [])
+    ∷ (84 ∷ 1 ∷ 0 ∷ 0 ∷ [])
+    ∷ (65 ∷ 1 ∷ 1 ∷ 1 ∷ 0 ∷ [])
+    ∷ [])
+    ∷ []
+
 pub table : List Case
-unfolding document ranges edits rules relations others files closures standing-trains freight recheck request-stops
-table = document ++ (ranges ++ (edits ++ (rules ++ (relations ++ (others ++ (files ++ (closures ++ (standing-trains ++ (freight ++ (recheck ++ request-stops))))))))))
+unfolding document ranges edits rules relations others files closures standing-trains freight recheck request-stops future-reports
+table = document ++ (ranges ++ (edits ++ (rules ++ (relations ++ (others ++ (files ++ (closures ++ (standing-trains ++ (freight ++ (recheck ++ (request-stops ++ future-reports)))))))))))
 
 pub examples-hold : failing 1 table ≡ []
 unfolding table Cases.opened

@@ -30,9 +30,13 @@ reaches n (local a) k = known n a && (same-station k (a .home) || same-station k
 reaches n (throughout t) k = listed n k
 
 -- the stations of "An edit names the areas of its stations s and p; edit 11 names every area with a station; one
--- refused with 3 or 7 names none."
+-- refused with 3 or 7 names none."; of a report from the future, document 02, W7: "such an edit names no area"
 unfoldable pub names : Network → Edit → Station → Bool
 names n e k = sound e && reaches n (meaning e) k
+
+-- the refusals of an edit that names none
+abbrev pub naming-none : ℕ → Bool
+naming-none r = eqb r 3 || (eqb r 7 || eqb r 15)
 
 -- the groups of those stations
 unfoldable pub names-group : Network → Grouping → Edit → ℕ → Bool

@@ -5,6 +5,7 @@ pub mod Formats
 pub mod FileForms
 pub mod Visits
 pub mod Tables
+pub mod Reports
 pub mod Machine
 pub mod Groups
 pub mod NetworkFile

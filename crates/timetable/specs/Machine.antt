@@ -12,6 +12,7 @@ use Rattle.network.specs.Networks.{stations-of, listed, track-known, runs}
 use Rattle.timetable.specs.Types.{Station, Train, InLink, OutLink, Network, Answer}
 use Rattle.timetable.specs.Types.{Edit, Place, Prepend, Append, DeleteFirst, DeleteLast, Amend}
 use Rattle.timetable.specs.Types.{ReportArrival, ReportDeparture, AddRelation, RemoveRelation, DeleteTrain}
+use Rattle.timetable.specs.Reports.{future}
 use Rattle.timetable.specs.Visits.{lacks-in, lacks-out, with-in, with-out, planned, amended, arrived-at, departed-at, from, onward, first-stands, last-stands, alters}
 use Rattle.timetable.specs.Tables.{Table, empty, visit-of, has-visit, add-visit, change-visit, has-relation, add-relation, drop-relation, without, full-visits, full-relations}
 
@@ -142,7 +143,7 @@ meaning (Amend p) = local (record {
   adds = 0;
   removes = 0;
 })
--- 7. "Report arrival (s, t, time)": "sets time and occurred anew"
+-- 7. "Report arrival (s, t, time)": "sets time and occurred anew". The minute that it carries is not kept.
 meaning (ReportArrival r) = local (record {
   home = r .station;
   away = r .station;
@@ -199,9 +200,9 @@ unfoldable pub refused-as : Network → Meaning → Timetable → ℕ
 refused-as n (local a) m = 7 if not (known n a) else a .refuses n (m (a .home)) (m (a .away))
 refused-as n (throughout t) m = 0
 
--- what an edit is refused with by its own values, whatever the network: 3, or 0
+-- what an edit is refused with by its own values, whatever the network: 3, or 15 "tested straight after 3", or 0
 unfoldable pub edit-refusal : Edit → ℕ
-edit-refusal e = 3 if not (edit-ok e) else 0
+edit-refusal e = 3 if not (edit-ok e) else 15 if future e else 0
 
 abbrev pub sound : Edit → Bool
 sound e = eqb (edit-refusal e) 0

@@ -111,9 +111,12 @@ plan-row s t k a d = marked-row s t k 0 a d
 unfoldable pub extension-row : List ℕ → ℕ → ℕ → ℕ → List ℕ
 extension-row plan p l r = plan ++ (p ∷ l ∷ r ∷ [])
 
--- s, t, time
+-- s, t, time, the minute that it carries; with the last minute
+unfoldable pub dated-row : ℕ → ℕ → ℕ → ℕ → List ℕ
+dated-row s t m p = s ∷ t ∷ m ∷ p ∷ []
+
 unfoldable pub report-row : ℕ → ℕ → ℕ → List ℕ
-report-row s t m = s ∷ t ∷ m ∷ []
+report-row s t m = dated-row s t m 2879
 
 unfoldable pub edit-row : ℕ → List ℕ → List ℕ
 edit-row kind fields = kind ∷ fields
@@ -128,17 +131,17 @@ listed-numbers =
     ∷ [])
 
 -- an edit of each kind, and of each kind of relation
--- with such a plan
-unfoldable pub each-with : List ℕ → List ℕ
-each-with plan =
+-- with such a plan and such a report
+unfoldable pub each-with : List ℕ → List ℕ → List ℕ
+each-with plan report =
     13 ∷ all (edit-row 1 plan
     ∷ edit-row 2 (extension-row plan 2 1 12)
     ∷ edit-row 3 (extension-row plan 2 1 12)
     ∷ edit-row 4 (1 ∷ 7 ∷ 2 ∷ [])
     ∷ edit-row 5 (1 ∷ 7 ∷ 2 ∷ [])
     ∷ edit-row 6 plan
-    ∷ edit-row 7 (report-row 1 7 100)
-    ∷ edit-row 8 (report-row 1 7 100)
+    ∷ edit-row 7 report
+    ∷ edit-row 8 report
     ∷ edit-row 9 (1 ∷ 1 ∷ 5 ∷ 3 ∷ 7 ∷ 8 ∷ 9 ∷ [])
     ∷ edit-row 10 (1 ∷ 2 ∷ 5 ∷ 2 ∷ 7 ∷ 300 ∷ [])
     ∷ edit-row 9 (1 ∷ 3 ∷ 4 ∷ 2 ∷ 9 ∷ 7 ∷ [])
@@ -147,7 +150,7 @@ each-with plan =
     ∷ [])
 
 unfoldable pub each-kind : List ℕ
-each-kind = each-with (plan-row 1 7 1 100 102)
+each-kind = each-with (plan-row 1 7 1 100 102) (report-row 1 7 100)
 
 -- timetables
 
@@ -164,5 +167,5 @@ connected from (suc k) = 1 ∷ 1 ∷ from ∷ 2 ∷ 7 ∷ 8 ∷ connected (suc f
 -- The key ring of this module: `unfolding opened` opens every definition above.
 unfoldable pub opened : Unit {0}
 unfolding all cut size station-row timed-row line-row old-row up-to-lines closure-row up-to-closures closed-row network-row one-station headway-place two-stations joined-by first-line second-line net-numbers loop-numbers closed-by first-closure second-closure old-file old-second old-closure
-    marked-row plan-row extension-row report-row edit-row listed-numbers each-with each-kind crowd-visits connected flatMap
+    marked-row plan-row extension-row dated-row report-row edit-row listed-numbers each-with each-kind crowd-visits connected flatMap
 opened = tt

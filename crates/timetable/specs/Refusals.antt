@@ -1,6 +1,6 @@
--- What refuses a call, in document 01's order: "5, 3, 4, 7, 6, 8, 9, 10, 11, 12, 13"; W1's 14 is "tested straight after
--- 3". A number that stands between 3 and 4 is the call's own or the network's, one behind 4 the network's. Assumes
--- nothing.
+-- What refuses a call, in document 01's order: "5, 3, 4, 7, 6, 8, 9, 10, 11, 12, 13"; W1's 14 and W7's 15 are "tested
+-- straight after 3 (of numbers so placed the higher first)". A number that stands between 3 and 4 is the call's own
+-- (15) or, behind those, the network's (14); 4 is the network's. Assumes nothing.
 use Prim.Native.Nat.{ℕ}
 use mathlib.Core.Bool.{Bool, not, _||_}
 use lib.Dec.{eqb}

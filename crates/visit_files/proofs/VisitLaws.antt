@@ -13,7 +13,7 @@ use Rattle.base.proofs.Tests.{both}
 use Rattle.railway.specs.Ranges.{last-minute, station-ok}
 use Rattle.timetable.specs.Formats.{Format, done, field, Outcome, accepted, refused, _and-then_, field-at, read, _to_, least, floor-after, compared, row}
 use Rattle.timetable.specs.declared.FileForm.{FileForm}
-use Rattle.timetable.specs.FileForms.{mark-range, with-mark}
+use Rattle.timetable.specs.FileForms.{mark-range, with-fourth, with-mark}
 use Rattle.timetable.specs.TimetableFile.{StationVisit, visit-ranges, in-link-entry, out-link-entry, station-visit-of, visit-entry}
 use Rattle.fields.specs.between.Answers.{padded}
 use Rattle.fields.proofs.EntryLaws.{field-bounded, padded-at, field-on, field-stop, then-on, then-stop, then-taken, row-taken}
@@ -125,7 +125,7 @@ dropped-at [] i = refl
 dropped-at (n ∷ ns) i = refl
 
 pub visit-padded : (form : FileForm) (ns : List ℕ) (i : InLink) (o : OutLink) → visit-in form (padded 13 0 ns) i o ≡ visit-in form ns i o
-unfolding visit-in station-visit-of with-mark
+unfolding visit-in station-visit-of with-fourth
 visit-padded FileForm.Earlier ns i o =
     rw (
       dropped-at (padded 13 0 ns) 0,
@@ -160,7 +160,7 @@ pub visit-by : (form : FileForm) (ns : List ℕ) (i : InLink) (o : OutLink)
       inward = i;
       outward = o;
     }
-unfolding visit-in station-visit-of with-mark mark-in arrival-at
+unfolding visit-in station-visit-of with-fourth mark-in arrival-at
 visit-by FileForm.Earlier ns i o = rw (dropped-at ns 0, dropped-at ns 1, dropped-at ns 2, dropped-at ns 3)
 visit-by FileForm.Newest ns i o = refl
 
@@ -170,7 +170,7 @@ arrival-most FileForm.Earlier = omega arith
 arrival-most FileForm.Newest = omega arith
 
 pub visit-made : (form : FileForm) (s t : ℕ) (ns : List ℕ) (i : InLink) (o : OutLink) → station-visit (record { 0 = s }) (record { 0 = t }) (visit-in form ns i o) ≡ station-visit-of (with-mark form (s ∷ t ∷ ns)) i o
-unfolding visit-in station-visit-of with-mark
+unfolding visit-in station-visit-of with-fourth
 visit-made FileForm.Earlier s t ns i o = refl
 visit-made FileForm.Newest s t ns i o = refl
 
@@ -250,7 +250,7 @@ placed-station floor file at s next e =
     both (leb 1 s) (leb s 16) (le→leb 1 s (omega (arith, b .0))) (le→leb s 16 (b .1))
 
 marked-station : (form : FileForm) (ns : List ℕ) → getD (with-mark form ns) 0 0 ≡ getD ns 0 0
-unfolding with-mark
+unfolding with-fourth
 marked-station FileForm.Earlier ns = refl
 marked-station FileForm.Newest ns = refl
 

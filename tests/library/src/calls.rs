@@ -10,7 +10,7 @@ use strakewhip::{Error, File, Form};
 #[derive(Default)]
 pub struct Report {
     pub compared: u64,
-    pub refusals: [u64; 15],
+    pub refusals: [u64; 16],
     pub differing: u64,
     pub place: String,
     /// Each call with the refusals that it answered, and the file that each was of.
@@ -48,7 +48,7 @@ impl Report {
     fn reply(&mut self, call: &'static str, reply: Reply, expected: Reply) {
         self.compared += 1;
         self.answered.insert((call, reply.refusal, reply.file));
-        self.refusals[usize::from(reply.refusal.min(14))] += 1;
+        self.refusals[usize::from(reply.refusal.min(15))] += 1;
         if reply != expected {
             self.differs(call, format!("{reply:?}, expected {expected:?}"));
         }
@@ -101,10 +101,11 @@ impl Report {
         reply
     }
 
-    pub fn names(&mut self, network: &[u8], edit: &[u8]) {
+    pub fn names(&mut self, network: &[u8], edit: &[u8]) -> Reply {
         let reply = unsafe { raw::strakewhip_names(network.as_ptr(), network.len(), edit.as_ptr(), edit.len()) };
         let wrapped = strakewhip::names(network, edit).map(|areas| (0, areas.iter().map(|area| 1 << (area - 1)).sum()));
         self.replies("names", reply, model::names(network, edit), wrapped);
+        reply
     }
 
     pub fn edit(&mut self, network: &[u8], edit: &[u8], division: &mut [u8]) -> Reply {

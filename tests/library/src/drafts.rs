@@ -4,8 +4,11 @@
 use crate::files::bytes_of;
 use crate::random::Random;
 use reference::network::{Direction, Form, Network};
-use reference::railway::{Line, Relation, Station, Timetable, Train, Visit};
+use reference::railway::{Line, Relation, Station, Timetable, Train, Visit, LAST_MINUTE};
 use std::collections::BTreeMap;
+
+/// The last minute.
+const LAST: u32 = LAST_MINUTE as u32;
 
 /// The numbers of a network with some stations, lines and closures.
 pub fn network(r: &mut Random) -> Vec<u32> {
@@ -91,8 +94,8 @@ pub fn doubled(earlier: &[u32]) -> Vec<u32> {
     with_lines(earlier, Form::OneTime, |line| [&line[..5], &line[4..]].concat())
 }
 
-/// A network's file with a closure whose end is not after its start, or of any line, listed or not; a line's ends may be
-/// at fault besides.
+/// A network's file with a closure whose end is not after its start, or of any line, listed or not; a line's ends may
+/// be at fault besides.
 pub fn misclosed(r: &mut Random, numbers: &[u32], form: Form) -> Vec<u8> {
     let (lines, count) = (lines_at(numbers), closures_at(numbers, form));
     let mut numbers = numbers.to_vec();
@@ -129,12 +132,23 @@ fn marks_of_timetable(numbers: &[u32]) -> Vec<usize> {
     marks
 }
 
-/// Where the stop mark of an edit stands among its numbers, if it carries a track.
-fn mark_of_edit(numbers: &[u32]) -> Vec<usize> {
-    if [1, 2, 3, 6].contains(&numbers[0]) {
-        vec![4]
-    } else {
-        Vec::new()
+/// The minute that a report of a time carries: this one, a later one, the last, or an earlier one of a wrong clock.
+pub fn present(r: &mut Random, time: u32) -> u32 {
+    match r.from(1, 8) {
+        1..=2 => time,
+        3..=5 => (time + r.from(1, 30)).min(LAST),
+        6 => LAST,
+        _ => time.saturating_sub(r.from(1, 30)),
+    }
+}
+
+/// Where the number of an edit stands that the earlier form lacks, and what an edit of that form carries there: mark 0
+/// behind a track, the last minute behind a report's time.
+fn lacking(numbers: &[u32]) -> Option<(usize, u32)> {
+    match numbers[0] {
+        1 | 2 | 3 | 6 => Some((4, 0)),
+        7 | 8 => Some((4, LAST)),
+        _ => None,
     }
 }
 
@@ -160,12 +174,16 @@ pub fn unmarked_timetable(numbers: &[u32]) -> Vec<u32> {
 
 /// An edit's numbers in the earlier form.
 pub fn early_edit(numbers: &[u32]) -> Vec<u32> {
-    without(numbers, &mark_of_edit(numbers))
+    without(numbers, &lacking(numbers).map(|(at, _)| at).into_iter().collect::<Vec<_>>())
 }
 
-/// The same in the newest form, with mark 0.
-pub fn unmarked_edit(numbers: &[u32]) -> Vec<u32> {
-    with_0(numbers, &mark_of_edit(numbers))
+/// The same in the newest form, with mark 0 or minute 2879.
+pub fn early_twin(numbers: &[u32]) -> Vec<u32> {
+    let mut numbers = numbers.to_vec();
+    if let Some((at, carried)) = lacking(&numbers) {
+        numbers[at] = carried;
+    }
+    numbers
 }
 
 /// The lines out of a station: line, station at the far end.
@@ -275,14 +293,15 @@ impl Dispatcher<'_> {
         }
         let (station, train, visit) = self.visit(r)?;
         let arrival = if visit.arrival.occurred && !r.one_in(4) { visit.arrival.time as u32 } else { r.from(90, 150) };
-        let departure = if r.one_in(2) { visit.departure.time as u32 } else { arrival + r.from(0, 9) };
+        let departure = if r.one_in(2) { visit.departure.time as u32 } else { (arrival + r.from(0, 9)).min(LAST) };
         let track = if r.one_in(3) { self.track(r, station) } else { visit.track.0 };
         Some(vec![6, station.0, train.0, track, mark(r), arrival, departure])
     }
 
     fn report(&self, r: &mut Random) -> Option<Vec<u32>> {
         let (station, train, visit) = self.visit(r)?;
-        Some(vec![r.from(7, 8), station.0, train.0, visit.arrival.time as u32 + r.from(0, 9)])
+        let time = (visit.arrival.time as u32 + r.from(0, 9)).min(LAST);
+        Some(vec![r.from(7, 8), station.0, train.0, time, present(r, time)])
     }
 
     /// A relation of a train that stops on request with another that is there in its minute, or with itself.
@@ -349,7 +368,7 @@ impl Dispatcher<'_> {
                 numbers.extend([r.from(1, 16), r.from(1, 32), r.from(1, 240)]);
             }
             4 | 5 => numbers.extend([r.from(1, 16), r.from(1, 9999), r.from(1, 16)]),
-            7 | 8 => numbers.extend([r.from(1, 16), r.from(1, 9999), r.from(0, 2879)]),
+            7 | 8 => numbers.extend([r.from(1, 16), r.from(1, 9999), r.from(0, 2879), r.from(0, 2879)]),
             _ => numbers.push(r.from(1, 9999)),
         }
         numbers

@@ -10,6 +10,7 @@ mod model;
 mod orders;
 mod random;
 mod rechecks;
+mod reports;
 mod requests;
 mod sheets;
 mod suites;
@@ -29,6 +30,7 @@ fn main() {
     let mut report = Report::default();
     suites::fullest(&mut report, &mut Random::new(0));
     requests::row(&mut report);
+    reports::edges(&mut report);
     for seed in first..first + railways {
         report.place = format!("railway {seed}");
         let mut r = Random::new(seed);
@@ -41,13 +43,14 @@ fn main() {
         suites::crowded(&mut report, &mut r, &railway);
         rechecks::rechecked(&mut report, &mut r, &railway);
         requests::requested(&mut report, &mut r, &railway);
+        reports::reported(&mut report, &mut r, &railway);
         turns::turned(&mut report, &mut r, &railway);
         orders::reordered(&mut report, &mut r, &railway);
     }
     let seconds = began.elapsed().as_secs();
     let Report { compared, differing, .. } = report;
     println!("library: {compared} calls on {railways} railways compared, {differing} differ ({seconds} s)");
-    println!("library: calls by refusal, 0 to 14: {:?}", report.refusals);
+    println!("library: calls by refusal, 0 to 15: {:?}", report.refusals);
     for (what, times) in &report.met {
         println!("library: {what}: {times} times");
     }

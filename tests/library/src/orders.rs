@@ -2,16 +2,19 @@
 
 use crate::calls::Report;
 use crate::files::edit_of;
-use crate::model::{fours, named};
+use crate::model::fours;
 use crate::random::Random;
 use crate::sheets::{part, whole};
 use crate::suites::{list_of, Railway};
+use reference::edits::Edit;
+use reference::machine::{names, FUTURE};
+use reference::railway::Area;
 use std::collections::BTreeSet;
 use strakewhip::raw::Reply;
 use strakewhip::{DIVISION, SHEET};
 
 /// An order in which edits that name an area in common keep theirs.
-fn order(r: &mut Random, areas: &[BTreeSet<u32>]) -> Vec<usize> {
+fn order(r: &mut Random, areas: &[BTreeSet<Area>]) -> Vec<usize> {
     let mut left: Vec<usize> = (0..areas.len()).collect();
     let mut chosen = Vec::new();
     while !left.is_empty() {
@@ -24,16 +27,31 @@ fn order(r: &mut Random, areas: &[BTreeSet<u32>]) -> Vec<usize> {
     chosen
 }
 
+/// Whether an edit that names no area passed one of its station's area.
+fn passed(order: &[usize], areas: &[BTreeSet<Area>], one: usize, own: Area) -> bool {
+    let rank = |at: usize| order.iter().position(|now| *now == at);
+    (0..areas.len()).any(|at| areas[at].contains(&own) && (at < one) != (rank(at) < rank(one)))
+}
+
 /// Answers, sheets, merged timetable, findings and tally in each order are those of the central machine in the first.
 pub fn reordered(report: &mut Report, r: &mut Random, railway: &Railway) {
     let Railway { file, network, edits, timetable, .. } = railway;
-    let areas: Vec<_> = edits.iter().map(|edit| named(network, &edit_of(edit).expect("a draft"))).collect();
+    let reads: Vec<Edit> = edits.iter().map(|edit| edit_of(edit).expect("a draft")).collect();
+    let areas: Vec<_> = reads.iter().map(|edit| names(network, edit)).collect();
     let mut first = vec![0; 2 * edits.len()];
     report.run(file, &list_of(edits), &mut vec![0; DIVISION], &mut first);
     let tally = tally_of(report, edits, &first);
+    let futures: Vec<(usize, Area)> = (0..edits.len())
+        .filter(|at| u32::from(first[2 * at]) == FUTURE)
+        .filter_map(|at| Some((at, reads[at].stations()?[0])))
+        .filter(|(_, station)| network.lists(*station))
+        .map(|(at, station)| (at, network.area_of(station)))
+        .collect();
     for _ in 0..3 {
         let order = order(r, &areas);
         report.meets("a list in another order", !order.is_sorted());
+        let passes = futures.iter().any(|(at, own)| passed(&order, &areas, *at, *own));
+        report.meets("a report from the future that passes an edit of its area", passes);
         let list: Vec<Vec<u8>> = order.iter().map(|i| edits[*i].clone()).collect();
         let (mut division, mut answers) = (vec![0; DIVISION], vec![0; 2 * edits.len()]);
         report.run(file, &list_of(&list), &mut division, &mut answers);

@@ -1,15 +1,14 @@
-//! Lists of findings updated after one edit: each list of a shift's edits from the one before it, lists of someone else,
-//! and what is refused.
+//! Lists of findings updated after one edit: each list of a shift's edits from the one before it, lists of someone
+//! else, and what is refused.
 
 use crate::calls::Report;
 use crate::drafts::{damaged, Dispatcher};
 use crate::files::{bytes_of, edit_of};
-use crate::model::named;
 use crate::orders::whole_list;
 use crate::random::Random;
 use crate::sheets::{divided, part, whole};
 use crate::suites::Railway;
-use reference::machine;
+use reference::machine::{self, names};
 use reference::network::Network;
 use reference::railway::Timetable;
 use reference::recheck::stale;
@@ -30,8 +29,8 @@ fn sized(mut call: impl FnMut(&mut [u16]) -> usize) -> Vec<u16> {
     out
 }
 
-/// The edits of a shift on a timetable that is there: after each accepted one every list is updated, and is the one that
-/// is worked out from the sheet.
+/// The edits of a shift on a timetable that is there: after each accepted one every list is updated, and is the one
+/// that is worked out from the sheet.
 pub fn rechecked(report: &mut Report, r: &mut Random, railway: &Railway) {
     let Railway { file, network, .. } = railway;
     let mut timetable = railway.timetable.clone();
@@ -81,7 +80,7 @@ fn updated(report: &mut Report, room: &mut Room, file: &[u8], edit: &[u8]) {
 /// Which sorts of edit came about.
 fn seen(report: &mut Report, room: &Room, network: &Network, edit: &[u8]) {
     let read = edit_of(edit).expect("a draft");
-    let areas = named(network, &read);
+    let areas = names(network, &read);
     let stations = read.stations();
     report.meets("a recheck after deleting a train", stations.is_none());
     report.meets("a recheck of two areas' edit", stations.is_some() && areas.len() == 2);

@@ -1,14 +1,14 @@
 //! Request stops: stop marks in sheets and files, files of the earlier form, and rooms at two releases.
 
 use crate::calls::Report;
-use crate::drafts::{damaged, early_edit, early_timetable, unmarked_edit, unmarked_timetable, Dispatcher};
+use crate::drafts::{damaged, early_edit, early_timetable, early_twin, unmarked_timetable, Dispatcher};
 use crate::files::{bytes_of, edit_of, numbers_in};
 use crate::orders::whole_list;
 use crate::random::Random;
 use crate::sheets::{divided, in_area, part, whole};
 use crate::suites::{early_list, list_of, Railway};
 use reference::findings;
-use reference::machine;
+use reference::machine::{self, FUTURE};
 use reference::railway::{Station, Timetable, Visit};
 use reference::timetable;
 use strakewhip::{DIVISION, MOST_ROWS, MOST_TIMETABLE, SHEET};
@@ -137,16 +137,16 @@ fn early_timetables(report: &mut Report, r: &mut Random, railway: &Railway) {
     }
 }
 
-/// A list of edits in the earlier form: it answers and leaves what the list with marks 0 does.
+/// A list of edits in the earlier form: it answers and leaves what the list with marks 0 and minutes 2879 does.
 fn early_edits(report: &mut Report, r: &mut Random, railway: &Railway) {
     let Railway { file, edits, division, .. } = railway;
     let early = early_list(edits);
-    let unmarked: Vec<Vec<u8>> = edits.iter().map(|edit| bytes_of(&unmarked_edit(&numbers_in(edit)))).collect();
+    let twins: Vec<Vec<u8>> = edits.iter().map(|edit| bytes_of(&early_twin(&numbers_in(edit)))).collect();
     for start in [vec![0; DIVISION], division.clone()] {
         let (mut one, mut other) = (start.clone(), start);
         let (mut answers, mut others) = (vec![7; 2 * edits.len()], vec![7; 2 * edits.len()]);
         report.run_early(file, &early, &mut one, &mut answers);
-        report.run(file, &list_of(&unmarked), &mut other, &mut others);
+        report.run(file, &list_of(&twins), &mut other, &mut others);
         assert!(one == other && answers == others, "{}: early edits do otherwise", report.place);
     }
     // Each form read as the other.
@@ -191,9 +191,10 @@ fn unmarked_at(timetable: &Timetable, passes: impl Fn(Station) -> bool) -> Timet
     timetable
 }
 
-/// "Two control rooms at different releases": one area's room is at the older one, which knows no marks, neither its
-/// own nor its neighbours'. All rooms take each edit, the older one in the earlier form, and its own with mark 0. Its
-/// sheet is handed over as a file of the earlier form; merged with the others it is what the centre holds.
+/// "Two control rooms at different releases": one area's room is at the older one, which knows no minutes and no marks,
+/// neither its own nor its neighbours'. All rooms take each edit, the older one in the earlier form, and its own with
+/// mark 0 and minute 2879; a report from the future is another room's, and reaches none. The older room's sheet is
+/// handed over as a file of the earlier form; merged with the others it is what the centre holds.
 fn releases(report: &mut Report, r: &mut Random, railway: &Railway) {
     let Railway { file, network, .. } = railway;
     let areas: Vec<u32> = network.stations.values().map(|facts| facts.area.0).collect();
@@ -203,16 +204,24 @@ fn releases(report: &mut Report, r: &mut Random, railway: &Railway) {
     let (mut newest, mut early) = (divided(network, &centre), divided(network, &unmarked_at(&centre, |_| true)));
     for _ in 0..12 {
         let mut edit = Dispatcher { network, timetable: &centre, trains: 40 }.edit(r);
-        if at(&edit).is_some_and(&older) {
-            edit = unmarked_edit(&edit);
+        let own = at(&edit).is_some_and(&older);
+        // A report at the older room's stations may be another room's, with its own minute.
+        if own && !([7, 8].contains(&edit[0]) && r.one_in(3)) {
+            edit = early_twin(&edit);
         }
         let reply = report.edit(file, &bytes_of(&edit), &mut newest);
-        let mut answers = [7; 2];
-        report.run_early(file, &list_of(&[bytes_of(&early_edit(&edit))]), &mut early, &mut answers);
         let central = machine::run(network, &mut centre, &edit_of(&bytes_of(&edit)).expect("the draft is an edit"));
         let due = [central.refusal as u8, central.removed as u8];
-        assert_eq!([answers, [reply.refusal, reply.removed]], [due; 2], "{}: releases answer otherwise", report.place);
+        assert_eq!([reply.refusal, reply.removed], due, "{}: the centre answers otherwise", report.place);
+        report.meets("a report from the future at the older room's stations", own && central.refusal == FUTURE);
+        if central.refusal == FUTURE {
+            continue;
+        }
+        let mut answers = [7; 2];
+        report.run_early(file, &list_of(&[bytes_of(&early_edit(&edit))]), &mut early, &mut answers);
+        assert_eq!(answers, due, "{}: the older room answers otherwise", report.place);
         report.meets("an edit taken at two releases", reply.refusal == 0);
+        report.meets("a report taken at two releases", reply.refusal == 0 && [7, 8].contains(&edit[0]));
     }
     let mut out = [7; MOST_TIMETABLE];
     let length = report.write(file, part(&early, area), &mut out).length;

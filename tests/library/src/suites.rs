@@ -29,7 +29,7 @@ pub fn list_of(edits: &[Vec<u8>]) -> Vec<u8> {
     [bytes_of(&[edits.len() as u32]), edits.concat()].concat()
 }
 
-/// The same in the earlier form, without marks.
+/// The same in the earlier form, without marks and minutes.
 pub fn early_list(edits: &[Vec<u8>]) -> Vec<u8> {
     list_of(&edits.iter().map(|edit| bytes_of(&early_edit(&numbers_in(edit)))).collect::<Vec<_>>())
 }
@@ -182,7 +182,7 @@ pub fn values(report: &mut Report, r: &mut Random, railway: &Railway) {
         }
     }
     let edit = r.pick(&railway.edits).unwrap_or(vec![11, 1]);
-    for refusal in [0, 1, 5, 9, 13, 14, 255] {
+    for refusal in [0, 1, 5, 9, 13, 14, 15, 255] {
         for removed in [0, 1, 16, 17, 255] {
             report.raise(&edit, refusal, removed, &mut [0, 3, 999_999, 1_000_000]);
             report.raise(&edit, refusal, removed, &mut [0, 1_000_001, 0, u32::MAX]);
@@ -372,13 +372,14 @@ fn full_timetable(r: &mut Random) -> Vec<u8> {
 /// A long list, updated at one station and redone whole: more than a draft has room for.
 fn long_rechecks(report: &mut Report, network: &[u8], sheet: &[u8]) {
     let list = whole_list(report, network, sheet).concat();
-    for edit in [&[7, 3, 9980, 2000][..], &[11, 1]] {
+    for edit in [&[7, 3, 9980, 2000, 2000][..], &[11, 1]] {
         let edit = bytes_of(edit);
         let needed = report.recheck(network, sheet, &edit, &list, &mut []).length;
         assert_eq!(needed, list.len(), "{}: the same sheet", report.place);
         for length in [needed - 1, needed, needed + 1] {
             report.recheck(network, sheet, &edit, &list, &mut vec![7; length]);
         }
+        report.recheck(network, sheet, &edit, &[], &mut vec![7; needed]);
     }
     report.meets("a list that a draft of 8,192 numbers has no room for", list.len() > 8192);
 }

@@ -9,7 +9,7 @@ use borrow.Author.Tests.{ne-eqb}
 use borrow.Author.Needs.{needs}
 use Rattle.railway.specs.declared.edit.Edit.the-variants.{Place, Prepend, Append, DeleteFirst, DeleteLast, Amend, ReportArrival, ReportDeparture}
 use Rattle.timetable.specs.Formats.{Range}
-use Rattle.timetable.specs.FileForms.{newest-form, mark-range}
+use Rattle.timetable.specs.FileForms.{newest-form, mark-range, minute-range}
 use Rattle.timetable.specs.EditsFile.{plan-ranges, extension-ranges, deletion-ranges, report-ranges, edit-ranges, edit-of}
 use Rattle.edit_files.proofs.edit.edit_from.Statement.{statement}
 use Rattle.edit_files.proofs.edit.edit_from.Tie as tie
@@ -22,7 +22,7 @@ plan-from-requires : tie.Need-plan-from-requires
 plan-from-requires c κs = search needs
 
 returns : tie.Need-returns
-unfolding edit-ranges edit-of plan-ranges extension-ranges deletion-ranges report-ranges mark-range
+unfolding edit-ranges edit-of plan-ranges extension-ranges deletion-ranges report-ranges mark-range minute-range
 returns c h =
     let e = c .before .if1 .taken in
     let v = c .before .before .args .t2 in
@@ -32,7 +32,7 @@ extension-from-requires : tie.Need-extension-from-requires
 extension-from-requires c κs = search needs
 
 returns-2 : tie.Need-returns-2
-unfolding edit-ranges edit-of plan-ranges extension-ranges deletion-ranges report-ranges mark-range
+unfolding edit-ranges edit-of plan-ranges extension-ranges deletion-ranges report-ranges mark-range minute-range
 returns-2 c h =
     let e = c .before .if2 .taken in
     let v = c .before .before .before .args .t2 in
@@ -42,7 +42,7 @@ extension-from-requires-2 : tie.Need-extension-from-requires-2
 extension-from-requires-2 c κs = search needs
 
 returns-3 : tie.Need-returns-3
-unfolding edit-ranges edit-of plan-ranges extension-ranges deletion-ranges report-ranges mark-range
+unfolding edit-ranges edit-of plan-ranges extension-ranges deletion-ranges report-ranges mark-range minute-range
 returns-3 c h =
     let e = c .before .if3 .taken in
     let v = c .before .before .before .before .args .t2 in
@@ -52,7 +52,7 @@ deletion-from-requires : tie.Need-deletion-from-requires
 deletion-from-requires c κs = search needs
 
 returns-4 : tie.Need-returns-4
-unfolding edit-ranges edit-of plan-ranges extension-ranges deletion-ranges report-ranges mark-range
+unfolding edit-ranges edit-of plan-ranges extension-ranges deletion-ranges report-ranges mark-range minute-range
 returns-4 c h =
     let e = c .before .if4 .taken in
     let v = c .before .before .before .before .before .args .t2 in
@@ -62,7 +62,7 @@ deletion-from-requires-2 : tie.Need-deletion-from-requires-2
 deletion-from-requires-2 c κs = search needs
 
 returns-5 : tie.Need-returns-5
-unfolding edit-ranges edit-of plan-ranges extension-ranges deletion-ranges report-ranges mark-range
+unfolding edit-ranges edit-of plan-ranges extension-ranges deletion-ranges report-ranges mark-range minute-range
 returns-5 c h =
     let e = c .before .if5 .taken in
     let v = c .before .before .before .before .before .before .args .t2 in
@@ -72,7 +72,7 @@ plan-from-requires-2 : tie.Need-plan-from-requires-2
 plan-from-requires-2 c κs = search needs
 
 returns-6 : tie.Need-returns-6
-unfolding edit-ranges edit-of plan-ranges extension-ranges deletion-ranges report-ranges mark-range
+unfolding edit-ranges edit-of plan-ranges extension-ranges deletion-ranges report-ranges mark-range minute-range
 returns-6 c h =
     let e = c .before .if6 .taken in
     let v = c .before .before .before .before .before .before .before .args .t2 in
@@ -82,7 +82,7 @@ report-from-requires : tie.Need-report-from-requires
 report-from-requires c κs = search needs
 
 returns-7 : tie.Need-returns-7
-unfolding edit-ranges edit-of plan-ranges extension-ranges deletion-ranges report-ranges mark-range
+unfolding edit-ranges edit-of plan-ranges extension-ranges deletion-ranges report-ranges mark-range minute-range
 returns-7 c h =
     let e = c .before .if7 .taken in
     let v = c .before .before .before .before .before .before .before .before .args .t2 in
@@ -92,7 +92,7 @@ report-from-requires-2 : tie.Need-report-from-requires-2
 report-from-requires-2 c κs = search needs
 
 returns-8 : tie.Need-returns-8
-unfolding edit-ranges edit-of plan-ranges extension-ranges deletion-ranges report-ranges mark-range
+unfolding edit-ranges edit-of plan-ranges extension-ranges deletion-ranges report-ranges mark-range minute-range
 returns-8 c h =
     let e = c .before .if8 .taken in
     let v = c .before .before .before .before .before .before .before .before .before .args .t2 in

@@ -2,7 +2,7 @@
 use mathlib.Core.Path.{sym, _∙_, ap}
 use borrow.Author.Tests.{ne-eqb}
 use borrow.Author.Needs.{needs}
-use Rattle.timetable.specs.EditsFile.{deletion-ranges, report-ranges, edit-ranges}
+use Rattle.timetable.specs.EditsFile.{edit-ranges}
 use Rattle.edit_files.proofs.edit.edit_spans.Statement.{statement}
 use Rattle.edit_files.proofs.edit.edit_spans.Tie as tie
 
@@ -10,57 +10,57 @@ plan-spans-requires : tie.Need-plan-spans-requires
 plan-spans-requires c κs = search needs
 
 returns : tie.Need-returns
-unfolding edit-ranges deletion-ranges report-ranges
+unfolding edit-ranges
 returns c = c .plan-spans .ensures ∙ sym (ap (edit-ranges (c .before .before .args .form)) (c .before .if1 .taken))
 
 extension-spans-requires : tie.Need-extension-spans-requires
 extension-spans-requires c κs = search needs
 
 returns-2 : tie.Need-returns-2
-unfolding edit-ranges deletion-ranges report-ranges
+unfolding edit-ranges
 returns-2 c = c .extension-spans .ensures ∙ sym (ap (edit-ranges (c .before .before .before .args .form)) (c .before .if2 .taken))
 
 extension-spans-requires-2 : tie.Need-extension-spans-requires-2
 extension-spans-requires-2 c κs = search needs
 
 returns-3 : tie.Need-returns-3
-unfolding edit-ranges deletion-ranges report-ranges
+unfolding edit-ranges
 returns-3 c = c .extension-spans2 .ensures ∙ sym (ap (edit-ranges (c .before .before .before .before .args .form)) (c .before .if3 .taken))
 
-three-spans-requires : tie.Need-three-spans-requires
-three-spans-requires c κs = search needs
+deletion-spans-requires : tie.Need-deletion-spans-requires
+deletion-spans-requires c κs = search needs
 
 returns-4 : tie.Need-returns-4
-unfolding edit-ranges deletion-ranges report-ranges
-returns-4 c = c .three-spans .ensures ∙ sym (ap (edit-ranges (c .before .before .before .before .before .args .form)) (c .before .if4 .taken))
+unfolding edit-ranges
+returns-4 c = c .deletion-spans .ensures ∙ sym (ap (edit-ranges (c .before .before .before .before .before .args .form)) (c .before .if4 .taken))
 
-three-spans-requires-2 : tie.Need-three-spans-requires-2
-three-spans-requires-2 c κs = search needs
+deletion-spans-requires-2 : tie.Need-deletion-spans-requires-2
+deletion-spans-requires-2 c κs = search needs
 
 returns-5 : tie.Need-returns-5
-unfolding edit-ranges deletion-ranges report-ranges
-returns-5 c = c .three-spans2 .ensures ∙ sym (ap (edit-ranges (c .before .before .before .before .before .before .args .form)) (c .before .if5 .taken))
+unfolding edit-ranges
+returns-5 c = c .deletion-spans2 .ensures ∙ sym (ap (edit-ranges (c .before .before .before .before .before .before .args .form)) (c .before .if5 .taken))
 
 plan-spans-requires-2 : tie.Need-plan-spans-requires-2
 plan-spans-requires-2 c κs = search needs
 
 returns-6 : tie.Need-returns-6
-unfolding edit-ranges deletion-ranges report-ranges
+unfolding edit-ranges
 returns-6 c = c .plan-spans2 .ensures ∙ sym (ap (edit-ranges (c .before .before .before .before .before .before .before .args .form)) (c .before .if6 .taken))
 
-three-spans-requires-3 : tie.Need-three-spans-requires-3
-three-spans-requires-3 c κs = search needs
+report-spans-requires : tie.Need-report-spans-requires
+report-spans-requires c κs = search needs
 
 returns-7 : tie.Need-returns-7
-unfolding edit-ranges deletion-ranges report-ranges
-returns-7 c = c .three-spans3 .ensures ∙ sym (ap (edit-ranges (c .before .before .before .before .before .before .before .before .args .form)) (c .before .if7 .taken))
+unfolding edit-ranges
+returns-7 c = c .report-spans .ensures ∙ sym (ap (edit-ranges (c .before .before .before .before .before .before .before .before .args .form)) (c .before .if7 .taken))
 
-three-spans-requires-4 : tie.Need-three-spans-requires-4
-three-spans-requires-4 c κs = search needs
+report-spans-requires-2 : tie.Need-report-spans-requires-2
+report-spans-requires-2 c κs = search needs
 
 returns-8 : tie.Need-returns-8
-unfolding edit-ranges deletion-ranges report-ranges
-returns-8 c = c .three-spans4 .ensures ∙ sym (ap (edit-ranges (c .before .before .before .before .before .before .before .before .before .args .form)) (c .before .if8 .taken))
+unfolding edit-ranges
+returns-8 c = c .report-spans2 .ensures ∙ sym (ap (edit-ranges (c .before .before .before .before .before .before .before .before .before .args .form)) (c .before .if8 .taken))
 
 train-spans-requires : tie.Need-train-spans-requires
 train-spans-requires c κs = search needs
@@ -73,5 +73,5 @@ pub edit-spans-spec : {M : Type 1} → statement M
 edit-spans-spec =
     tie.close
     (tie.spec plan-spans-requires returns extension-spans-requires returns-2 extension-spans-requires-2 returns-3
-    three-spans-requires returns-4 three-spans-requires-2 returns-5 plan-spans-requires-2 returns-6
-    three-spans-requires-3 returns-7 three-spans-requires-4 returns-8 train-spans-requires returns-9)
+    deletion-spans-requires returns-4 deletion-spans-requires-2 returns-5 plan-spans-requires-2 returns-6
+    report-spans-requires returns-7 report-spans-requires-2 returns-8 train-spans-requires returns-9)

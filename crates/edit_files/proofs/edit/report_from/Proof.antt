@@ -17,10 +17,13 @@ array-read-t10 c = search needs
 array-read-t14 : tie.Need-array-read-t14
 array-read-t14 c = search needs
 
+array-read-t18 : tie.Need-array-read-t18
+array-read-t18 c = search needs
+
 returns : tie.Need-returns
 unfolding report-of
 returns c x = rw (small _ _ (c .narrow .ensures) x)
 
 pub report-from-spec : {M : Type 1} → statement M
 report-from-spec =
-    tie.close (tie.spec array-read-narrow narrow-requires array-read-t10 array-read-t14 returns)
+    tie.close (tie.spec array-read-narrow narrow-requires array-read-t10 array-read-t14 array-read-t18 returns)
