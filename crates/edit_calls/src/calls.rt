@@ -1,6 +1,6 @@
 // The calls of the central machine: an edit on a sheet, an edit on a division. Refusals in the documents' order: 5, 3,
-// 14, 4, 7, 6, then 8 to 12. An edit that nothing refuses under a good network has its network's refusals from the test
-// of its sheets, so that the network is tested once.
+// 15, 14, 4, 7, 6, then 8 to 12. An edit that nothing refuses under a good network has its network's refusals from the
+// test of its sheets, so that the network is tested once.
 ghost use mathlib.Core.Path.{_≡_};
 ghost use Rattle.machine.specs.Calls.{refused-with, sheet-answer, sheet-after, division-answer, division-after};
 use crate::pages;

@@ -1,5 +1,5 @@
 // An edit on a division whose network and six sheets are known to be good, as after every edit on a good one: only the
-// edit is tested (3, 7), so that each edit of a list costs the pages that it touches. No other crate reaches it.
+// edit is tested (3, 15, 7), so that each edit of a list costs the pages that it touches. No other crate reaches it.
 ghost use mathlib.Core.Path.{_≡_};
 ghost use mathlib.Core.Bool.{true};
 ghost use Rattle.edit_calls.specs.Lists.{known-good, Edits};

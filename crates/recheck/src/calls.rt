@@ -1,4 +1,5 @@
-// The calls. Refusals in the documents' order: 5, 3, 14, 4, 7, 6; then 3 for the list, which is looked at last, and 13.
+// The calls. Refusals in the documents' order: 5, 3, 15, 14, 4, 7, 6; then 3 for the list, which is looked at last, and
+// 13.
 ghost use mathlib.Core.Path.{_≡_};
 ghost use lib.Dec.{eqb};
 ghost use lib.ListN.{length};

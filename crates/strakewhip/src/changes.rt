@@ -83,7 +83,7 @@ pub extern "C" fn strakewhip_run(
     run_as(FileForm::Newest, network, edits, division, answers)
 }
 
-// A file of the earlier form: its edits carry mark 0.
+// A file of the earlier form: its edits carry mark 0, its reports minute 2879.
 #[no_mangle]
 pub extern "C" fn strakewhip_run_early(
     network: &[u8],

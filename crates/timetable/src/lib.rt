@@ -51,9 +51,9 @@ pub enum NetworkForm {
 
 // The forms of timetable files and edits files; a later one is one more case.
 pub enum FileForm {
-    // Document 01's: a visit has no stop mark.
+    // Document 01's: a visit has no stop mark, a report no minute.
     Earlier,
-    // The newest: the mark stands after the track.
+    // The newest: the mark stands after the track, the minute behind the time.
     Newest,
 }
 
