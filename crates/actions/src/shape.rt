@@ -7,7 +7,7 @@ ghost use Rattle.actions.specs.between.Shapes.{at_stations, at_all, shape_of, sh
 use railway::edit::Edit;
 use railway::sorts::{Station, Train};
 
-#[derive(Drop)]
+#[derive(Clone, Copy)]
 pub struct Shape {
     // s; 0 for an edit at all stations
     pub home: Station,

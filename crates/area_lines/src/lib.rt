@@ -1,4 +1,6 @@
 // The findings of an area and of two areas, printed from the sheets of a division.
+#![tactic(auto)]
+
 ghost use Rattle.std.specs.Prelude.{◌≡◌, ◌*◌, ◌/◌, ◌≤◌, length, take};
 ghost use Rattle.timetable.specs.Outputs.{Puts};
 ghost use Rattle.builder.specs.between.Builder.{list_most, findings_most};

@@ -8,7 +8,8 @@ use mathlib.Core.List.{List, [], ◌∷◌, ◌++◌, map}
 use native.Mathlib.Omega.{arith}
 use lib.Dec.{T, not_T, ltb, eqb, ltb→lt, lt→ltb, eqb→eq, eqb_refl}
 use borrow.Author.Tests.{ltb-true, ltb-false, eqb-true, eqb-false, eq-eqb, ne_eqb}
-use Rattle.base.specs.Choice.{if◌then◌else◌, ◌if◌else◌}
+use Rattle.base.specs.Choice.{◌if◌else◌}
+use Rattle.std.specs.Prelude.{if◌then◌else◌}
 use Rattle.base.specs.Lists.{any, every, keep, count, each_two, sum, below, same, rising}
 use Rattle.base.proofs.Tests.{true_T, and_l, and_r, both, or_l, or_r, or_cases, every_head, every_tail, every_cons, every_weaker, every_both, every_keep, every_append, every_map}
 use Rattle.base.proofs.Counts.{count_none, sum_zero}

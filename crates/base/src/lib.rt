@@ -1,5 +1,7 @@
 // What every crate leans on: choice, tests over lists and the order of lists of numbers (specs/), laws about them
 // (proofs/).
+#![tactic(auto)]
+
 ghost use Rattle.std.specs.Prelude.{◌≡◌};
 ghost use Rattle.base.specs.Lists.{within};
 

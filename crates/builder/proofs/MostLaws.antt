@@ -8,7 +8,7 @@ use mathlib.Core.List.{List, [], ◌∷◌, flat_map}
 use native.Mathlib.Omega.{arith}
 use lib.Dec.{eqb}
 use lib.ListN.{length, drop, get_or, length-append, length-map}
-use Rattle.base.specs.Choice.{if◌then◌else◌}
+use Rattle.std.specs.Prelude.{if◌then◌else◌}
 use Rattle.network.specs.Networks.{stations_of}
 use Rattle.railway.specs.declared.visit.OutLink.{OutLink}
 use Rattle.timetable.specs.Visits.{with_out, outs}

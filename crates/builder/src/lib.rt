@@ -1,6 +1,8 @@
 // The numbers of a list of findings, in their order: stations rising, rules rising, first and second rising. Each
 // function puts its numbers into the lent buffer from a place on and answers the place behind them; on a buffer that is
 // too short it only counts. That no sum overflows is kept by the bounds of specs/between/Builder.antt.
+#![tactic(auto)]
+
 ghost use Rattle.std.specs.Prelude.{◌≡◌, ◌||◌, ◌+◌, ◌*◌, ◌≤◌, eqb, drop};
 ghost use Rattle.timetable.specs.Outputs.{Puts};
 ghost use Rattle.page.specs.between.Changes.{table_in};

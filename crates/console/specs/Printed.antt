@@ -1,6 +1,6 @@
 -- How much of a buffer a call's answer tells to be its text: what was written at the buffer's head. Assumes nothing.
 use Rattle.std.specs.Prelude.{ℕ, List, leb, length}
-use Rattle.base.specs.Choice.{if◌then◌else◌}
+use Rattle.std.specs.Prelude.{if◌then◌else◌}
 use Rattle.timetable.specs.declared.Output.{Output}
 
 -- nothing of one that was refused, and nothing past the buffer's end

@@ -9,7 +9,7 @@ use native.Mathlib.Omega.{arith}
 use lib.Dec.{eqb}
 use lib.ListN.{length}
 use borrow.Author.Tests.{eq-eqb, eqb-true}
-use Rattle.base.specs.Choice.{if◌then◌else◌}
+use Rattle.std.specs.Prelude.{if◌then◌else◌}
 use Rattle.timetable.specs.declared.FileForm.{FileForm}
 use Rattle.timetable.specs.FileForms.{newest_form}
 use Rattle.timetable.specs.Formats.{Outcome, accepted, refused, bytes_of}

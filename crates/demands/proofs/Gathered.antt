@@ -8,7 +8,7 @@ use native.Mathlib.Omega.{arith}
 use lib.Dec.{T, ltb, leb, eqb, le→leb}
 use lib.ListN.{length}
 use borrow.Author.Tests.{ltb-true, eq-eqb}
-use Rattle.base.specs.Choice.{if◌then◌else◌}
+use Rattle.std.specs.Prelude.{if◌then◌else◌}
 use Rattle.base.specs.Lists.{each_two, rising, every}
 use Rattle.base.proofs.Tests.{by_value, T_true, true_T, not_T_false, and_l, both}
 use Rattle.network.specs.Networks.{network_refusal, listed, area_of}

@@ -9,7 +9,7 @@ use mathlib.Core.List.{List, [], ◌∷◌, map, flat_map}
 use lib.Dec.{T, eqb}
 use lib.ListN.{length}
 use borrow.Author.Tests.{eqb-true, eq-eqb}
-use Rattle.base.specs.Choice.{if◌then◌else◌}
+use Rattle.std.specs.Prelude.{if◌then◌else◌}
 use Rattle.base.specs.Lists.{every, keep}
 use Rattle.base.specs.Runs.{run, answers}
 use Rattle.base.proofs.Tests.{by_test, by_value, T_true, true_T, T_false, if_no, and_l, and_r, both, or_l, or_r, every_all, every_head, every_tail}

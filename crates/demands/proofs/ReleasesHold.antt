@@ -10,7 +10,7 @@ use mathlib.Core.List.{List, [], ◌∷◌, flat_map}
 use lib.Dec.{T, eqb}
 use lib.ListN.{length, length-replicate}
 use borrow.Author.Tests.{eq-eqb, eqb-true}
-use Rattle.base.specs.Choice.{if◌then◌else◌}
+use Rattle.std.specs.Prelude.{if◌then◌else◌}
 use Rattle.base.specs.Lists.{every}
 use Rattle.base.specs.Runs.{run, answers}
 use Rattle.base.proofs.Tests.{flatMap_same, and_l, and_r}

@@ -6,7 +6,7 @@
 -- division cites; networks and sheets may be good or not. Nothing here is proved. Assumes nothing.
 use Rattle.std.specs.Prelude.{ℕ, ◌≡◌, Bool, not, ◌&&◌, ◌||◌, T, length}
 use mathlib.Core.List.{List, [], ◌∷◌, map, flat_map}
-use Rattle.base.specs.Choice.{if◌then◌else◌}
+use Rattle.std.specs.Prelude.{if◌then◌else◌}
 use Rattle.base.specs.Lists.{every}
 use Rattle.base.specs.Runs.{run, answers}
 use Rattle.railway.specs.Ranges.{area_ok}

@@ -5,7 +5,7 @@
 -- not. Nothing here is proved. Assumes nothing.
 use Rattle.std.specs.Prelude.{ℕ, ◌≡◌, ◌||◌, T, eqb, length}
 use mathlib.Core.List.{List, flat_map}
-use Rattle.base.specs.Choice.{if◌then◌else◌}
+use Rattle.std.specs.Prelude.{if◌then◌else◌}
 use Rattle.railway.specs.Ranges.{station_ok, area_ok}
 use Rattle.network.specs.Networks.{network_refusal, area_of}
 use Rattle.timetable.specs.Groups.{six, names, names_group, naming_none}

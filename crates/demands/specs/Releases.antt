@@ -7,7 +7,7 @@
 -- of those calls cite. Nothing here is proved. Assumes nothing.
 use Rattle.std.specs.Prelude.{ℕ, ◌≡◌, T, eqb, length}
 use mathlib.Core.List.{List, flat_map}
-use Rattle.base.specs.Choice.{if◌then◌else◌}
+use Rattle.std.specs.Prelude.{if◌then◌else◌}
 use Rattle.base.specs.Runs.{run, answers}
 use Rattle.railway.specs.Ranges.{area_ok}
 use Rattle.network.specs.Networks.{network_refusal, listed, area_of}

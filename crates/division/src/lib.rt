@@ -1,4 +1,6 @@
 // "A division is 49,152 bytes, six sheets by area." Dividing and merging copy pages: no record is read.
+#![tactic(auto)]
+
 ghost use Rattle.std.specs.Prelude.{◌≡◌, ◌≤◌, ◌<◌, T, length};
 ghost use Rattle.sheet.specs.Sheets.{area_part, divide_refusal, after_divide, merge_refusal, after_merge};
 ghost use Rattle.division.specs.between.Copies.{kept_page, collected_page, spread, spread_all, collected, areas_in, areas_high};

@@ -3,7 +3,7 @@
 -- others". Assumes nothing.
 use Rattle.std.specs.Prelude.{ℕ, ◌≡◌, Bool, true, ◌&&◌, leb, eqb, length}
 use mathlib.Core.List.{List, [], ◌∷◌, flat_map}
-use Rattle.base.specs.Choice.{if◌then◌else◌}
+use Rattle.std.specs.Prelude.{if◌then◌else◌}
 use Rattle.base.specs.Runs.{run, answers}
 use Rattle.network.specs.Networks.{network_refusal}
 use Rattle.timetable.specs.declared.FileForm.{FileForm}

@@ -2,6 +2,8 @@
 // after another. For those the sheets of the division are tested once: an edit on a good division leaves it good, so
 // each edit of the list costs only the pages that it touches. Where they are not all good, each edit tests those that
 // it names, as the single call does.
+#![tactic(auto)]
+
 ghost use Rattle.std.specs.Prelude.{◌≡◌, true, ◌+◌, ◌*◌, ◌≤◌, length};
 ghost use Rattle.timetable.specs.Outputs.{put};
 ghost use Rattle.edit_calls.specs.Lists.{known_good, answer_numbers, EditsKnown, Runs, RunsFile};
@@ -20,7 +22,7 @@ mod pages; // an edit on pages that are not tested
 mod untested; // an edit on a division that is known to be good
 
 // What running a list answers.
-#[derive(Drop)]
+#[derive(Clone, Copy)]
 pub enum Run {
     // How many numbers were written: two an edit.
     Answered(usize),

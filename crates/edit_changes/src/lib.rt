@@ -1,4 +1,6 @@
 // What an edit makes of the page of its station s, and of that of p.
+#![tactic(auto)]
+
 ghost use Rattle.std.specs.Prelude.{◌≡◌};
 ghost use Rattle.visits.specs.between.Changes.{change_by};
 ghost use Rattle.edit_changes.specs.Types.{Place, Prepend, Append};

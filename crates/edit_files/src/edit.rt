@@ -17,20 +17,20 @@ use railway::sorts::{Line, Station, Track, Train};
 use relation_files::reading::{RelationRead, relation_entry};
 use timetable::FileForm;
 
-#[derive(Drop)]
+#[derive(Clone, Copy)]
 pub enum EditRead {
     Entry(Edit, usize),
     Refused(u8, usize),
 }
 
 // A place in a file of edits.
-#[derive(Drop)]
+#[derive(Clone, Copy)]
 pub struct Cursor {
     pub at: usize,
 }
 
 // The edit at a place and the place behind it, or a refusal's number and place.
-#[derive(Drop)]
+#[derive(Clone, Copy)]
 pub enum NextEdit {
     Entry(Edit, Cursor),
     Refused(u8, usize),

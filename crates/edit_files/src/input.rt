@@ -11,7 +11,7 @@ use timetable::FileForm;
 
 // Refusal 0 with the network, the place behind the file, that of the first edit and the edits' count; or a refusal's
 // number and place beside a blank network.
-#[derive(Drop)]
+#[derive(Clone, Copy)]
 pub struct ShiftRead {
     pub refusal: u8,
     pub place: usize,

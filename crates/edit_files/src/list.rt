@@ -10,7 +10,7 @@ use fields::field::{FieldRead, field};
 use timetable::FileForm;
 
 // The place behind the edits, or a refusal's number and place.
-#[derive(Drop)]
+#[derive(Clone, Copy)]
 pub enum Scan {
     End(usize),
     Refused(u8, usize),
@@ -18,7 +18,7 @@ pub enum Scan {
 
 // Edits from a place of a file on: the place behind them, that of the first, and their count; or a refusal's number and
 // place.
-#[derive(Drop)]
+#[derive(Clone, Copy)]
 pub struct EditsPart {
     pub accepted: bool,
     pub refusal: u8,
@@ -28,7 +28,7 @@ pub struct EditsPart {
 }
 
 // Refusal 0 with the place behind the edits, that of the first and their count; or a refusal's number and place.
-#[derive(Drop)]
+#[derive(Clone, Copy)]
 pub struct EditsRead {
     pub refusal: u8,
     pub place: usize,

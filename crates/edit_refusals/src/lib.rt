@@ -1,5 +1,7 @@
 // What an edit is refused with by the pages of its stations s (`here`) and p (`there`): 8 to 12, or 0. The definitions
 // are the refusals of timetable/specs/Machine.antt.
+#![tactic(auto)]
+
 ghost use Rattle.std.specs.Prelude.{◌≡◌};
 ghost use Rattle.timetable.specs.Tables.{has_visit, full_visits, full_relations};
 ghost use Rattle.timetable.specs.Machine.{meaning, room};

@@ -1,7 +1,7 @@
 -- What the calls of an edit answer, and what each lent buffer then holds: under a network, the edit's file, then the
 -- call. Assumes nothing.
 use Rattle.std.specs.Prelude.{ℕ, List, [], ◌∷◌, eqb, get_or}
-use Rattle.base.specs.Choice.{if◌then◌else◌}
+use Rattle.std.specs.Prelude.{if◌then◌else◌}
 use Rattle.network.specs.Networks.{area_of}
 use Rattle.timetable.specs.Groups.{names_group}
 use Rattle.timetable.specs.Count.{overfull, raise_refusal, raise}

@@ -8,7 +8,7 @@ use native.Mathlib.Omega.{arith}
 use lib.Dec.{leb}
 use lib.ListN.{length, get_or, drop, replicate}
 use borrow.Author.Tests.{leb-true, le-leb, lt-leb}
-use Rattle.base.specs.Choice.{if◌then◌else◌}
+use Rattle.std.specs.Prelude.{if◌then◌else◌}
 use Rattle.numbers.specs.Numbers.{NumberRead, Value, Refused, read_number}
 use Rattle.timetable.specs.Formats.{Format, done, field, Outcome, accepted, refused, ◌and_then◌, placed_field, field_at, behind, read, ended, Range, ◌to◌, least, floor_after}
 use Rattle.timetable.specs.Formats.{compared, row, entries, placed}

@@ -9,7 +9,7 @@ use native.Mathlib.Omega.{arith}
 use lib.Dec.{ltb, leb, eqb}
 use borrow.Author.Tests.{eqb-false}
 use lib.ListN.{length, drop}
-use Rattle.base.specs.Choice.{if◌then◌else◌}
+use Rattle.std.specs.Prelude.{if◌then◌else◌}
 use Rattle.base.specs.Lists.{within}
 use Rattle.numbers.specs.Numbers.{NumberRead, Value, Refused, group_before, read_groups, read_number}
 use Rattle.timetable.specs.Formats.{Format, done, field, here, Outcome, accepted, refused, placed_field, field_at, behind, read, ended, read_file}

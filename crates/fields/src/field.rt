@@ -1,6 +1,6 @@
 // One number of a file, and rows of numbers, each with its range.
 ghost use Rattle.std.specs.Prelude.{◌≡◌, [], min, ◌%◌};
-ghost use Rattle.base.specs.Choice.{if◌then◌else◌};
+ghost use Rattle.std.specs.Prelude.{if◌then◌else◌};
 ghost use Rattle.base.specs.Lists.{within};
 ghost use Rattle.timetable.specs.Formats.{field_at, read, row, accepted, refused};
 ghost use Rattle.fields.specs.between.Answers.{field_outcome, ranges_of, row_read};
@@ -8,28 +8,28 @@ ghost use Rattle.fields.specs.between.Answers.{field_outcome, ranges_of, row_rea
 use numbers::Reading;
 
 // The number at a place and the place behind it, or a refusal's number and place.
-#[derive(Drop)]
+#[derive(Clone, Copy)]
 pub enum FieldRead {
     Value(u16, usize),
     Refused(u8, usize),
 }
 
 // The least and the greatest value of a number. The least may be one above every value of a field.
-#[derive(Drop)]
+#[derive(Clone, Copy)]
 pub struct Span {
     pub lo: u32,
     pub hi: u16,
 }
 
 // The ranges of the numbers in a row: the first `count` are used.
-#[derive(Drop)]
+#[derive(Clone, Copy)]
 pub struct Spans {
     pub count: usize,
     pub spans: [Span; 9],
 }
 
 // The numbers of a row, 0 where there are fewer, and the place behind them; or a refusal's number and place.
-#[derive(Drop)]
+#[derive(Clone, Copy)]
 pub struct RowRead {
     pub accepted: bool,
     pub refusal: u8,
@@ -38,7 +38,7 @@ pub struct RowRead {
 }
 
 // A row of up to thirteen numbers: those of `values` from one index up to another.
-#[derive(Drop)]
+#[derive(Clone, Copy)]
 pub struct Numbers {
     pub from: usize,
     pub to: usize,

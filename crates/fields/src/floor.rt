@@ -8,7 +8,7 @@ use crate::field;
 use crate::field::{FieldRead, Numbers};
 
 // A number and the place behind it, or a refusal's number and place.
-#[derive(Drop)]
+#[derive(Clone, Copy)]
 pub struct Number {
     pub accepted: bool,
     pub refusal: u8,

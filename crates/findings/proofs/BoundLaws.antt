@@ -9,7 +9,7 @@ use lib.Dec.{T, leb, eqb, leb→le}
 use lib.ListN.{length, length-map, length-take}
 use borrow.Author.Tests.{eqb-true}
 use Rattle.base.proofs.Tests.{T_true, true_T, and_l, and_r}
-use Rattle.base.specs.Choice.{if◌then◌else◌}
+use Rattle.std.specs.Prelude.{if◌then◌else◌}
 use Rattle.railway.specs.Ranges.{station_ok, area_ok}
 use Rattle.network.specs.Networks.{station_rows, stations_of, network_refusal, listed}
 use Rattle.network.proofs.NetworkLaws.{network_facts}

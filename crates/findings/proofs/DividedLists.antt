@@ -8,7 +8,8 @@ use mathlib.Core.List.{List}
 use lib.Dec.{T, ltb, eqb}
 use lib.ListN.{length}
 use borrow.Author.Tests.{eqb-true, eq-eqb}
-use Rattle.base.specs.Choice.{if◌then◌else◌, ◌if◌else◌}
+use Rattle.base.specs.Choice.{◌if◌else◌}
+use Rattle.std.specs.Prelude.{if◌then◌else◌}
 use Rattle.base.proofs.Tests.{by_value, T_true, and_l, and_r}
 use Rattle.railway.specs.Ranges.{area_ok}
 use Rattle.network.specs.Networks.{network_refusal, listed, area_of}

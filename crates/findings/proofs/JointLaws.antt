@@ -8,7 +8,7 @@ use native.Mathlib.Omega.{arith}
 use lib.Dec.{T, eqb, ltb}
 use lib.ListN.{length, take, drop, length-replicate}
 use borrow.Author.Tests.{eqb-true, lt-ltb}
-use Rattle.base.specs.Choice.{if◌then◌else◌}
+use Rattle.std.specs.Prelude.{if◌then◌else◌}
 use Rattle.base.proofs.Tests.{by_value, true_T}
 use Rattle.railway.specs.Ranges.{station_ok}
 use Rattle.network.specs.Networks.{area_of}

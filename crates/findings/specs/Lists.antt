@@ -2,7 +2,8 @@
 -- rules at all stations. An area's findings, at its stations: rules 1 to 6, and 7 to 10 where the far station is its
 -- own too. A pair's (unordered): 7 to 10 across the two, which differ (else 3)." Assumes nothing.
 use Rattle.std.specs.Prelude.{ℕ, ◌≡◌, Bool, not, ◌&&◌, List, eqb, length}
-use Rattle.base.specs.Choice.{if◌then◌else◌, ◌if◌else◌}
+use Rattle.base.specs.Choice.{◌if◌else◌}
+use Rattle.std.specs.Prelude.{if◌then◌else◌}
 use Rattle.railway.specs.Ranges.{area_ok}
 use Rattle.network.specs.Networks.{network_refusal, listed, area_of}
 use Rattle.timetable.specs.Tables.{empty}

@@ -1,5 +1,7 @@
 // The lists of findings of sheets: of a whole timetable, of an area, of two areas. One builder forms them all, in their
 // order.
+#![tactic(auto)]
+
 pub mod calls; // the calls
 mod joint; // two sheets put together in one
 

@@ -1,7 +1,8 @@
 -- The calls of `inspect`: reading the input into a lent sheet, and each part of what is printed, from that sheet. The
 -- laws in proofs/InputPrinted.antt say that these parts are those of listings/specs/Inspect.antt. Assumes nothing.
 use Rattle.std.specs.Prelude.{ℕ, List, [], ltb, length, get_or}
-use Rattle.base.specs.Choice.{if◌then◌else◌, ◌if◌else◌}
+use Rattle.base.specs.Choice.{◌if◌else◌}
+use Rattle.std.specs.Prelude.{if◌then◌else◌}
 use Rattle.timetable.specs.Formats.{Outcome, refused}
 use Rattle.timetable.specs.InspectFile.{Inspection}
 use Rattle.sheet.specs.Sheets.{decode_sheet}

@@ -12,7 +12,8 @@ use lib.IntN.{pos, negsuc, sub_ℕ}
 use lib.ListN.{length}
 use lib.Signed.{mag}
 use borrow.Author.Tests.{le-leb}
-use Rattle.base.specs.Choice.{if◌then◌else◌, ◌if◌else◌}
+use Rattle.base.specs.Choice.{◌if◌else◌}
+use Rattle.std.specs.Prelude.{if◌then◌else◌}
 use Rattle.base.specs.Lists.{every, first}
 use Rattle.base.proofs.Tests.{by_value, true_T, and_r, parts, every_head, every_tail, every_append}
 use Rattle.railway.specs.Ranges.{station_ok, train_ok, same_train}

@@ -1,4 +1,6 @@
 // The projection from each visit, station by station: the rows of its train from there on.
+#![tactic(auto)]
+
 ghost use Rattle.std.specs.Prelude.{◌≡◌, true, ◌+◌, ◌*◌, ◌≤◌, min};
 ghost use mathlib.Core.List.{flat_map};
 ghost use Rattle.railway.specs.Ranges.{train_ok, last_minute};

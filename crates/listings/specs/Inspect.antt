@@ -5,7 +5,8 @@
 -- beside `shift`. Assumes nothing.
 use Rattle.std.specs.Prelude.{ℕ, ◌+◌, min, ltb, ℤ, pos, negsuc, length, drop}
 use mathlib.Core.List.{List, [], ◌∷◌, ◌++◌, map, flat_map}
-use Rattle.base.specs.Choice.{if◌then◌else◌, ◌if◌else◌}
+use Rattle.base.specs.Choice.{◌if◌else◌}
+use Rattle.std.specs.Prelude.{if◌then◌else◌}
 use Rattle.base.specs.Lists.{pairs, same}
 use Rattle.railway.specs.Ranges.{last_minute}
 use Rattle.network.specs.Networks.{stations_of, area_of}

@@ -3,7 +3,7 @@
 -- place." Assumes nothing.
 use Rattle.std.specs.Prelude.{ℕ, ltb, length}
 use mathlib.Core.List.{List, [], ◌∷◌, flat_map}
-use Rattle.base.specs.Choice.{if◌then◌else◌}
+use Rattle.std.specs.Prelude.{if◌then◌else◌}
 use Rattle.timetable.specs.Formats.{Outcome, accepted, refused}
 use Rattle.timetable.specs.EditsFile.{Shift, read_shift}
 use Rattle.timetable.specs.Listing.{listing}

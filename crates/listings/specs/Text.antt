@@ -2,12 +2,12 @@
 -- numbers in decimal, with a blank before each number, and ends in a newline. Assumes nothing.
 use Rattle.std.specs.Prelude.{ℕ, zero, suc, ◌+◌, ◌/◌, ◌%◌, ltb}
 use mathlib.Core.List.{List, [], ◌∷◌, ◌++◌, flat_map}
-use Rattle.base.specs.Choice.{if◌then◌else◌}
+use Rattle.std.specs.Prelude.{if◌then◌else◌}
 
 -- decimal digits in ASCII, the highest first; at most k of them
 unfoldable pub digits : ℕ → ℕ → List ℕ
 digits zero x = []
-digits (suc k) x = if ltb x 10 then (48 + x) ∷ [] else digits k (x / 10) ++ ((48 + x % 10) ∷ [])
+digits (suc k) x = if ltb x 10 then (48 + x) ∷ [] else (digits k (x / 10) ++ ((48 + x % 10) ∷ []))
 
 -- numbers below ten milliards
 unfoldable pub decimal : ℕ → List ℕ

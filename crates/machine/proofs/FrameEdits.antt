@@ -10,7 +10,8 @@ use native.Mathlib.Omega.{arith}
 use lib.Dec.{T, eqb, ltb→lt, eqb_refl}
 use lib.ListN.{length}
 use borrow.Author.Tests.{eqb-true, eqb-false, eq-eqb, ne_eqb}
-use Rattle.base.specs.Choice.{if◌then◌else◌, ◌if◌else◌}
+use Rattle.base.specs.Choice.{◌if◌else◌}
+use Rattle.std.specs.Prelude.{if◌then◌else◌}
 use Rattle.base.specs.Lists.{any, every, each_two, count}
 use Rattle.base.proofs.Tests.{by_value, T_true, true_T, T_false, or_l, or_r, both, parts, every_head, every_tail, every_weaker, every_any}
 use Rattle.base.proofs.Sorted.{smaller, two_head, two_tail}

@@ -10,7 +10,8 @@ use native.Mathlib.Omega.{arith}
 use lib.Dec.{T, ltb→lt}
 use lib.ListN.{length}
 use borrow.Author.Tests.{leb-false, eqb-true, ne_eqb}
-use Rattle.base.specs.Choice.{if◌then◌else◌, ◌if◌else◌}
+use Rattle.base.specs.Choice.{◌if◌else◌}
+use Rattle.std.specs.Prelude.{if◌then◌else◌}
 use Rattle.base.specs.Lists.{every, first, is, each_two, keep}
 use Rattle.base.proofs.Tests.{not_T_false, passed, rest_passed, every_head, every_tail, every_weaker}
 use Rattle.base.proofs.Lengths.{keep_no_longer}

@@ -3,7 +3,7 @@
 -- brings on which number": "Order: 5, 3, 4, 7, 6, 8, 9, 10, 11, 12". Assumes nothing.
 use Rattle.std.specs.Prelude.{ℕ, Bool, not, ◌&&◌, ◌||◌, eqb, length}
 use mathlib.Core.List.{List, flat_map}
-use Rattle.base.specs.Choice.{if◌then◌else◌}
+use Rattle.std.specs.Prelude.{if◌then◌else◌}
 use Rattle.base.specs.Lists.{every}
 use Rattle.network.specs.Networks.{listed, area_of}
 use Rattle.timetable.specs.Refusals.{call_refusal}

@@ -1,4 +1,6 @@
 // Which sheets of a division are to be good: those of the areas that an edit names.
+#![tactic(auto)]
+
 ghost use Rattle.std.specs.Prelude.{◌≡◌};
 ghost use Rattle.timetable.specs.Machine.{meaning};
 ghost use Rattle.timetable.specs.Refusals.{or_else};
@@ -13,7 +15,7 @@ use sheet::test;
 use sheet::test::Extent;
 
 // Where an edit works: at every station, or in the areas of its two stations, where they are listed.
-#[derive(Drop)]
+#[derive(Clone, Copy)]
 pub struct Reach {
     pub everywhere: bool,
     pub home: AreaFound,

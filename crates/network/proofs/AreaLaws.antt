@@ -8,7 +8,8 @@ use mathlib.Core.Option.{some}
 use native.Mathlib.Omega.{arith}
 use lib.Dec.{T, ltb, leb, leb→le, eqb→eq}
 use borrow.Author.Tests.{lt-ltb}
-use Rattle.base.specs.Choice.{if◌then◌else◌, ◌if◌else◌}
+use Rattle.base.specs.Choice.{◌if◌else◌}
+use Rattle.std.specs.Prelude.{if◌then◌else◌}
 use Rattle.base.specs.Lists.{any, every, first, within}
 use Rattle.base.proofs.Tests.{and_l, and_r, or_cases, eqb_turned, every_head, every_tail}
 use Rattle.railway.specs.Ranges.{same_station, station_ok, area_ok}

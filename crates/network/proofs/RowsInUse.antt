@@ -11,7 +11,7 @@ use lib.Dec.{ltb, leb, eqb, ltb→lt, lt→ltb}
 use lib.ListN.{length, get_or, take, drop, drop_of_length-le, length-take}
 use lib.Seq.{get_or-take, take_all}
 use borrow.Author.Tests.{eq-eqb, lt-ltb, le-ltb, ltb-true, leb-true, leb-false}
-use Rattle.base.specs.Choice.{if◌then◌else◌}
+use Rattle.std.specs.Prelude.{if◌then◌else◌}
 use Rattle.base.specs.Lists.{any, every, first, is, each_two, rising}
 use Rattle.base.proofs.Lengths.{drop_next}
 use Rattle.base.proofs.Tests.{T_true, true_T, eqb_turned, every_weaker}

@@ -1,4 +1,6 @@
 // A network by value: rows of stations and lines with their counts. Rows past the count are not read.
+#![tactic(auto)]
+
 ghost use Rattle.std.specs.Prelude.{◌≡◌, true, ◌&&◌, min};
 ghost use Rattle.network.specs.Networks.{station_row_ok, line_row_ok, way_open, row_runs, least_time, station_found, line_found, area_found, station_row, line_row};
 ghost use Rattle.network.specs.Networks.{listed, area_of, track_known, runs, stations_rise, lines_rise, lines_in_range, network_in_range, ends_listed, lines_joined, network_refusal};
@@ -9,7 +11,7 @@ use railway::sorts::{Area, Line, Station, Track, Train};
 use railway::visit::run_valid;
 
 // "(number, area, count of tracks 1..8)"
-#[derive(Drop)]
+#[derive(Clone, Copy)]
 pub struct StationRow {
     pub station: Station,
     pub area: Area,
@@ -18,7 +20,7 @@ pub struct StationRow {
 
 // "(number, first station, second station, kind, least running time, capacity 1..9)"; W3: "Each line gets two, passenger
 // first"
-#[derive(Drop)]
+#[derive(Clone, Copy)]
 pub struct LineRow {
     pub line: Line,
     pub first: Station,
@@ -30,14 +32,14 @@ pub struct LineRow {
 }
 
 // A line shut both ways "from a first minute up to but not including an end".
-#[derive(Drop)]
+#[derive(Clone, Copy)]
 pub struct Closure {
     pub line: Line,
     pub start: Minute,
     pub end: WindowEnd,
 }
 
-#[derive(Drop)]
+#[derive(Clone, Copy)]
 pub struct Network {
     pub stationcount: u8,
     pub stations: [StationRow; 16],
@@ -49,20 +51,20 @@ pub struct Network {
 }
 
 // The row of a station or of a line, or nothing where it is not listed.
-#[derive(Drop)]
+#[derive(Clone, Copy)]
 pub enum StationFound {
     Row(StationRow),
     Nothing,
 }
 
-#[derive(Drop)]
+#[derive(Clone, Copy)]
 pub enum LineFound {
     Row(LineRow),
     Nothing,
 }
 
 // A station's area, or nothing where the station is not listed.
-#[derive(Drop)]
+#[derive(Clone, Copy)]
 pub enum AreaFound {
     Is(Area),
     Nothing,

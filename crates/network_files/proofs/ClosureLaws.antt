@@ -6,7 +6,7 @@ use mathlib.Core.Bool.{Bool, true, false}
 use mathlib.Core.List.{List, [], ◌∷◌}
 use native.Mathlib.Omega.{arith}
 use lib.Dec.{eqb}
-use Rattle.base.specs.Choice.{if◌then◌else◌}
+use Rattle.std.specs.Prelude.{if◌then◌else◌}
 use Rattle.railway.specs.Ranges.{last_minute, last_end}
 use Rattle.timetable.specs.Formats.{accepted, refused, ◌and_then◌, field_at, behind, read, least, floor_after, compared, row}
 use Rattle.timetable.specs.NetworkFile.{closure_ranges, closure_of, closure_fields}

@@ -11,7 +11,7 @@ use borrow.Author.Tests.{ne_eqb}
 use native.Mathlib.Numerals.{add-one}
 use lib.ListN.{length, take, set, get_or, length-map, get_or-map}
 use lib.Seq.{take_all, take-suc, take-suc-set}
-use Rattle.base.specs.Choice.{if◌then◌else◌}
+use Rattle.std.specs.Prelude.{if◌then◌else◌}
 use Rattle.base.specs.Lists.{first, every}
 use Rattle.base.proofs.Tests.{every_head, every_tail}
 use Rattle.network.specs.declared.StationRow.{StationRow}

@@ -10,7 +10,7 @@ use native.Mathlib.Omega.{arith}
 use lib.Dec.{T, ltb, leb, eqb, leb→le}
 use lib.ListN.{length, drop, length-drop}
 use borrow.Author.Tests.{ne_eqb, le-leb}
-use Rattle.base.specs.Choice.{if◌then◌else◌}
+use Rattle.std.specs.Prelude.{if◌then◌else◌}
 use Rattle.base.specs.Lists.{every, first, within}
 use Rattle.base.proofs.Tests.{true_T, every_head, every_tail, every_cons}
 use Rattle.numbers.specs.Numbers.{NumberRead, Value, Refused, group_before, read_groups, read_number}

@@ -16,14 +16,14 @@ use railway::minute::{Minute, WindowEnd};
 use railway::sorts::Line;
 use timetable::Fault;
 
-#[derive(Drop)]
+#[derive(Clone, Copy)]
 pub enum ClosureRead {
     Row(Closure, usize),
     Refused(u8, usize),
 }
 
 // The rows, and the first that does not end after its start and the first of an unlisted line.
-#[derive(Drop)]
+#[derive(Clone, Copy)]
 pub struct ClosuresRead {
     pub accepted: bool,
     pub refusal: u8,

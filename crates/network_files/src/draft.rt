@@ -18,13 +18,13 @@ use network::{Closure, LineRow, Network, StationRow};
 use railway::sorts::{Area, Line, Station};
 use timetable::{Fault, NetworkForm};
 
-#[derive(Drop)]
+#[derive(Clone, Copy)]
 pub enum StationRead {
     Row(StationRow, usize),
     Refused(u8, usize),
 }
 
-#[derive(Drop)]
+#[derive(Clone, Copy)]
 pub struct StationsRead {
     pub accepted: bool,
     pub refusal: u8,
@@ -32,13 +32,13 @@ pub struct StationsRead {
     pub rows: [StationRow; 16],
 }
 
-#[derive(Drop)]
+#[derive(Clone, Copy)]
 pub enum LineRead {
     Row(LineRow, usize),
     Refused(u8, usize),
 }
 
-#[derive(Drop)]
+#[derive(Clone, Copy)]
 pub struct LinesRead {
     pub accepted: bool,
     pub refusal: u8,
@@ -49,7 +49,7 @@ pub struct LinesRead {
 
 // The network, what only the whole of it shows, and the place behind it; or a refusal's number and place beside a blank
 // network.
-#[derive(Drop)]
+#[derive(Clone, Copy)]
 pub struct Draft {
     pub accepted: bool,
     pub refusal: u8,

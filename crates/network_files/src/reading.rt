@@ -9,7 +9,7 @@ use network::Network;
 use timetable::NetworkForm;
 
 // The network with refusal 0, or a refusal's number and place beside a blank network.
-#[derive(Drop)]
+#[derive(Clone, Copy)]
 pub struct NetworkRead {
     pub refusal: u8,
     pub place: usize,

@@ -1,2 +1,4 @@
 // Networks written to files.
+#![tactic(auto)]
+
 pub mod writing; // the call

@@ -8,7 +8,7 @@ use native.Mathlib.Omega.{arith}
 use lib.Dec.{ltb, eqb}
 use lib.ListN.{length, take}
 use borrow.Author.Tests.{ltb-false, lt-ltb, le-ltb, eqb-false}
-use Rattle.base.specs.Choice.{if◌then◌else◌}
+use Rattle.std.specs.Prelude.{if◌then◌else◌}
 use Rattle.numbers.specs.Numbers.{NumberRead, Value, Refused, group_before, read_groups, read_number, write_groups, write_number, width}
 use Rattle.numbers.proofs.GroupLaws.{cap, Small, small_tail, before_value}
 
@@ -19,8 +19,8 @@ longer w = omega arith
 group_back : (k n : ℕ) (rest : List ℕ) → n < cap (suc (suc k))
     → (n / 128 < cap (suc k) → read_groups (suc k) (write_groups (suc k) (n / 128) ++ rest) ≡ Value (n / 128) (length (write_groups (suc k) (n / 128))))
     → (t : Bool) → ltb n 128 ≡ t
-    → read_groups (suc (suc k)) ((if t then n ∷ [] else (128 + n % 128) ∷ write_groups (suc k) (n / 128)) ++ rest)
-    ≡ Value n (length (if t then n ∷ [] else (128 + n % 128) ∷ write_groups (suc k) (n / 128)))
+    → read_groups (suc (suc k)) ((if t then n ∷ [] else ((128 + n % 128) ∷ write_groups (suc k) (n / 128))) ++ rest)
+    ≡ Value n (length (if t then n ∷ [] else ((128 + n % 128) ∷ write_groups (suc k) (n / 128))))
 unfolding read_groups cap
 group_back k n rest h ih true e = rw e
 group_back k n rest h ih false e =
@@ -49,12 +49,12 @@ groups_same (suc k) [] n w s e = let z : ◌≡◌ {A = ℕ} 0 1 = cc in absurd 
 groups_same (suc k) (x ∷ b) n w s e = go (ltb x 128) refl e (λ m v. groups_same k b m v (small_tail x b s))
   where
     more : 128 ≤ x → (r : NumberRead) → ((m v : ℕ) → r ≡ Value m v → take v b ≡ write_groups k m) → group_before (x - 128) r ≡ Value n w
-        → take w (x ∷ b) ≡ (if ltb n 128 then n ∷ [] else (128 + n % 128) ∷ write_groups k (n / 128))
+        → take w (x ∷ b) ≡ (if ltb n 128 then n ∷ [] else ((128 + n % 128) ∷ write_groups k (n / 128)))
     more big (Refused j) ih q = let z : ◌≡◌ {A = ℕ} 0 1 = cc in absurd (omega arith)
     more big (Value m v) ih q = last (eqb m 0) refl q
       where
         last : (t : Bool) → eqb m 0 ≡ t → (if t then Refused 2 else Value (x - 128 + 128 * m) (v + 1)) ≡ Value n w
-            → take w (x ∷ b) ≡ (if ltb n 128 then n ∷ [] else (128 + n % 128) ∷ write_groups k (n / 128))
+            → take w (x ∷ b) ≡ (if ltb n 128 then n ∷ [] else ((128 + n % 128) ∷ write_groups k (n / 128)))
         last true p q = let z : ◌≡◌ {A = ℕ} 0 1 = cc in absurd (omega arith)
         last false p q =
             let a : x - 128 + 128 * m ≡ n = cc in
@@ -67,7 +67,7 @@ groups_same (suc k) (x ∷ b) n w s e = go (ltb x 128) refl e (λ m v. groups_sa
 
     go : (t : Bool) → ltb x 128 ≡ t → (if t then Value x 1 else group_before (x - 128) (read_groups k b)) ≡ Value n w
         → ((m v : ℕ) → read_groups k b ≡ Value m v → take v b ≡ write_groups k m)
-        → take w (x ∷ b) ≡ (if ltb n 128 then n ∷ [] else (128 + n % 128) ∷ write_groups k (n / 128))
+        → take w (x ∷ b) ≡ (if ltb n 128 then n ∷ [] else ((128 + n % 128) ∷ write_groups k (n / 128)))
     go true p q ih =
         let a : x ≡ n = cc in
         let c : 1 ≡ w = cc in

@@ -1,7 +1,7 @@
 -- The numbers of files. Document 01, "Files": "A number is groups of seven bits, lowest first, top bit set on all but
 -- the last: its first group plus 128 times the number in the rest." Assumes nothing.
 use Rattle.std.specs.Prelude.{ℕ, zero, suc, ◌+◌, ◌*◌, ◌-◌, ◌/◌, ◌%◌, List, [], ◌∷◌, ◌++◌, ltb, leb, eqb, length, drop}
-use Rattle.base.specs.Choice.{if◌then◌else◌}
+use Rattle.std.specs.Prelude.{if◌then◌else◌}
 
 -- what reading a number gives: the number and how many bytes it takes, or document 01's refusal number
 pub data NumberRead : Type 0 where
@@ -25,7 +25,7 @@ read_number bytes = read_groups 3 bytes
 
 unfoldable pub write_groups : ℕ → ℕ → List ℕ
 write_groups zero n = []
-write_groups (suc k) n = if ltb n 128 then n ∷ [] else (128 + n % 128) ∷ write_groups k (n / 128)
+write_groups (suc k) n = if ltb n 128 then n ∷ [] else ((128 + n % 128) ∷ write_groups k (n / 128))
 
 -- numbers below 128 * 128 * 128 have at most three groups
 unfoldable pub write_number : ℕ → List ℕ

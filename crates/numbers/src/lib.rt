@@ -1,11 +1,13 @@
 // The numbers of files. Document 01, "Files": "A number is groups of seven bits, lowest first, top bit set on all but
 // the last: its first group plus 128 times the number in the rest."
+#![tactic(auto)]
+
 ghost use Rattle.std.specs.Prelude.{◌≡◌, ◌≤◌, ◌+◌, ◌%◌};
 ghost use Rattle.numbers.specs.Answers.{number_outcome};
 ghost use Rattle.numbers.specs.Numbers.{read_groups, read_number, width, with_number};
 
 // What reading a number at the head of some bytes gives.
-#[derive(Drop)]
+#[derive(Clone, Copy)]
 pub enum Reading {
     // The number, and how many bytes it takes.
     Value(u32, usize),

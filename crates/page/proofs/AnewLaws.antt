@@ -10,7 +10,7 @@ use lib.Dec.{T, ltb}
 use lib.ListN.{length, get_or, set, take, drop, length-append, length-drop, length-map, drop_of_length-le, get_or-map}
 use lib.Seq.{length-take-le}
 use borrow.Author.Tests.{eq-eqb}
-use Rattle.base.specs.Choice.{if◌then◌else◌}
+use Rattle.std.specs.Prelude.{if◌then◌else◌}
 use Rattle.base.specs.Lists.{any, every, each_two, same}
 use Rattle.base.proofs.Lengths.{drop_next}
 use Rattle.base.proofs.Sorted.{two_head, two_tail, same_equal, below_itself, below_trans}
@@ -52,7 +52,7 @@ insert_there q [] o t = absurd (true_T false t)
 insert_there q (x ∷ xs) o t = go (precedes q x) refl (same_relation q x) refl t (insert_there q xs (two_tail precedes x xs o))
   where
     go : (b : Bool) → precedes q x ≡ b → (d : Bool) → same_relation q x ≡ d → (d || any (same_relation q) xs) ≡ true
-        → (any (same_relation q) xs ≡ true → insert q xs ≡ xs) → (if b then q ∷ x ∷ xs else (if d then x ∷ xs else x ∷ insert q xs)) ≡ x ∷ xs
+        → (any (same_relation q) xs ≡ true → insert q xs ≡ xs) → (if b then q ∷ x ∷ xs else (if d then x ∷ xs else (x ∷ insert q xs))) ≡ x ∷ xs
     go true p true s m ih = absurd (itself q x (true_T (precedes q x) p) s)
     go true p false s m ih = absurd (true_T false (sym (not_among q x xs (true_T (precedes q x) p) (two_head precedes x xs o)) ∙ m))
     go false p true s m ih = refl

@@ -9,7 +9,8 @@ use lib.Dec.{T, ltb, eqb, ltb→lt, lt→ltb}
 use lib.ListN.{length, get_or, set, take, drop, length-append, length-drop, length-map}
 use lib.Seq.{take_at, drop_at, length-take-le}
 use borrow.Author.Tests.{ltb-true, ltb-false, eqb-true, ne_eqb}
-use Rattle.base.specs.Choice.{if◌then◌else◌, ◌if◌else◌}
+use Rattle.base.specs.Choice.{◌if◌else◌}
+use Rattle.std.specs.Prelude.{if◌then◌else◌}
 use Rattle.base.specs.Lists.{any, every, keep, count, each_two, same}
 use Rattle.base.proofs.Counts.{keep_every}
 use Rattle.base.proofs.Lengths.{length_keep}
@@ -180,7 +181,7 @@ enter_cut e [] = refl
 enter_cut e (x ∷ xs) = rw (entry_number x) (go (ltb e.train.0 x.train.0) (enter_cut e xs))
   where
     go : (b : Bool) → let i = index_of (λ r. ltb e.train.0 (word r 0)) (map encode_entry xs) in enter e xs ≡ take i xs ++ (e ∷ drop i xs)
-        → (if b then e ∷ x ∷ xs else x ∷ enter e xs) ≡ take (if b then 0 else suc i) (x ∷ xs) ++ (e ∷ drop (if b then 0 else suc i) (x ∷ xs))
+        → (if b then e ∷ x ∷ xs else (x ∷ enter e xs)) ≡ take (if b then 0 else suc i) (x ∷ xs) ++ (e ∷ drop (if b then 0 else suc i) (x ∷ xs))
     go true ih = refl
     go false ih = ap (λ r. x ∷ r) ih
 
@@ -295,7 +296,7 @@ insert_cut q (x ∷ xs) n = rw (relation_back x) (go (precedes q x) (same_relati
     go : (b d : Bool) → (d || any (same_relation q) xs) ≡ false
         → (any (same_relation q) xs ≡ false → let i = index_of (λ r. precedes q (decode_relation r)) (map encode_relation xs) in insert q xs ≡ take i xs ++ (q ∷ drop i xs))
         → let i = index_of (λ r. precedes q (decode_relation r)) (map encode_relation xs) in
-        (if b then q ∷ x ∷ xs else (if d then x ∷ xs else x ∷ insert q xs)) ≡ take (if b then 0 else suc i) (x ∷ xs) ++ (q ∷ drop (if b then 0 else suc i) (x ∷ xs))
+        (if b then q ∷ x ∷ xs else (if d then x ∷ xs else (x ∷ insert q xs))) ≡ take (if b then 0 else suc i) (x ∷ xs) ++ (q ∷ drop (if b then 0 else suc i) (x ∷ xs))
     go true d m ih = refl
     go false true m ih = absurd (true_T false (sym m))
     go false false m ih = ap (λ r. x ∷ r) (ih m)

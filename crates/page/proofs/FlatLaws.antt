@@ -11,7 +11,7 @@ use lib.Dec.{T}
 use lib.ListN.{length, get_or, take, drop, length-append, length-drop, take-append-drop, length-replicate, replicate-append-replicate}
 use lib.Seq.{take_at, drop_at, drop-drop, length-take-le, split_at}
 use borrow.Author.Tests.{le-leb}
-use Rattle.base.specs.Choice.{if◌then◌else◌}
+use Rattle.std.specs.Prelude.{if◌then◌else◌}
 use Rattle.base.specs.Lists.{every, keep, each_two}
 use Rattle.base.proofs.Counts.{keep_every}
 use Rattle.base.proofs.Sorted.{two_head, two_tail}

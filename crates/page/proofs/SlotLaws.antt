@@ -11,7 +11,7 @@ use lib.Dec.{ltb, leb-suc-suc}
 use lib.ListN.{length, get_or, take, drop, length-drop, length-map, drop_of_length-le}
 use lib.Seq.{drop-drop, take_all}
 use borrow.Author.Tests.{lt-ltb, eq-eqb, ne_eqb}
-use Rattle.base.specs.Choice.{if◌then◌else◌}
+use Rattle.std.specs.Prelude.{if◌then◌else◌}
 use Rattle.base.specs.Lists.{any, first}
 use Rattle.base.proofs.Lengths.{drop_next}
 use Rattle.timetable.specs.Tables.{empty}

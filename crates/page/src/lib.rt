@@ -1,5 +1,7 @@
 // A station's page: finding a visit or a relation, and changing the page by one record. What is no page of 512 bytes,
 // or counts more records than there is room for, is left as it was.
+#![tactic(auto)]
+
 pub mod entries; // the entries of a page one by one
 
 ghost use Rattle.std.specs.Prelude.{map, ◌≡◌, ◌+◌, ◌*◌, ◌-◌, ◌<◌, ◌≤◌, eqb, ltb, length, get_or};
@@ -19,14 +21,14 @@ use records::{bytes, record};
 use relation_loss::Left;
 
 // Where something stands, or that it does not.
-#[derive(Drop)]
+#[derive(Clone, Copy)]
 pub enum Found {
     At(usize),
     Nothing,
 }
 
 // A train's visit, or that there is none.
-#[derive(Drop)]
+#[derive(Clone, Copy)]
 pub enum VisitFound {
     Is(Visit),
     Nothing,

@@ -1,6 +1,8 @@
 // An edit on pages in a row, those of a sheet or of a division: what they refuse it with, and what it makes of them. A
 // page is a page wherever it stands, so the same functions serve both. A page that is past the buffer's end is short or
 // empty, and is left so.
+#![tactic(auto)]
+
 ghost use Rattle.std.specs.Prelude.{◌≡◌, ◌*◌, ◌-◌, ◌≤◌, ◌<◌, min};
 ghost use Rattle.edit_changes.specs.between.EditPages.{page_without, here_page};
 ghost use Rattle.page_edits.specs.between.PageEdits.{place_of, places, visits_on, swept, sweep};

@@ -8,7 +8,7 @@ use mathlib.Core.Option.{Option, none, some}
 use native.Mathlib.Omega.{arith}
 use lib.IntN.{ℤ}
 use lib.ListN.{length, take, drop, length-append}
-use Rattle.base.specs.Choice.{if◌then◌else◌}
+use Rattle.std.specs.Prelude.{if◌then◌else◌}
 use Rattle.railway.specs.Ranges.{station_ok}
 use Rattle.timetable.specs.Tables.{Table, visit_of}
 use Rattle.timetable.specs.Visits.{comes_from, with_out}

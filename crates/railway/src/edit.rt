@@ -8,7 +8,7 @@ use crate::sorts::{Line, Station, Track, Train};
 use crate::visit::run_valid;
 
 // "(s, t, track, arrival, departure)", and a stop mark "after its track in every edit that carries a track"
-#[derive(Drop)]
+#[derive(Clone, Copy)]
 pub struct Plan {
     pub station: Station,
     pub train: Train,
@@ -19,7 +19,7 @@ pub struct Plan {
 }
 
 // "(as 1, then p, line, running time)"
-#[derive(Drop)]
+#[derive(Clone, Copy)]
 pub struct Extension {
     pub plan: Plan,
     pub other: Station,
@@ -28,7 +28,7 @@ pub struct Extension {
 }
 
 // "(s, t, p)"
-#[derive(Drop)]
+#[derive(Clone, Copy)]
 pub struct Deletion {
     pub station: Station,
     pub train: Train,
@@ -36,7 +36,7 @@ pub struct Deletion {
 }
 
 // "(s, t, time)", and "the present minute .. as a last field"
-#[derive(Drop)]
+#[derive(Clone, Copy)]
 pub struct Report {
     pub station: Station,
     pub train: Train,
@@ -45,19 +45,19 @@ pub struct Report {
 }
 
 // "(s, relation)"
-#[derive(Drop)]
+#[derive(Clone, Copy)]
 pub struct StationRelation {
     pub station: Station,
     pub relation: Relation,
 }
 
 // "(t)"
-#[derive(Drop)]
+#[derive(Clone, Copy)]
 pub struct Cancellation {
     pub train: Train,
 }
 
-#[derive(Drop)]
+#[derive(Clone, Copy)]
 pub enum Edit {
     Place(Plan),
     Prepend(Extension),

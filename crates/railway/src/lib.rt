@@ -1,5 +1,7 @@
 // The sorts and values of document 01, "The railway and its numbers": what an edit carries, and the tests of its
 // ranges.
+#![tactic(auto)]
+
 pub mod sorts; // stations, trains, tracks, lines, areas
 pub mod minute; // times
 pub mod visit; // visits and their links

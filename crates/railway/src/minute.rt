@@ -2,7 +2,7 @@
 ghost use Rattle.std.specs.Prelude.{◌≡◌};
 ghost use Rattle.railway.specs.Ranges.{minute_ok, minutes_after, window_end_ok};
 
-#[derive(Drop)]
+#[derive(Clone, Copy)]
 pub struct Minute(pub u16);
 
 impl Minute {
@@ -24,7 +24,7 @@ impl Minute {
 }
 
 // The end of a window of minutes: the first minute behind it, so it may be one above the last minute.
-#[derive(Drop)]
+#[derive(Clone, Copy)]
 pub struct WindowEnd(pub u16);
 
 impl WindowEnd {

@@ -7,7 +7,7 @@ ghost use Rattle.railway.specs.Relations.{used, place_count, further_ok, trains_
 use crate::sorts::Train;
 
 // Four places for 2 to 4 trains, rising; 0 in a place is no train, and such places come last.
-#[derive(Drop)]
+#[derive(Clone, Copy)]
 pub struct Trains {
     pub a: Train,
     pub b: Train,
@@ -16,14 +16,14 @@ pub struct Trains {
 }
 
 // "a dependency an arriver and a departer, perhaps the same"
-#[derive(Drop)]
+#[derive(Clone, Copy)]
 pub struct Pair {
     pub arriver: Train,
     pub departer: Train,
 }
 
 // Each with its interval.
-#[derive(Drop)]
+#[derive(Clone, Copy)]
 pub enum Relation {
     Connection(u8, Trains),
     Disconnection(u8, Trains),

@@ -2,19 +2,19 @@
 ghost use Rattle.std.specs.Prelude.{◌≡◌};
 ghost use Rattle.railway.specs.Ranges.{station_ok, train_ok, is_freight, track_ok, line_ok, area_ok};
 
-#[derive(Drop)]
+#[derive(Clone, Copy)]
 pub struct Station(pub u8);
 
-#[derive(Drop)]
+#[derive(Clone, Copy)]
 pub struct Train(pub u16);
 
-#[derive(Drop)]
+#[derive(Clone, Copy)]
 pub struct Track(pub u8);
 
-#[derive(Drop)]
+#[derive(Clone, Copy)]
 pub struct Line(pub u8);
 
-#[derive(Drop)]
+#[derive(Clone, Copy)]
 pub struct Area(pub u8);
 
 impl Station {

@@ -1,4 +1,6 @@
 // The tally lent by `&mut`: one thin function over the step by value.
+#![tactic(auto)]
+
 ghost use Rattle.std.specs.Prelude.{◌≡◌};
 ghost use Rattle.timetable.specs.Count.{raise_refusal, raise};
 

@@ -10,7 +10,8 @@ use native.Mathlib.Omega.{arith}
 use lib.Dec.{T, eqb, eqb→eq, eqb_refl}
 use lib.ListN.{length, take, get_or, set, length-map}
 use lib.Seq.{take_all, take-suc, take-suc-set}
-use Rattle.base.specs.Choice.{if◌then◌else◌, ◌if◌else◌}
+use Rattle.base.specs.Choice.{◌if◌else◌}
+use Rattle.std.specs.Prelude.{if◌then◌else◌}
 use Rattle.base.specs.Lists.{any, every, keep}
 use Rattle.base.proofs.Tests.{T_true, T_false, true_T, and_l, and_r, both, or_l, or_r, or_cases, every_head, every_tail, any_one, any_weaker}
 use Rattle.railway.specs.Ranges.{station_ok, same_station}

@@ -7,7 +7,7 @@ use mathlib.Core.List.{List, [], ◌∷◌, ◌++◌, append-nil, append_assoc}
 use native.Mathlib.Omega.{arith}
 use lib.ListN.{length, take, drop, drop_of_length-le, length-append}
 use lib.Seq.{paste, length-take-le, take_at, drop_at, drop-drop}
-use Rattle.base.specs.Choice.{if◌then◌else◌}
+use Rattle.std.specs.Prelude.{if◌then◌else◌}
 use Rattle.base.specs.Lists.{keep}
 use Rattle.base.proofs.Lengths.{keep_no_longer}
 use Rattle.timetable.specs.Machine.{Timetable}
@@ -50,7 +50,7 @@ parted_length f [] = refl
 parted_length f (g ∷ gs) = go (before g f) (parted_length f gs)
   where
     go : (b : Bool) → length (leading f gs) + length (trailing f gs) ≡ length gs
-        → length (if b then g ∷ leading f gs else []) + length (if b then trailing f gs else g ∷ gs) ≡ suc (length gs)
+        → length (if b then g ∷ leading f gs else []) + length (if b then trailing f gs else (g ∷ gs)) ≡ suc (length gs)
     go true h = omega arith
     go false h = omega arith
 

@@ -1,7 +1,7 @@
 -- Bytes as lists of numbers: numbers of two bytes, parts, and what making and closing room for one record of 16 bytes
 -- does to a part. docs/LAYOUT.md has the layout. Assumes nothing.
 use Rattle.std.specs.Prelude.{ℕ, ◌+◌, ◌*◌, ◌-◌, ◌/◌, ◌%◌, Bool, true, false, List, ◌++◌, leb, eqb, length, get_or, take, drop, replicate}
-use Rattle.base.specs.Choice.{if◌then◌else◌}
+use Rattle.std.specs.Prelude.{if◌then◌else◌}
 use Rattle.base.specs.Lists.{every}
 
 abbrev pub zeros : ℕ → List ℕ

@@ -1,7 +1,7 @@
 -- Records of 16 bytes: a visit with its train, and a relation. docs/LAYOUT.md has the layout to the byte. Assumes
 -- nothing.
 use Rattle.std.specs.Prelude.{ℕ, Bool, true, ◌&&◌, List, [], ◌∷◌, ltb, eqb, get_or}
-use Rattle.base.specs.Choice.{if◌then◌else◌}
+use Rattle.std.specs.Prelude.{if◌then◌else◌}
 use Rattle.timetable.specs.Tables.{Entry}
 use Rattle.records.specs.Types.{Train, InLink, OutLink, Visit, Trains, Relation, Connection, Disconnection, Dependency}
 use Rattle.records.specs.Bytes.{low, high, word, flag, occurred}

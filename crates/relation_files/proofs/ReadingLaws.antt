@@ -5,7 +5,7 @@ use mathlib.Core.Bool.{Bool, not}
 use mathlib.Core.List.{List, [], ◌∷◌, map}
 use lib.Dec.{eqb}
 use lib.ListN.{get_or, get_or-map}
-use Rattle.base.specs.Choice.{if◌then◌else◌}
+use Rattle.std.specs.Prelude.{if◌then◌else◌}
 use Rattle.railway.specs.declared.sorts.Train.{Train}
 use Rattle.timetable.specs.Formats.{done, field, accepted, refused, ◌and_then◌, field_at, behind, read, least, floor_after, compared}
 use Rattle.timetable.specs.Tables.{packed}

@@ -1,3 +1,5 @@
 // Relations in files: the reader and the numbers that are written.
+#![tactic(auto)]
+
 pub mod reading; // a relation read behind the entry before
 pub mod row; // the numbers of a relation

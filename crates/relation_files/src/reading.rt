@@ -2,7 +2,7 @@
 // departer, whose count is 2)". Each number is compared with its namesake in the entry before; a relation by itself has
 // none before it.
 ghost use Rattle.std.specs.Prelude.{◌≡◌, ◌+◌, ◌<◌, ◌≤◌};
-ghost use Rattle.base.specs.Choice.{if◌then◌else◌};
+ghost use Rattle.std.specs.Prelude.{if◌then◌else◌};
 ghost use Rattle.timetable.specs.Formats.{read};
 ghost use Rattle.timetable.specs.EditsFile.{trains_format, most_trains, group_of, relation_of, station_relation_entry};
 ghost use Rattle.fields.specs.between.Answers.{in_use, row_read};
@@ -15,7 +15,7 @@ use railway::relation::{Pair, Relation, Trains};
 use railway::sorts::{Station, Train};
 
 // The relation at its station and the place behind it, or a refusal's number and place.
-#[derive(Drop)]
+#[derive(Clone, Copy)]
 pub enum RelationRead {
     Entry(StationRelation, usize),
     Refused(u8, usize),

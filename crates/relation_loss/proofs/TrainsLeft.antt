@@ -9,7 +9,7 @@ use native.Mathlib.Omega.{arith}
 use lib.Dec.{T, ltb, eqb, ltb→lt}
 use lib.ListN.{length}
 use borrow.Author.Tests.{le-ltb, ne_eqb}
-use Rattle.base.specs.Choice.{if◌then◌else◌}
+use Rattle.std.specs.Prelude.{if◌then◌else◌}
 use Rattle.base.specs.Lists.{any, every, keep}
 use Rattle.base.proofs.Tests.{every_head, every_tail, every_keep}
 use Rattle.railway.specs.Ranges.{same_train}

@@ -1,5 +1,7 @@
 // A train taken out of a relation. "A relation without t stays. A connection or disconnection loses t, and vanishes
 // under two trains. A dependency with t vanishes."
+#![tactic(auto)]
+
 ghost use Rattle.std.specs.Prelude.{not, ◌&&◌, ◌≡◌};
 ghost use Rattle.base.specs.Lists.{any, keep};
 ghost use Rattle.railway.specs.Ranges.{same_train};
@@ -11,7 +13,7 @@ use railway::relation::{Relation, Trains};
 use railway::sorts::Train;
 
 // What is left of a relation.
-#[derive(Drop)]
+#[derive(Clone, Copy)]
 pub enum Left {
     Is(Relation),
     Nothing,

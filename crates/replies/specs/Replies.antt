@@ -1,7 +1,8 @@
 -- What every call answers, and how a call goes on where the files that it is lent are read. Assumes nothing.
 use Rattle.std.specs.Prelude.{ℕ, ◌+◌, Bool}
 use Rattle.std.proofs.Math.Option.{Option, none, some}
-use Rattle.base.specs.Choice.{if◌then◌else◌, ◌if◌else◌}
+use Rattle.base.specs.Choice.{◌if◌else◌}
+use Rattle.std.specs.Prelude.{if◌then◌else◌}
 use Rattle.timetable.specs.Outputs as outputs
 use Rattle.timetable.specs.Formats.{Outcome, accepted, refused}
 use Rattle.replies.specs.Types.{Network, Answer, Reply}

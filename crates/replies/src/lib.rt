@@ -1,4 +1,6 @@
 // What every call of the library answers.
+#![tactic(auto)]
+
 ghost use Rattle.std.specs.Prelude.{◌≡◌};
 ghost use Rattle.timetable.specs.Outputs.{reply};
 ghost use Rattle.replies.specs.Replies.{sized, plain, placed, of_answer, of_reply};
@@ -7,7 +9,7 @@ use timetable::{Answer, Output};
 
 // By value, as C has it: 24 bytes.
 #[repr(C)]
-#[derive(Drop)]
+#[derive(Clone, Copy)]
 pub struct Reply {
     // Document 01's number, or 0.
     pub refusal: u8,

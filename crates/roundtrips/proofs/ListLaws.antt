@@ -7,7 +7,7 @@ use mathlib.Core.Option.{none, some}
 use native.Mathlib.Omega.{arith}
 use lib.Dec.{T}
 use lib.ListN.{length, length-append}
-use Rattle.base.specs.Choice.{if◌then◌else◌}
+use Rattle.std.specs.Prelude.{if◌then◌else◌}
 use Rattle.base.specs.Lists.{any, every, keep, first, each_two}
 use Rattle.base.proofs.Tests.{T_true, true_T, every_head, every_tail, every_cons, every_both, every_keep, kept_passes}
 use Rattle.base.proofs.Sorted.{two_head, two_tail, two_cons}

@@ -8,7 +8,7 @@ use native.Mathlib.Omega.{arith}
 use lib.Dec.{T, ltb, leb, eqb, eqb_refl, ltb→lt, lt→ltb, leb→le}
 use borrow.Author.Tests.{eqb-true, eqb-false}
 use lib.ListN.{length, drop, get_or, length-map}
-use Rattle.base.specs.Choice.{if◌then◌else◌}
+use Rattle.std.specs.Prelude.{if◌then◌else◌}
 use Rattle.base.specs.Lists.{every, each_two}
 use Rattle.base.proofs.Tests.{T_true, and_r, parts, every_head, every_tail, every_cons, every_weaker}
 use Rattle.base.proofs.Sorted.{smaller, two_head, two_tail, two_cons}

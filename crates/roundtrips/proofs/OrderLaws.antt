@@ -9,7 +9,7 @@ use native.Mathlib.Omega.{arith}
 use lib.Dec.{T, ltb, eqb}
 use lib.ListN.{length}
 use borrow.Author.Tests.{eqb-true, eqb-false, eq-eqb, ne_eqb}
-use Rattle.base.specs.Choice.{if◌then◌else◌}
+use Rattle.std.specs.Prelude.{if◌then◌else◌}
 use Rattle.base.specs.Lists.{every, each_two, below}
 use Rattle.base.proofs.Tests.{T_false, and_l, and_r, parts, every_head, every_tail, every_cons, every_weaker, every_both}
 use Rattle.base.proofs.Sorted.{two_head, two_tail, two_step, below_smaller, below_equal, below_cases, below_itself, below_trans}

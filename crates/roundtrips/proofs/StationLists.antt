@@ -8,7 +8,7 @@ use mathlib.Core.List.{List, [], ◌∷◌, ◌++◌, flat_map, append-nil}
 use native.Mathlib.Omega.{arith}
 use lib.Dec.{T, ltb, leb, eqb, not_T, leb→le, le→leb, eqb→eq, ltb→lt, lt→ltb}
 use borrow.Author.Tests.{eqb-true, eqb-false, ltb-true, ltb-false}
-use Rattle.base.specs.Choice.{if◌then◌else◌}
+use Rattle.std.specs.Prelude.{if◌then◌else◌}
 use Rattle.base.specs.Lists.{any, every, keep, each_two}
 use Rattle.base.proofs.Tests.{true_T, not_T_false, by_value, and_l, and_r, or_cases, every_head, every_tail, every_weaker, every_flatMap, flatMap_same}
 use Rattle.base.proofs.Counts.{keep_append, keep_none, keep_every}

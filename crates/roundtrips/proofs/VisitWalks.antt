@@ -10,7 +10,7 @@ use lib.Dec.{T, eqb}
 use lib.ListN.{get_or}
 use lib.Seq.{get_or-drop}
 use borrow.Author.Tests.{eqb-true, eqb-false, ne_eqb}
-use Rattle.base.specs.Choice.{if◌then◌else◌}
+use Rattle.std.specs.Prelude.{if◌then◌else◌}
 use Rattle.base.specs.Lists.{within}
 use Rattle.base.proofs.Tests.{not_T_false, and_l, and_r, both, parts}
 use Rattle.numbers.specs.Numbers.{width}

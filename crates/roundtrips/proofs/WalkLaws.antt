@@ -10,7 +10,7 @@ use lib.Dec.{ltb, leb}
 use lib.ListN.{length, take, drop, length-append, take-append-drop, drop_of_length-le}
 use lib.Seq.{drop-drop, get_or-drop, drop-append_seam}
 use borrow.Author.Tests.{leb-true, le-leb, ltb-true}
-use Rattle.base.specs.Choice.{if◌then◌else◌}
+use Rattle.std.specs.Prelude.{if◌then◌else◌}
 use Rattle.numbers.specs.Numbers.{NumberRead, Value, Refused, read_number, write_groups, write_number, width}
 use Rattle.numbers.proofs.GroupLaws.{cap, Small, small_tail, read_bounded}
 use Rattle.numbers.proofs.RoundTrip.{number_back, number_same}
@@ -31,7 +31,7 @@ unfolding write_groups
 small_groups zero n i = omega arith
 small_groups (suc k) n i = go (ltb n 128) refl (small_groups k (n / 128)) i
   where
-    go : (b : Bool) → ltb n 128 ≡ b → Small (write_groups k (n / 128)) → Small (if b then n ∷ [] else (128 + n % 128) ∷ write_groups k (n / 128))
+    go : (b : Bool) → ltb n 128 ≡ b → Small (write_groups k (n / 128)) → Small (if b then n ∷ [] else ((128 + n % 128) ∷ write_groups k (n / 128)))
     go true e ih zero = omega (arith, ltb-true n 128 e)
     go true e ih (suc i) = omega arith
     go false e ih zero = omega arith

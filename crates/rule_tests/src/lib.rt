@@ -1,5 +1,7 @@
 // Which rules are broken by the visits of a sheet: the rules that tell of one train, and those that tell of two. `here`
 // is the page of the station s.
+#![tactic(auto)]
+
 ghost use Rattle.std.specs.Prelude.{◌≡◌};
 ghost use Rattle.page.specs.between.Changes.{table_in};
 ghost use Rattle.rules.specs.between.Parts.{entry};

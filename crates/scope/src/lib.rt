@@ -1,4 +1,6 @@
 // Which findings a list takes, by the station of a finding and its far station.
+#![tactic(auto)]
+
 ghost use Rattle.std.specs.Prelude.{◌≡◌, ◌&&◌};
 ghost use Rattle.network.specs.Networks.{area_of};
 ghost use Rattle.timetable.specs.Groups.{in_group};
@@ -9,7 +11,7 @@ use railway::sorts::{Area, Station};
 
 pub mod redone; // which findings an edit has redone
 
-#[derive(Drop)]
+#[derive(Clone, Copy)]
 pub enum Scope {
     // All of them.
     Whole,

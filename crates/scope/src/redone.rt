@@ -4,7 +4,7 @@ ghost use Rattle.timetable.specs.Findings.{is_far};
 ghost use Rattle.scope.specs.Redone.{all_redone, level, is_redone};
 
 // How much is redone at each station.
-#[derive(Drop)]
+#[derive(Clone, Copy)]
 pub struct Marks {
     // All findings, whatever their station.
     pub everywhere: bool,

@@ -12,7 +12,7 @@ use lib.Dec.{T, leb, eqb, leb→le}
 use lib.ListN.{length, get_or, take, drop}
 use lib.Seq.{get_or-take, get_or-drop}
 use borrow.Author.Tests.{le-leb, lt-leb, leb-true}
-use Rattle.base.specs.Choice.{if◌then◌else◌}
+use Rattle.std.specs.Prelude.{if◌then◌else◌}
 use Rattle.base.specs.Lists.{is}
 use Rattle.base.proofs.Tests.{parts, and_l, and_r, both, true_T}
 use Rattle.railway.specs.Ranges.{track_ok, line_ok, run_ok, minute_ok}

@@ -10,7 +10,7 @@ use lib.Dec.{T, ltb, leb, eqb, leb→le, le→leb, eqb→eq}
 use lib.ListN.{length, get_or, take, drop, length-append, length-drop, length-replicate, get_or-map}
 use lib.Seq.{take_at, take-add, take_all, drop-drop, drop-append-add, length-take-le}
 use borrow.Author.Tests.{ltb-true, eq-eqb}
-use Rattle.base.specs.Choice.{if◌then◌else◌}
+use Rattle.std.specs.Prelude.{if◌then◌else◌}
 use Rattle.base.specs.Lists.{every, within}
 use Rattle.base.proofs.Tests.{by_value, T_true, true_T, not_T_false, and_l, and_r, both, every_head, every_tail, every_weaker, every_at}
 use Rattle.railway.specs.Ranges.{station_ok}

@@ -2,7 +2,8 @@
 -- one timetable"; "A division is 49,152 bytes, six sheets by area." Assumes nothing.
 use Rattle.std.specs.Prelude.{ℕ, ◌*◌, ◌-◌, Bool, ◌&&◌, ltb, eqb, length, take, drop}
 use mathlib.Core.List.{List, [], ◌∷◌, map, flat_map}
-use Rattle.base.specs.Choice.{if◌then◌else◌, ◌if◌else◌}
+use Rattle.base.specs.Choice.{◌if◌else◌}
+use Rattle.std.specs.Prelude.{if◌then◌else◌}
 use Rattle.base.specs.Lists.{every}
 use Rattle.railway.specs.Ranges.{station_ok, area_ok}
 use Rattle.network.specs.Networks.{network_refusal, listed, area_of}

@@ -360,7 +360,7 @@ pub fn good_page(page: &[u8], network: Network, s: Station) -> bool
 }
 
 // The stations that a sheet is over: all that are listed, or those of an area.
-#[derive(Drop)]
+#[derive(Clone, Copy)]
 pub enum Extent {
     Whole,
     Of(Area),

@@ -8,7 +8,8 @@ use native.Mathlib.Omega.{arith}
 use lib.Dec.{ltb}
 use lib.ListN.{length, get_or, take, length-append, length-take}
 use borrow.Author.Tests.{ltb-false, le-leb, eq-eqb, ne_eqb}
-use Rattle.base.specs.Choice.{if◌then◌else◌, ◌if◌else◌}
+use Rattle.base.specs.Choice.{◌if◌else◌}
+use Rattle.std.specs.Prelude.{if◌then◌else◌}
 use Rattle.timetable.specs.Findings.{numbers_of, findings}
 use Rattle.timetable.specs.Outputs.{reply, output, output_after}
 use Rattle.sheet.specs.Sheets.{decode_sheet}
@@ -33,7 +34,7 @@ unfolding digits
 more_digits b w most zero x h = omega arith
 more_digits b w most (suc k) x h = go (ltb x 10)
   where
-    go : (c : Bool) → length (if c then (48 + x) ∷ [] else digits k (x / 10) ++ ((48 + x % 10) ∷ [])) ≤ w + 1
+    go : (c : Bool) → length (if c then (48 + x) ∷ [] else (digits k (x / 10) ++ ((48 + x % 10) ∷ []))) ≤ w + 1
     go true = omega arith
     go false = omega (arith, length-append (digits k (x / 10)) ((48 + x % 10) ∷ []), most k (x / 10) (omega (arith, h)))
 
@@ -42,7 +43,7 @@ unfolding digits
 one_digit zero x h = omega arith
 one_digit (suc k) x h = go (ltb x 10) refl
   where
-    go : (c : Bool) → ltb x 10 ≡ c → length (if c then (48 + x) ∷ [] else digits k (x / 10) ++ ((48 + x % 10) ∷ [])) ≤ 1
+    go : (c : Bool) → ltb x 10 ≡ c → length (if c then (48 + x) ∷ [] else (digits k (x / 10) ++ ((48 + x % 10) ∷ []))) ≤ 1
     go true e = omega arith
     go false e = absurd (omega (arith, h, ltb-false x 10 e))
 

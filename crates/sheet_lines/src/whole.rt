@@ -12,7 +12,7 @@ use text::{FAR, found};
 use timetable::Output;
 
 // The place behind the lines, and how many they are.
-#[derive(Drop)]
+#[derive(Clone, Copy)]
 pub struct Whole {
     pub at: usize,
     pub count: u32,
@@ -32,7 +32,7 @@ fn put_lines(out: &mut [u8], at: usize, numbers: &[u16], count: usize) -> usize
 }
 
 // What listing a sheet in a lent array comes to.
-#[derive(Drop)]
+#[derive(Clone, Copy)]
 enum Listed {
     // The lines are put, or there are none to put.
     Lines(Whole),

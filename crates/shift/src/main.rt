@@ -1,36 +1,36 @@
 // The program `shift`. Document 01: "Standard input (one file of at most 16,384 bytes, else 5): network, then edits,
 // from an empty division." One byte more than that is read, so that a longer file is seen to be longer.
-use libc::STDIN_FILENO;
+#![tactic(auto)]
+
 use shift_lines::listing;
+use std::alloc::Global;
+use std::io;
+use std::io::{Read, Write};
 use timetable::Output;
 
-// A buffer that has room for any text, so none is refused. Where nothing was printed, it is tried again so many times.
-// A function that calls itself is not merged into its caller: the buffer's pages are touched only where it is needed.
-fn print_long(input: &[u8], tries: u8) {
-    let mut out = [0u8; listing::MOST];
+// Prints the listing through a buffer of n bytes; answers how many it needs where these are too few.
+fn print_within<W: Write>(
+    writer: &mut W,
+    alloc: Global,
+    input: &[u8],
+    n: usize,
+) -> io::Result<Option<usize>> {
+    let mut out = console::zeros(alloc, n)?;
     let output = listing::write_listing(input, &mut out);
-    let printed = console::print(&out, output);
-    if printed == 0 {
-        if 0 < tries {
-            print_long(input, tries - 1);
-        }
-    }
-}
-
-// Most texts are short: only for a longer one a large buffer is cleared.
-fn print_listing(input: &[u8]) {
-    let mut out = [0u8; listing::SHORT];
-    let output = listing::write_listing(input, &mut out);
-    console::print(&out, output);
+    console::print(writer, &out, output)?;
     match output {
-        Output::Written(_k) => {}
-        Output::Refused(_k) => {}
-        Output::TooShort(_k) => print_long(input, 1),
+        Output::TooShort(needed) => Ok(Some(needed)),
+        Output::Written(_k) => Ok(None),
+        Output::Refused(_k) => Ok(None),
     }
 }
 
-fn main() {
-    let mut input = [0u8; 16385];
-    let n = io::read_full(STDIN_FILENO, &mut input);
-    print_listing(&input[..n]);
+fn main(rt: HostRuntime) -> io::Result<()> {
+    let mut input = Vec::new(rt.alloc());
+    rt.stdin().take(16385).read_to_end(&mut input)?;
+    // Most texts are short: only for a longer one a large buffer is cleared.
+    if let Some(needed) = print_within(&mut rt.stdout(), rt.alloc(), &input, listing::SHORT)? {
+        print_within(&mut rt.stdout(), rt.alloc(), &input, needed)?;
+    }
+    Ok(())
 }

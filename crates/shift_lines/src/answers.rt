@@ -16,7 +16,7 @@ use text::line;
 use timetable::{Answer, FileForm, Tally};
 
 // The place behind the lines, and the tally.
-#[derive(Drop)]
+#[derive(Clone, Copy)]
 pub struct Progress {
     pub at: usize,
     pub tally: Tally,
@@ -48,7 +48,7 @@ fn put_answer(out: &mut [u8], at: usize, i: u32, a: Answer) -> usize
 }
 
 // The tally, and the place of the next edit.
-#[derive(Drop)]
+#[derive(Clone, Copy)]
 struct Counted {
     tally: Tally,
     cursor: Cursor,

@@ -1,4 +1,6 @@
 // A file that holds one edit: the bytes that it has in a list of edits, and nothing behind them.
+#![tactic(auto)]
+
 ghost use Rattle.std.specs.Prelude.{◌≡◌};
 ghost use Rattle.timetable.specs.Formats as formats;
 ghost use Rattle.single_edit.specs.Reading.{read_one};
@@ -11,7 +13,7 @@ use railway::sorts::Train;
 use timetable::FileForm;
 
 // Refusal 0 with the edit and the place behind it; or a refusal's number and place beside an edit of zeros.
-#[derive(Drop)]
+#[derive(Clone, Copy)]
 pub struct OneEdit {
     pub refusal: u8,
     pub place: usize,

@@ -2,7 +2,7 @@
 -- network's file, the other file, then the refusals of the call itself. Assumes nothing.
 use Rattle.std.specs.Prelude.{ℕ, Bool, ◌&&◌, List, eqb, ℤ, length}
 use Rattle.std.proofs.Math.Option.{Option, none, some}
-use Rattle.base.specs.Choice.{if◌then◌else◌}
+use Rattle.std.specs.Prelude.{if◌then◌else◌}
 use Rattle.timetable.specs.NetworkFile.{read_network}
 use Rattle.timetable.specs.Turning.{turn_reply, turn_after}
 use Rattle.timetable.specs.Outputs.{output, output_after}

@@ -1,6 +1,8 @@
 // The calls of document 01 for programs in C, Rust and Python, over numbers and lent bytes: a network, an edit, a list
 // of edits and a timetable are the bytes of their files. `rt staticlib strakewhip` writes them to
 // target/staticlib/libstrakewhip.a under the names that they have here; include/strakewhip.h says what each one does.
+#![tactic(auto)]
+
 mod asking; // a network read; the areas that an edit names
 mod turns; // a network file of an earlier form turned
 mod changes; // an edit, and a list of edits

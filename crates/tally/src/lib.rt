@@ -1,6 +1,8 @@
 // The tally of a shift. Document 01, "Projection and tally": "The shift has one small tally record which each edit
 // raises: accepted, refused, added, removed, the last two counting visits. Raising it is a call of its own on the edit
 // and its answer".
+#![tactic(auto)]
+
 ghost use Rattle.std.specs.Prelude.{◌≡◌};
 ghost use Rattle.timetable.specs.Count.{overfull, unlikely, raise_refusal, raise};
 
@@ -12,7 +14,7 @@ use timetable::{Answer, Tally};
 const MOST: u32 = 1000000;
 
 // How a raise ends: its refusal number or 0, and the tally afterwards.
-#[derive(Drop)]
+#[derive(Clone, Copy)]
 pub struct Raise {
     pub refusal: u8,
     pub tally: Tally,

@@ -12,7 +12,7 @@ use lib.Dec.{leb}
 use lib.ListN.{length, take, drop}
 use lib.Seq.{take-append_seam}
 use borrow.Author.Tests.{leb-true, leb-false}
-use Rattle.base.specs.Choice.{if◌then◌else◌}
+use Rattle.std.specs.Prelude.{if◌then◌else◌}
 use Rattle.timetable.specs.declared.Output.{Output}
 use Rattle.timetable.specs.Outputs.{Puts, Reply, written, needed, refused, reply, output, output_after}
 use Rattle.timetable.proofs.BuffersFilled.{put_whole, too_short, fits_in, refused_so}

@@ -7,7 +7,7 @@ ghost use Rattle.text.specs.between.Lines.{far, of_areas, four_at, findings_text
 use crate::{FAR, words};
 
 // Which list: its letter, and the areas that it is of, 0 for none.
-#[derive(Drop)]
+#[derive(Clone, Copy)]
 pub struct Heading {
     pub letter: u8,
     pub one: u8,

@@ -1,5 +1,7 @@
 // Lines of text, put into a lent buffer from a place on; what is past the buffer's end is dropped. A function that puts
 // a text answers the place behind it.
+#![tactic(auto)]
+
 pub mod draft; // a text of a draft, handed over to a buffer
 pub mod found; // the lines of findings
 pub mod line; // a line of numbers

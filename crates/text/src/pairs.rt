@@ -5,7 +5,7 @@ ghost use Rattle.timetable.specs.Groups.{six};
 
 use railway::sorts::Area;
 
-#[derive(Drop)]
+#[derive(Clone, Copy)]
 pub struct Pair {
     pub first: Area,
     pub second: Area,

@@ -7,7 +7,7 @@ use mathlib.Core.Bool.{Bool, true, false, not, ◌&&◌}
 use mathlib.Core.List.{List, [], ◌∷◌, ◌++◌, map, flat_map}
 use lib.Dec.{T}
 use lib.ListN.{length, length-map}
-use Rattle.base.specs.Choice.{if◌then◌else◌}
+use Rattle.std.specs.Prelude.{if◌then◌else◌}
 use Rattle.base.specs.Lists.{every, each_two, rising}
 use Rattle.base.proofs.Tests.{by_value, true_T, T_true, both}
 use Rattle.network.specs.Networks.{stations_of, listed}

@@ -7,7 +7,8 @@ use mathlib.Core.Path.{◌≡◌, refl, sym, ap, ◌∙◌, fun_ext}
 use mathlib.Core.Bool.{Bool, true, false, not, ◌&&◌}
 use lib.Dec.{T, ltb, leb, eqb, eqb→eq}
 use borrow.Author.Tests.{leb-true, le-ltb}
-use Rattle.base.specs.Choice.{if◌then◌else◌, ◌if◌else◌}
+use Rattle.base.specs.Choice.{◌if◌else◌}
+use Rattle.std.specs.Prelude.{if◌then◌else◌}
 use Rattle.base.specs.Lists.{is, count}
 use Rattle.base.proofs.Tests.{T_true, both, parts}
 use Rattle.railway.specs.Ranges.{last_minute, station_ok, train_ok, minute_ok, same_station}

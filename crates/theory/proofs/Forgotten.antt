@@ -8,7 +8,8 @@ use mathlib.Core.Option
 use mathlib.Core.Option.{some}
 use lib.Dec.{ltb}
 use lib.ListN.{length-map}
-use Rattle.base.specs.Choice.{if◌then◌else◌, ◌if◌else◌}
+use Rattle.base.specs.Choice.{◌if◌else◌}
+use Rattle.std.specs.Prelude.{if◌then◌else◌}
 use Rattle.base.specs.Lists.{keep, first, is}
 use Rattle.railway.specs.Ranges.{same_train}
 use Rattle.timetable.specs.Visits.{lacks_in, lacks_out, comes, leaves, comes_from, leaves_to, first_stands, last_stands, alters}
@@ -33,8 +34,8 @@ enter_early x [] = refl
 enter_early x (e ∷ es) = go (ltb x.train.0 e.train.0) (enter_early x es)
   where
     go : (b : Bool) → map early_entry (enter x es) ≡ Earlier.enter (early_entry x) (map early_entry es)
-        → map early_entry (if b then x ∷ e ∷ es else e ∷ enter x es)
-        ≡ (if b then early_entry x ∷ early_entry e ∷ map early_entry es else early_entry e ∷ Earlier.enter (early_entry x) (map early_entry es))
+        → map early_entry (if b then x ∷ e ∷ es else (e ∷ enter x es))
+        ≡ (if b then early_entry x ∷ early_entry e ∷ map early_entry es else (early_entry e ∷ Earlier.enter (early_entry x) (map early_entry es)))
     go true q = refl
     go false q = ap (λ (l : List Earlier.Entry). early_entry e ∷ l) q
 

@@ -8,7 +8,8 @@ use lib.ListN.{take, drop}
 use mathlib.Core.Option.{Option, none, some}
 use lib.Dec.{T, ltb, eqb}
 use borrow.Author.Tests.{eqb-true}
-use Rattle.base.specs.Choice.{◌if◌else◌, if◌then◌else◌}
+use Rattle.base.specs.Choice.{◌if◌else◌}
+use Rattle.std.specs.Prelude.{if◌then◌else◌}
 use Rattle.base.specs.Lists.{every, first, is}
 use Rattle.base.proofs.Tests.{T_true, every_head, every_tail}
 use Rattle.railway.specs.Ranges.{is_freight, same_line}

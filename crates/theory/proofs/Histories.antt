@@ -11,7 +11,7 @@ use mathlib.Core.Bool.{Bool, true, false, not, ◌&&◌}
 use mathlib.Core.List.{List, [], ◌∷◌, ◌++◌, append-nil, append_assoc}
 use native.Mathlib.Omega.{arith}
 use lib.Dec.{T}
-use Rattle.base.specs.Choice.{if◌then◌else◌}
+use Rattle.std.specs.Prelude.{if◌then◌else◌}
 use Rattle.base.specs.Lists.{any, every, keep}
 use Rattle.base.specs.Runs.{run}
 use Rattle.base.proofs.Tests.{by_value, T_true, true_T, T_false, if_no, and_l, and_r, any_one}

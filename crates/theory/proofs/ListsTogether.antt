@@ -7,7 +7,7 @@ use mathlib.Core.Bool.{Bool, true, false, not, ◌&&◌, ◌||◌}
 use mathlib.Core.List.{List, [], ◌∷◌, ◌++◌}
 use native.Mathlib.Omega.{arith}
 use lib.Dec.{T, eqb, eqb→eq, T_not, not_T}
-use Rattle.base.specs.Choice.{if◌then◌else◌}
+use Rattle.std.specs.Prelude.{if◌then◌else◌}
 use Rattle.base.specs.Lists.{every, keep, count, each_two, same}
 use Rattle.base.proofs.Tests.{T_true, true_T, and_l, and_r, or_l, or_r, or_cases, parts, every_head, every_tail, every_cons, every_weaker, every_both, every_append, every_keep, kept_passes}
 use Rattle.base.proofs.Counts.{count_append, keep_none, keep_every}
@@ -40,7 +40,7 @@ module _ (f : Finding) where
   whole_again [] = refl
   whole_again (g ∷ gs) = go (early g) (whole_again gs)
     where
-      go : (b : Bool) → leading f gs ++ trailing f gs ≡ gs → (if b then g ∷ leading f gs else []) ++ (if b then trailing f gs else g ∷ gs) ≡ g ∷ gs
+      go : (b : Bool) → leading f gs ++ trailing f gs ≡ gs → (if b then g ∷ leading f gs else []) ++ (if b then trailing f gs else (g ∷ gs)) ≡ g ∷ gs
       go true ih = ap (λ l. g ∷ l) ih
       go false ih = refl
 
@@ -62,7 +62,7 @@ module _ (f : Finding) where
   trailing_kept [] o = refl
   trailing_kept (g ∷ gs) o = go (early g) refl (trailing_kept gs (two_tail before g gs o))
     where
-      go : (b : Bool) → early g ≡ b → trailing f gs ≡ keep late gs → (if b then trailing f gs else g ∷ gs) ≡ (if not b then g ∷ keep late gs else keep late gs)
+      go : (b : Bool) → early g ≡ b → trailing f gs ≡ keep late gs → (if b then trailing f gs else (g ∷ gs)) ≡ (if not b then g ∷ keep late gs else keep late gs)
       go true e ih = ih
       go false e ih = rw (keep_every late gs (late_on g gs e (two_head before g gs o)))
 

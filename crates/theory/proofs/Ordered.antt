@@ -10,7 +10,8 @@ use Prim.Native.Nat.{ℕ, zero, suc}
 use native.Mathlib.Omega.{arith}
 use lib.Dec.{T, eqb, ltb, leb, leb→le}
 use borrow.Author.Tests.{lt-ltb}
-use Rattle.base.specs.Choice.{if◌then◌else◌, ◌if◌else◌}
+use Rattle.base.specs.Choice.{◌if◌else◌}
+use Rattle.std.specs.Prelude.{if◌then◌else◌}
 use Rattle.base.specs.Lists.{any, every, count, first, within}
 use Rattle.base.proofs.Tests.{and_l, and_r, eqb_turned}
 use Rattle.railway.specs.Ranges.{same_station, area_ok, station_ok}

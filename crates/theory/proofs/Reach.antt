@@ -6,7 +6,7 @@ use mathlib.Core.Path.{◌≡◌, refl, sym, ◌∙◌, ap}
 use mathlib.Core.Bool.{Bool, true, false, not, ◌&&◌, ◌||◌}
 use mathlib.Core.List.{List, [], ◌∷◌, map}
 use lib.Dec.{T, eqb, ltb, eqb_refl, eqb→eq, not_T}
-use Rattle.base.specs.Choice.{if◌then◌else◌}
+use Rattle.std.specs.Prelude.{if◌then◌else◌}
 use Rattle.base.specs.Lists.{every, keep}
 use Rattle.base.proofs.Tests.{and_l, and_r, or_l, or_r, or_cases, by_test, by_value, if_yes}
 use Rattle.base.proofs.Counts.{keep_two, keep_flatMap, keep_none}

@@ -7,7 +7,7 @@ use mathlib.Core.Bool.{Bool, ◌&&◌}
 use mathlib.Core.List.{List, [], ◌∷◌}
 use Prim.Native.Nat.{ℕ}
 use lib.Dec.{T, eqb, ltb, eqb_refl, eqb→eq}
-use Rattle.base.specs.Choice.{if◌then◌else◌}
+use Rattle.std.specs.Prelude.{if◌then◌else◌}
 use Rattle.base.specs.Runs.{run, answers}
 use Rattle.base.proofs.Tests.{by_test, if_yes, if_no, and_l, and_r, both}
 use Rattle.theory.proofs.Local.{LocalStep}

@@ -7,7 +7,8 @@ use Rattle.std.specs.Prelude.{ℕ, Bool, true, false, not, ◌&&◌, ◌||◌, l
 use mathlib.Core.List.{List, [], ◌∷◌, ◌++◌, map, flat_map}
 use Rattle.std.proofs.Math.Option
 use Rattle.std.proofs.Math.Option.{Option}
-use Rattle.base.specs.Choice.{if◌then◌else◌, ◌if◌else◌}
+use Rattle.base.specs.Choice.{◌if◌else◌}
+use Rattle.std.specs.Prelude.{if◌then◌else◌}
 use Rattle.base.specs.Lists.{any, keep, first, is, count}
 use Rattle.railway.specs.Ranges.{station_ok, train_ok, track_ok, line_ok, minute_ok, run_ok, same_station, same_train, same_track, same_line, same_minute}
 use Rattle.railway.specs.Relations.{same_relation}
@@ -144,7 +145,7 @@ has_visit t tab = is (λ v. true) (visit_of t tab)
 
 unfoldable pub enter : Entry → List Entry → List Entry
 enter e [] = e ∷ []
-enter e (x ∷ xs) = if ltb e.train.0 x.train.0 then e ∷ x ∷ xs else x ∷ enter e xs
+enter e (x ∷ xs) = if ltb e.train.0 x.train.0 then e ∷ x ∷ xs else (x ∷ enter e xs)
 
 unfoldable pub add_visit : Train → Visit → Table → Table
 add_visit t v tab = record { visits = enter (record { train = t; visit = v }) tab.visits; relations = tab.relations }

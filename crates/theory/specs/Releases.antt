@@ -5,7 +5,7 @@
 -- proofs/ReleasesMerge; nothing here is proved. The letters are those of Statements; g is the older room's group, x a
 -- railway of both releases. The file is in the crate demands, which speaks of bytes. Assumes nothing.
 use Rattle.std.specs.Prelude.{ℕ, Bool, true, false, not, ◌&&◌, ◌||◌, List, [], ◌∷◌, map, ◌≡◌, T, eqb}
-use Rattle.base.specs.Choice.{if◌then◌else◌}
+use Rattle.std.specs.Prelude.{if◌then◌else◌}
 use Rattle.base.specs.Lists.{every}
 use Rattle.base.specs.Runs.{run, answers}
 use Rattle.timetable.specs.Tables.{Entry, Table, empty}

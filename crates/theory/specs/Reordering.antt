@@ -3,7 +3,7 @@
 -- told apart by where they stand. Assumes nothing.
 use Rattle.std.specs.Prelude.{Bool, ◌≡◌, ℕ, suc, ◌<◌, ◌≤◌, T, eqb, length, take, drop}
 use mathlib.Core.List.{List, [], ◌∷◌, flat_map}
-use Rattle.base.specs.Choice.{if◌then◌else◌}
+use Rattle.std.specs.Prelude.{if◌then◌else◌}
 use Rattle.base.specs.Lists.{count, keep}
 
 -- how often the position i stands in ps

@@ -9,7 +9,8 @@ use mathlib.Core.List.{List, [], ◌∷◌}
 use native.Mathlib.Omega.{arith}
 use lib.Dec.{T, eqb, eqb_refl, eqb→eq}
 use borrow.Author.Tests.{ne_eqb, eqb-false}
-use Rattle.base.specs.Choice.{if◌then◌else◌, ◌if◌else◌}
+use Rattle.base.specs.Choice.{◌if◌else◌}
+use Rattle.std.specs.Prelude.{if◌then◌else◌}
 use Rattle.base.specs.Lists.{any, count, is}
 use Rattle.base.proofs.Tests.{if_yes, if_no, and_l, and_r, or_l, or_r, or_cases}
 use Rattle.railway.specs.Ranges.{same_station}

@@ -9,7 +9,8 @@ use native.Mathlib.Omega.{arith}
 use lib.Dec.{leb, eqb}
 use lib.ListN.{length}
 use borrow.Author.Tests.{eq-eqb, ne_eqb, eqb-true, eqb-false}
-use Rattle.base.specs.Choice.{if◌then◌else◌, ◌if◌else◌}
+use Rattle.base.specs.Choice.{◌if◌else◌}
+use Rattle.std.specs.Prelude.{if◌then◌else◌}
 use Rattle.timetable.specs.Types.{Fault}
 use Rattle.timetable.specs.Formats.{Outcome, accepted, refused, number, behind, ended, Placed}
 use Rattle.timetable.specs.Refusals.{or_else, early}
@@ -62,7 +63,7 @@ module _ {A B : Type 0} (k : ℕ) (both : A → ℕ → Outcome B) where
   under_value a next = go (eqb k 3) (eqb k 0) (both a next)
     where
       go : (b c : Bool) (o : Outcome B)
-          → number (if b then refused 3 0 else if c then o else refused k 0) ≡ (3 if b else if c then number o else k)
+          → number (if b then refused 3 0 else if c then o else refused k 0) ≡ (3 if b else (if c then number o else k))
       go true c o = refl
       go false true o = refl
       go false false o = refl
@@ -71,7 +72,7 @@ module _ {A B : Type 0} (k : ℕ) (both : A → ℕ → Outcome B) where
   unfolding under early or_else behind number
   under_refused j p d = go (eqb k 3) (eqb j 3) refl
     where
-      go : (b c : Bool) → eqb j 3 ≡ c → number {A = B} (if b then refused 3 0 else refused j p) ≡ (3 if c || b else if eqb j 0 then (if eqb k 0 then 0 else k) else j)
+      go : (b c : Bool) → eqb j 3 ≡ c → number {A = B} (if b then refused 3 0 else refused j p) ≡ (3 if c || b else (if eqb j 0 then (if eqb k 0 then 0 else k) else j))
       go true true e = refl
       go true false e = refl
       go false true e = eqb-true j 3 e

@@ -8,7 +8,8 @@ use mathlib.Core.List.{List, [], ◌∷◌, map}
 use native.Mathlib.Omega.{arith}
 use lib.Dec.{T, eqb, ltb}
 use borrow.Author.Tests.{eqb-true, eqb-false, eq-eqb, ne_eqb, lt-ltb}
-use Rattle.base.specs.Choice.{if◌then◌else◌, ◌if◌else◌}
+use Rattle.base.specs.Choice.{◌if◌else◌}
+use Rattle.std.specs.Prelude.{if◌then◌else◌}
 use Rattle.base.specs.Lists.{every, keep, count, sum, pairs}
 use Rattle.base.proofs.Tests.{and_l, and_r, by_value}
 use Rattle.base.proofs.Counts.{count_same, met_once}

@@ -12,7 +12,8 @@ use native.Mathlib.Omega.{arith}
 use lib.Dec.{T, ltb, leb, eqb, ltb→lt, lt→ltb, leb→le, le→leb, eqb→eq, not_T}
 use lib.ListN.{length, length-map}
 use borrow.Author.Tests.{ltb-false, leb-false, eqb-true, eqb-false, lt-ltb, eq-eqb}
-use Rattle.base.specs.Choice.{if◌then◌else◌, ◌if◌else◌}
+use Rattle.base.specs.Choice.{◌if◌else◌}
+use Rattle.std.specs.Prelude.{if◌then◌else◌}
 use Rattle.base.specs.Lists.{any, every, keep, first, is, each_two, rising}
 use Rattle.base.proofs.Tests.{true_T, not_T_false, both, or_l, or_r, or_cases, parts}
 use Rattle.base.proofs.Tests.{every_head, every_tail, every_cons, every_weaker, every_keep, every_mapped}
@@ -60,7 +61,7 @@ unfolding enter
 enter_length e [] = refl
 enter_length e (x ∷ xs) = go (smaller number e x) (enter_length e xs)
   where
-    go : (b : Bool) → length (enter e xs) ≡ suc (length xs) → length (if b then e ∷ x ∷ xs else x ∷ enter e xs) ≡ suc (suc (length xs))
+    go : (b : Bool) → length (enter e xs) ≡ suc (length xs) → length (if b then e ∷ x ∷ xs else (x ∷ enter e xs)) ≡ suc (suc (length xs))
     go true p = refl
     go false p = ap suc p
 
@@ -69,7 +70,7 @@ unfolding enter
 enter_every f e [] t u = every_cons f e [] t u
 enter_every f e (x ∷ xs) t u = go (smaller number e x) (enter_every f e xs t (every_tail f x xs u))
   where
-    go : (b : Bool) → T (every f (enter e xs)) → T (every f (if b then e ∷ x ∷ xs else x ∷ enter e xs))
+    go : (b : Bool) → T (every f (enter e xs)) → T (every f (if b then e ∷ x ∷ xs else (x ∷ enter e xs)))
     go true ih = every_cons f e (x ∷ xs) t u
     go false ih = every_cons f x (enter e xs) (every_head f x xs u) ih
 
@@ -82,7 +83,7 @@ enter_order e (x ∷ xs) l o = go (smaller number e x) refl (enter_order e xs (e
     other : Entry → Bool
     other y = not (same_train y.train e.train)
 
-    go : (b : Bool) → smaller number e x ≡ b → T (each_two (smaller number) (enter e xs)) → T (each_two (smaller number) (if b then e ∷ x ∷ xs else x ∷ enter e xs))
+    go : (b : Bool) → smaller number e x ≡ b → T (each_two (smaller number) (enter e xs)) → T (each_two (smaller number) (if b then e ∷ x ∷ xs else (x ∷ enter e xs)))
     go true p ih = two_step (smaller number) (smaller_across number) e x xs (true_T (smaller number e x) p) o
     go false p ih =
         let differ : same_train x.train e.train ≡ false = not_T_false (same_train x.train e.train) (every_head other x xs l) in
@@ -143,7 +144,7 @@ unfolding insert
 insert_length r [] = omega arith
 insert_length r (x ∷ xs) = go (precedes r x) (same_relation r x) (insert_length r xs)
   where
-    go : (b c : Bool) → length (insert r xs) ≤ suc (length xs) → length (if b then r ∷ x ∷ xs else if c then x ∷ xs else x ∷ insert r xs) ≤ suc (suc (length xs))
+    go : (b c : Bool) → length (insert r xs) ≤ suc (length xs) → length (if b then r ∷ x ∷ xs else if c then x ∷ xs else (x ∷ insert r xs)) ≤ suc (suc (length xs))
     go true c ih = omega arith
     go false true ih = omega arith
     go false false ih = omega arith
@@ -153,7 +154,7 @@ unfolding insert
 insert_every f r [] t u = every_cons f r [] t u
 insert_every f r (x ∷ xs) t u = go (precedes r x) (same_relation r x) (insert_every f r xs t (every_tail f x xs u))
   where
-    go : (b c : Bool) → T (every f (insert r xs)) → T (every f (if b then r ∷ x ∷ xs else if c then x ∷ xs else x ∷ insert r xs))
+    go : (b c : Bool) → T (every f (insert r xs)) → T (every f (if b then r ∷ x ∷ xs else if c then x ∷ xs else (x ∷ insert r xs)))
     go true c ih = every_cons f r (x ∷ xs) t u
     go false true ih = u
     go false false ih = every_cons f x (insert r xs) (every_head f x xs u) ih
@@ -164,7 +165,7 @@ insert_order r [] o = tt
 insert_order r (x ∷ xs) o = go (precedes r x) refl (same_relation r x) refl (insert_order r xs (two_tail precedes x xs o))
   where
     go : (b : Bool) → precedes r x ≡ b → (c : Bool) → same_relation r x ≡ c → T (each_two precedes (insert r xs))
-        → T (each_two precedes (if b then r ∷ x ∷ xs else if c then x ∷ xs else x ∷ insert r xs))
+        → T (each_two precedes (if b then r ∷ x ∷ xs else if c then x ∷ xs else (x ∷ insert r xs)))
     go true p c q ih = two_step precedes precedes_across r x xs (true_T (precedes r x) p) o
     go false p true q ih = o
     go false p false q ih =

@@ -3,7 +3,7 @@ use Rattle.std.specs.Prelude.{ℕ, zero, suc, ◌+◌, ◌-◌, Bool, false, ◌
 use Rattle.std.specs.Bool.{beq}
 use mathlib.Core.List.{List, [], ◌∷◌, ◌++◌, flat_map}
 use Rattle.std.proofs.Math.Option.{Option, none, some}
-use Rattle.base.specs.Choice.{if◌then◌else◌}
+use Rattle.std.specs.Prelude.{if◌then◌else◌}
 use Rattle.base.specs.Lists as Lists
 use Rattle.base.specs.Lists.{any, keep, same}
 use Rattle.base.specs.Runs as Runs
@@ -384,7 +384,7 @@ passes (printed es ls) = same (flat_map (λ l. l) (listing net es)) (flat_map (�
 -- the cases that fail, by their place from 1
 unfoldable pub failing : ℕ → List Case → List ℕ
 failing k [] = []
-failing k (c ∷ cs) = if passes c then failing (suc k) cs else k ∷ failing (suc k) cs
+failing k (c ∷ cs) = if passes c then failing (suc k) cs else (k ∷ failing (suc k) cs)
 
 -- The key ring of this module and of all that it computes with.
 unfoldable pub opened : Unit {0}

@@ -1,7 +1,8 @@
 -- The tally, and counts over a whole timetable. Document 01, "Projection and tally" and "A run of the program `shift`".
 -- Assumes nothing.
 use Rattle.std.specs.Prelude.{ℕ, ◌+◌, Bool, true, false, not, ◌&&◌, ◌||◌, List, [], ◌∷◌, ltb, eqb, length}
-use Rattle.base.specs.Choice.{if◌then◌else◌, ◌if◌else◌}
+use Rattle.base.specs.Choice.{◌if◌else◌}
+use Rattle.std.specs.Prelude.{if◌then◌else◌}
 use Rattle.base.specs.Lists.{sum}
 use Rattle.network.specs.Networks.{stations_of}
 use Rattle.timetable.specs.Types.{Edit, Network, Answer, Tally}

@@ -4,7 +4,8 @@
 -- minute .. as a last field"; an edit is read and written in a form. Assumes nothing.
 use Rattle.std.specs.Prelude.{ℕ, zero, suc, ◌+◌, Bool, false, not, ◌&&◌, ◌||◌, leb, eqb, length, get_or}
 use mathlib.Core.List.{List, [], ◌∷◌, ◌++◌, map, flat_map}
-use Rattle.base.specs.Choice.{if◌then◌else◌, ◌if◌else◌}
+use Rattle.base.specs.Choice.{◌if◌else◌}
+use Rattle.std.specs.Prelude.{if◌then◌else◌}
 use Rattle.railway.specs.Ranges.{last_minute}
 use Rattle.railway.specs.Relations.{used}
 use Rattle.timetable.specs.Types.{Trains, Pair, Relation, Connection, Disconnection, Dependency, Network, FileForm}

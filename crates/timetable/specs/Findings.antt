@@ -2,7 +2,7 @@
 -- "Findings". Assumes nothing.
 use Rattle.std.specs.Prelude.{ℕ, suc, ◌+◌, Bool, not, ◌&&◌, ◌||◌, eqb, leb}
 use mathlib.Core.List.{List, [], ◌∷◌, ◌++◌, map, flat_map}
-use Rattle.base.specs.Choice.{if◌then◌else◌}
+use Rattle.std.specs.Prelude.{if◌then◌else◌}
 use Rattle.base.specs.Lists.{keep}
 use Rattle.network.specs.Networks.{stations_of}
 use Rattle.timetable.specs.Types.{Station, Inward, Outward, Visit, Relation, Network, Finding}

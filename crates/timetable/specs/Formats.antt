@@ -3,7 +3,7 @@
 -- finds "the first faulty number by place". Assumes nothing.
 use Rattle.std.specs.Prelude.{ℕ, zero, suc, ◌+◌, max, leb, eqb, length, drop}
 use mathlib.Core.List.{List, [], ◌∷◌, flat_map}
-use Rattle.base.specs.Choice.{if◌then◌else◌}
+use Rattle.std.specs.Prelude.{if◌then◌else◌}
 use Rattle.base.specs.Lists.{within}
 use Rattle.numbers.specs.Numbers.{NumberRead, Value, Refused, read_number, write_number}
 

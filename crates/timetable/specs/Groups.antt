@@ -1,7 +1,7 @@
 -- Which stations and groups an edit names, and timetables divided by groups of stations: document 01, "Sheets and
 -- division", for any grouping. Areas are one use of it: the grouping `area_of n`. Assumes nothing.
 use Rattle.std.specs.Prelude.{ℕ, Bool, ◌&&◌, ◌||◌, List, [], ◌∷◌, ltb, eqb}
-use Rattle.base.specs.Choice.{if◌then◌else◌}
+use Rattle.std.specs.Prelude.{if◌then◌else◌}
 use Rattle.base.specs.Lists.{any}
 use Rattle.railway.specs.Ranges.{same_station}
 use Rattle.network.specs.Networks.{stations_of, listed, area_of}

@@ -2,7 +2,8 @@
 -- machine" and "Who brings on which number". An edit sees the tables of its two stations alone, `here` (of s) and
 -- `there` (of p); edit 11 sees all. So what is local is local by construction. Assumes nothing.
 use Rattle.std.specs.Prelude.{ℕ, Bool, true, not, ◌&&◌, eqb}
-use Rattle.base.specs.Choice.{if◌then◌else◌, ◌if◌else◌}
+use Rattle.base.specs.Choice.{◌if◌else◌}
+use Rattle.std.specs.Prelude.{if◌then◌else◌}
 use Rattle.base.specs.Lists.{is, count}
 use Rattle.railway.specs.Ranges.{same_station}
 use Rattle.railway.specs.Edits.{edit_ok}

@@ -6,7 +6,7 @@
 use Rattle.std.specs.Prelude.{ℕ, ◌+◌, ◌-◌, not, eqb, length, get_or, replicate}
 use mathlib.Core.List.{List, [], ◌∷◌, ◌++◌, map, flat_map}
 use Rattle.std.proofs.Math.Option.{Option, none, some}
-use Rattle.base.specs.Choice.{if◌then◌else◌}
+use Rattle.std.specs.Prelude.{if◌then◌else◌}
 use Rattle.base.specs.Lists.{first}
 use Rattle.railway.specs.Ranges.{last_minute, last_end}
 use Rattle.network.specs.Networks.{blank_station, blank_line, blank_closure, station_rows, line_rows, closure_rows, ends_after, ends_listed, line_listed}

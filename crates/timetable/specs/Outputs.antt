@@ -3,7 +3,7 @@
 -- lent bytes untouched". Assumes nothing.
 use Rattle.std.specs.Prelude.{ℕ, ◌+◌, ◌≤◌, ◌≡◌, ◌&&◌, List, [], ◌∷◌, ◌++◌, leb, eqb, length, drop, set}
 use Rattle.std.proofs.Math.Option.{Option, none, some}
-use Rattle.base.specs.Choice.{if◌then◌else◌}
+use Rattle.std.specs.Prelude.{if◌then◌else◌}
 use Rattle.timetable.specs.Types.{Output}
 
 -- an answer as document 01 gives it: "a refusal number or 0", and what comes along: the place of a file's refusal, how

@@ -2,7 +2,7 @@
 -- enough to redo the findings at the stations that the edit names, and rules 7 to 10 at stations joined to those by a
 -- line." Which stations an edit names stands in Groups (`names`). Assumes nothing.
 use Rattle.std.specs.Prelude.{ℕ, ◌%◌, Bool, true, false, not, ◌&&◌, ◌||◌, List, [], ◌∷◌, ◌++◌, eqb, length}
-use Rattle.base.specs.Choice.{if◌then◌else◌}
+use Rattle.std.specs.Prelude.{if◌then◌else◌}
 use Rattle.base.specs.Lists.{any, keep, each_two, below}
 use Rattle.railway.specs.Ranges.{same_station}
 use Rattle.network.specs.Networks.{line_rows, stations_of}
@@ -45,7 +45,7 @@ leading f (g ∷ gs) = if before g f then g ∷ leading f gs else []
 
 unfoldable pub trailing : Finding → List Finding → List Finding
 trailing f [] = []
-trailing f (g ∷ gs) = if before g f then trailing f gs else g ∷ gs
+trailing f (g ∷ gs) = if before g f then trailing f gs else (g ∷ gs)
 
 -- two lists as one, rising where both rise: each of the first list behind those of the second that are before it
 unfoldable pub together : List Finding → List Finding → List Finding

@@ -2,7 +2,8 @@
 -- straight after 3 (of numbers so placed the higher first)". A number that stands between 3 and 4 is the call's own
 -- (15) or, behind those, the network's (14); 4 is the network's. Assumes nothing.
 use Rattle.std.specs.Prelude.{ℕ, Bool, not, ◌||◌, eqb}
-use Rattle.base.specs.Choice.{if◌then◌else◌, ◌if◌else◌}
+use Rattle.base.specs.Choice.{◌if◌else◌}
+use Rattle.std.specs.Prelude.{if◌then◌else◌}
 
 -- the one, or what comes behind it
 unfoldable pub or_else : ℕ → ℕ → ℕ

@@ -2,7 +2,7 @@
 -- are the trains, v and w their visits; `here` is the table of s, `there` that of the far station. Assumes nothing.
 use Rattle.std.specs.Prelude.{ℕ, ◌+◌, min, max, Bool, true, not, ◌&&◌, ◌||◌, List, map, ltb, leb, eqb, length}
 use Rattle.std.proofs.Math.Option.{none, some}
-use Rattle.base.specs.Choice.{if◌then◌else◌}
+use Rattle.std.specs.Prelude.{if◌then◌else◌}
 use Rattle.base.specs.Lists.{any, every, keep, is, each_two}
 use Rattle.railway.specs.Ranges.{same_station, same_train, same_track, same_line}
 use Rattle.railway.specs.Relations.{used}

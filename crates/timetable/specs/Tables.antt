@@ -4,7 +4,7 @@
 use Rattle.std.specs.Prelude.{Bool, true, not, ◌||◌, List, [], ◌∷◌, map, ltb, leb, length, get_or}
 use Rattle.std.proofs.Math.Option
 use Rattle.std.proofs.Math.Option.{Option, none, some}
-use Rattle.base.specs.Choice.{if◌then◌else◌}
+use Rattle.std.specs.Prelude.{if◌then◌else◌}
 use Rattle.base.specs.Lists.{any, keep, first, is}
 use Rattle.railway.specs.Ranges.{same_train}
 use Rattle.railway.specs.Relations.{used, precedes, same_relation}
@@ -34,7 +34,7 @@ has_visit t tab = is (λ v. true) (visit_of t tab)
 -- the entry put in its place
 unfoldable pub enter : Entry → List Entry → List Entry
 enter e [] = e ∷ []
-enter e (x ∷ xs) = if ltb e.train.0 x.train.0 then e ∷ x ∷ xs else x ∷ enter e xs
+enter e (x ∷ xs) = if ltb e.train.0 x.train.0 then e ∷ x ∷ xs else (x ∷ enter e xs)
 
 unfoldable pub add_visit : Train → Visit → Table → Table
 add_visit t v tab = record { visits = enter (record { train = t; visit = v }) tab.visits; relations = tab.relations }
@@ -57,7 +57,7 @@ insert r [] = r ∷ []
 insert r (x ∷ xs) =
     if precedes r x then r ∷ x ∷ xs
     else if same_relation r x then x ∷ xs
-    else x ∷ insert r xs
+    else (x ∷ insert r xs)
 
 unfoldable pub add_relation : Relation → Table → Table
 add_relation r tab = record { visits = tab.visits; relations = insert r tab.relations }

@@ -4,7 +4,8 @@
 -- .. in the timetable file"; a file is read in a form that is named. Assumes nothing.
 use Rattle.std.specs.Prelude.{ℕ, Bool, not, ◌&&◌, eqb, length, get_or}
 use mathlib.Core.List.{List, [], ◌∷◌, ◌++◌, map, flat_map}
-use Rattle.base.specs.Choice.{if◌then◌else◌, ◌if◌else◌}
+use Rattle.base.specs.Choice.{◌if◌else◌}
+use Rattle.std.specs.Prelude.{if◌then◌else◌}
 use Rattle.railway.specs.Ranges.{last_minute}
 use Rattle.network.specs.Networks.{stations_of, listed, track_known, network_refusal}
 use Rattle.timetable.specs.Types.{Station, Train, InLink, OutLink, Visit, StationRelation, Network, FileForm}

@@ -1,16 +1,18 @@
 // What document 01 says of a timetable, as definitions that compute (specs/), with its examples as one computed table.
 // This file has the values that the calls answer with.
+#![tactic(auto)]
+
 use railway::sorts::Station;
 
 // "An answer is a refusal number or 0, and the count of visits removed."
-#[derive(Drop)]
+#[derive(Clone, Copy)]
 pub struct Answer {
     pub refusal: u8,
     pub removed: u8,
 }
 
 // "Each is four numbers: station, rule, first, second (0 if unused)"
-#[derive(Drop)]
+#[derive(Clone, Copy)]
 pub struct Finding {
     pub station: Station,
     pub rule: u8,
@@ -19,7 +21,7 @@ pub struct Finding {
 }
 
 // "Each visit's row is station, expected arrival, expected departure and lateness"
-#[derive(Drop)]
+#[derive(Clone, Copy)]
 pub struct Row {
     pub station: Station,
     pub arrival: u32,
@@ -28,7 +30,7 @@ pub struct Row {
 }
 
 // "one small tally record which each edit raises: accepted, refused, added, removed"
-#[derive(Drop)]
+#[derive(Clone, Copy)]
 pub struct Tally {
     pub accepted: u32,
     pub refused: u32,
@@ -37,7 +39,7 @@ pub struct Tally {
 }
 
 // What a call that fills a lent buffer answers.
-#[derive(Drop)]
+#[derive(Clone, Copy)]
 pub enum Output {
     // How many numbers it wrote, from the buffer's start.
     Written(usize),
@@ -47,7 +49,7 @@ pub enum Output {
 }
 
 // The forms of a network file, by what a line's row has; a later one is one more case.
-#[derive(Drop)]
+#[derive(Clone, Copy)]
 pub enum NetworkForm {
     // W1's: one least running time.
     OneTime,
@@ -56,7 +58,7 @@ pub enum NetworkForm {
 }
 
 // The forms of timetable files and edits files; a later one is one more case.
-#[derive(Drop)]
+#[derive(Clone, Copy)]
 pub enum FileForm {
     // Document 01's: a visit has no stop mark, a report no minute.
     Earlier,
@@ -66,7 +68,7 @@ pub enum FileForm {
 
 // What only the whole of a file shows, by document 01's number and the place of its entry's first byte; number 0 where
 // there is none.
-#[derive(Drop)]
+#[derive(Clone, Copy)]
 pub struct Fault {
     pub number: u8,
     pub place: usize,

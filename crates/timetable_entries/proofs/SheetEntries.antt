@@ -8,7 +8,8 @@ use native.Mathlib.Omega.{arith}
 use lib.Dec.{T, ltb, leb, eqb, leb→le}
 use lib.ListN.{length, replicate-append-replicate}
 use borrow.Author.Tests.{lt-ltb, eqb-true, eqb-false, ne_eqb, leb-false}
-use Rattle.base.specs.Choice.{if◌then◌else◌, ◌if◌else◌}
+use Rattle.base.specs.Choice.{◌if◌else◌}
+use Rattle.std.specs.Prelude.{if◌then◌else◌}
 use Rattle.base.specs.Lists.{any, every, each_two, same}
 use Rattle.base.proofs.Tests.{by_value, T_false, true_T, parts, both, every_head, every_tail}
 use Rattle.base.proofs.Sorted.{two_head, two_tail, same_equal, below_itself}
@@ -144,7 +145,7 @@ insert_there q [] o e = absurd (false≢true e)
 insert_there q (x ∷ xs) o e = go (precedes q x) refl (same_relation q x) refl e (insert_there q xs (two_tail precedes x xs o))
   where
     go : (b : Bool) → precedes q x ≡ b → (d : Bool) → same_relation q x ≡ d → (d || any (same_relation q) xs) ≡ true
-        → (any (same_relation q) xs ≡ true → insert q xs ≡ xs) → (if b then q ∷ x ∷ xs else (if d then x ∷ xs else x ∷ insert q xs)) ≡ x ∷ xs
+        → (any (same_relation q) xs ≡ true → insert q xs ≡ xs) → (if b then q ∷ x ∷ xs else (if d then x ∷ xs else (x ∷ insert q xs))) ≡ x ∷ xs
     go true p d s u ih =
         let t = true_T (precedes q x) p in
         let a : d ≡ false = sym s ∙ before_other q x t in

@@ -18,7 +18,7 @@ use visit_files::visit;
 use visit_files::visit::VisitRead;
 
 // The place behind the entries and the first refused one, or a refusal's number and place.
-#[derive(Drop)]
+#[derive(Clone, Copy)]
 pub struct EntriesRead {
     pub accepted: bool,
     pub refusal: u8,

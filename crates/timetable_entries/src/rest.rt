@@ -14,7 +14,7 @@ use records::bytes;
 use timetable::{Fault, FileForm};
 
 // The place behind the file's last number, or document 01's number and its place.
-#[derive(Drop)]
+#[derive(Clone, Copy)]
 pub enum TimetableRead {
     Read(usize),
     Refused(u8, usize),

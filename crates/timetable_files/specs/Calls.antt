@@ -2,7 +2,7 @@
 -- which number": "Each leaves all lent bytes untouched"; "A file refusal carries the faulty number's first byte .. (..
 -- 5, or a network not read from a file: 0)". Assumes nothing.
 use Rattle.std.specs.Prelude.{ℕ, List, eqb, length}
-use Rattle.base.specs.Choice.{if◌then◌else◌}
+use Rattle.std.specs.Prelude.{if◌then◌else◌}
 use Rattle.timetable.specs.declared.FileForm.{FileForm}
 use Rattle.timetable.specs.Formats.{Outcome, refused}
 use Rattle.timetable.specs.Machine.{Timetable}

@@ -2,7 +2,7 @@
 -- brings on which number": "Each leaves all lent bytes untouched"; "A file refusal carries the faulty number's first
 -- byte .. (.. 5 ..: 0)". Assumes nothing.
 use Rattle.std.specs.Prelude.{ℕ, List, eqb, length}
-use Rattle.base.specs.Choice.{if◌then◌else◌}
+use Rattle.std.specs.Prelude.{if◌then◌else◌}
 use Rattle.timetable.specs.Formats.{Outcome, accepted, refused, number, place_of, value_or}
 use Rattle.timetable.specs.Machine.{nothing_placed}
 use Rattle.timetable.specs.InspectFile.{Inspection, read_inspect}

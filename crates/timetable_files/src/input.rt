@@ -11,7 +11,7 @@ use timetable_entries::rest::TimetableRead;
 
 // Refusal 0 with the place behind the file, the network and the place of the timetable's first byte; or a refusal's
 // number and place beside a blank network.
-#[derive(Drop)]
+#[derive(Clone, Copy)]
 pub struct InspectRead {
     pub refusal: u8,
     pub place: usize,

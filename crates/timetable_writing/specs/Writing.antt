@@ -1,7 +1,7 @@
 -- The call that writes a timetable: what it answers, and the buffer afterwards. "Order: 5, 3, 4, .. 6, .. 13"; the
 -- bytes are those of the numbers of timetable TimetableFile. And how much a sheet holds. Assumes nothing.
 use Rattle.std.specs.Prelude.{ℕ, List, eqb, length}
-use Rattle.base.specs.Choice.{if◌then◌else◌}
+use Rattle.std.specs.Prelude.{if◌then◌else◌}
 use Rattle.timetable.specs.Count.{visit_count, relation_count}
 use Rattle.timetable.specs.Formats.{bytes_of}
 use Rattle.timetable.specs.TimetableFile.{timetable_numbers}

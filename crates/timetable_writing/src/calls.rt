@@ -27,7 +27,7 @@ use timetable::Output;
 use visit_files::row::visit_numbers;
 
 // How many visits and relations a sheet holds, and refusal 0; or refusal 5 beside zeros.
-#[derive(Drop)]
+#[derive(Clone, Copy)]
 pub struct Totals {
     pub refusal: u8,
     pub visits: usize,

@@ -6,7 +6,7 @@ use mathlib.Core.Bool.{Bool, true, false}
 use mathlib.Core.List.{List}
 use lib.Dec.{leb}
 use lib.ListN.{length}
-use Rattle.base.specs.Choice.{if◌then◌else◌}
+use Rattle.std.specs.Prelude.{if◌then◌else◌}
 use Rattle.network.specs.declared.Network.{Network}
 use Rattle.network.specs.Networks.{network_refusal}
 use Rattle.timetable.specs.declared.NetworkForm.{NetworkForm}

@@ -1,4 +1,6 @@
 // Network files of an earlier form, turned into the newest.
+#![tactic(auto)]
+
 ghost use Rattle.std.specs.Prelude.{◌≡◌};
 ghost use Rattle.timetable.specs.Turning.{turn_reply, turn_after};
 ghost use Rattle.turning.specs.Answers.{reply};
@@ -7,7 +9,7 @@ use network_files::reading::read_network_as;
 use network_writing::writing::write_network;
 use timetable::{NetworkForm, Output};
 
-#[derive(Drop)]
+#[derive(Clone, Copy)]
 pub enum Turned {
     // How many bytes it wrote, from the buffer's start.
     Written(usize),

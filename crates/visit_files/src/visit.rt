@@ -14,20 +14,20 @@ use railway::sorts::{Line, Station, Track, Train};
 use railway::visit::{InLink, Inward, OutLink, Outward, Visit};
 use timetable::FileForm;
 
-#[derive(Drop)]
+#[derive(Clone, Copy)]
 pub enum InRead {
     Link(InLink, usize),
     Refused(u8, usize),
 }
 
-#[derive(Drop)]
+#[derive(Clone, Copy)]
 pub enum OutRead {
     Link(OutLink, usize),
     Refused(u8, usize),
 }
 
 // The station, the train, the visit and the place behind them, or a refusal's number and place.
-#[derive(Drop)]
+#[derive(Clone, Copy)]
 pub enum VisitRead {
     Entry(Station, Train, Visit, usize),
     Refused(u8, usize),

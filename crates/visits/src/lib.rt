@@ -1,5 +1,7 @@
 // Visits by value: their links, whether they stop, and visits with another link or time, as the definitions of
 // timetable/specs/Visits.antt say.
+#![tactic(auto)]
+
 ghost use Rattle.std.specs.Prelude.{◌≡◌};
 ghost use Rattle.timetable.specs.Visits.{lacks_in, lacks_out, comes_from, leaves_to, stops_anyway, stops, with_in, with_out, planned, amended, arrived_at, departed_at};
 ghost use Rattle.visits.specs.between.Kept.{keeps_arrival, alters_departure};
@@ -227,7 +229,7 @@ pub fn depart(time: Minute, v: Visit) -> Visit
 }
 
 // One change of a visit that stands, by edits 2 to 8.
-#[derive(Drop)]
+#[derive(Clone, Copy)]
 pub enum Change {
     In(InLink),
     Out(OutLink),

@@ -1,7 +1,7 @@
 -- What the functions put of an area and of two areas: the lines of their findings, and none where the sheet's list of
 -- findings is refused, there is no such area, or the two do not differ. Assumes nothing.
 use Rattle.std.specs.Prelude.{ℕ, ◌&&◌, List, [], eqb}
-use Rattle.base.specs.Choice.{if◌then◌else◌}
+use Rattle.std.specs.Prelude.{if◌then◌else◌}
 use Rattle.railway.specs.Ranges.{area_ok}
 use Rattle.sheet.specs.Sheets.{decode_sheet}
 use Rattle.findings.specs.Lists.{sheet_list_refusal, two_areas}

@@ -3,7 +3,8 @@
 -- redone is what the lists have there. `here` is the table of s, m the timetable that the sheet holds. Assumes nothing.
 use Rattle.std.specs.Prelude.{ℕ, zero, suc, ◌+◌, ◌*◌, ◌-◌, ◌/◌, Bool, not, ◌||◌, eqb}
 use mathlib.Core.List.{List, [], ◌∷◌, ◌++◌, flat_map}
-use Rattle.base.specs.Choice.{if◌then◌else◌, ◌if◌else◌}
+use Rattle.base.specs.Choice.{◌if◌else◌}
+use Rattle.std.specs.Prelude.{if◌then◌else◌}
 use Rattle.network.specs.Networks.{stations_of}
 use Rattle.timetable.specs.Visits.{outs}
 use Rattle.timetable.specs.Tables.{Entry, Table}

@@ -2,7 +2,7 @@
 -- do. On the areas of a network they are `divided` and `merged` (proofs/CopyLaws.antt). Assumes nothing.
 use Rattle.std.specs.Prelude.{ℕ, ◌+◌, ◌-◌, Bool, ltb, leb, eqb, get_or}
 use mathlib.Core.List.{List, map, flat_map}
-use Rattle.base.specs.Choice.{if◌then◌else◌}
+use Rattle.std.specs.Prelude.{if◌then◌else◌}
 use Rattle.base.specs.Lists.{every}
 use Rattle.network.specs.Networks.{area_of}
 use Rattle.timetable.specs.Groups.{six}

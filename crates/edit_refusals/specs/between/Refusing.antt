@@ -1,7 +1,8 @@
 -- What an edit is refused with by the pages of its two stations, whatever their bytes. On good pages it is the refusal
 -- of the central machine (machine/proofs/PageSteps.antt). Assumes nothing.
 use Rattle.std.specs.Prelude.{ℕ, Bool, not, ◌&&◌, List}
-use Rattle.base.specs.Choice.{if◌then◌else◌, ◌if◌else◌}
+use Rattle.base.specs.Choice.{◌if◌else◌}
+use Rattle.std.specs.Prelude.{if◌then◌else◌}
 use Rattle.base.specs.Lists.{is}
 use Rattle.timetable.specs.Visits.{lacks_in, lacks_out, first_stands, last_stands}
 use Rattle.timetable.specs.Tables.{visit_of, has_visit}

@@ -1,6 +1,6 @@
 -- Numbers put into a buffer as bytes, from a place on. Assumes nothing.
 use Rattle.std.specs.Prelude.{ℕ, ◌+◌, ◌≤◌, ◌≡◌, List, leb, length}
-use Rattle.base.specs.Choice.{if◌then◌else◌}
+use Rattle.std.specs.Prelude.{if◌then◌else◌}
 use Rattle.timetable.specs.Formats.{bytes_of}
 use Rattle.timetable.specs.Outputs.{put}
 

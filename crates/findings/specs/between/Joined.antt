@@ -2,7 +2,7 @@
 -- holds what the two hold together (proofs/JointLaws.antt). Assumes nothing.
 use Rattle.std.specs.Prelude.{ℕ, eqb}
 use mathlib.Core.List.{List, flat_map}
-use Rattle.base.specs.Choice.{if◌then◌else◌}
+use Rattle.std.specs.Prelude.{if◌then◌else◌}
 use Rattle.network.specs.Networks.{area_of}
 use Rattle.records.specs.Bytes.{zeros}
 use Rattle.sheet.specs.Sheets.{sixteen, page_at}

@@ -2,7 +2,7 @@
 -- which numbers are small. Assumes nothing.
 use Rattle.std.specs.Prelude.{ℕ, Bool, List, [], eqb, leb, ℤ}
 use Rattle.std.specs.Int.Signed.{mag}
-use Rattle.base.specs.Choice.{if◌then◌else◌}
+use Rattle.std.specs.Prelude.{if◌then◌else◌}
 use Rattle.sheet.specs.Sheets.{decode_sheet}
 use Rattle.findings.specs.Lists.{sheet_list_refusal}
 use Rattle.listings.specs.Inspect.{journeys_text}

@@ -1,7 +1,8 @@
 -- Which sheets of a division are to be good, as the code tests them: of the areas of the stations that an edit names.
 -- Assumes nothing.
 use Rattle.std.specs.Prelude.{ℕ, Bool, true, false, not, ◌&&◌, ◌||◌, List, eqb, length}
-use Rattle.base.specs.Choice.{if◌then◌else◌, ◌if◌else◌}
+use Rattle.base.specs.Choice.{◌if◌else◌}
+use Rattle.std.specs.Prelude.{if◌then◌else◌}
 use Rattle.base.specs.Lists.{any, every}
 use Rattle.network.specs.Networks.{area_found, area_of, station_row, stations_of, network_refusal}
 use Rattle.timetable.specs.Groups.{six}

@@ -1,6 +1,6 @@
 -- The first fault of some entries, found entry by entry. Assumes nothing.
 use Rattle.std.specs.Prelude.{ℕ, Bool, eqb}
-use Rattle.base.specs.Choice.{if◌then◌else◌}
+use Rattle.std.specs.Prelude.{if◌then◌else◌}
 use Rattle.timetable.specs.declared.Fault.{Fault}
 
 abbrev pub fault_free : Fault

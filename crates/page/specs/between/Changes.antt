@@ -4,7 +4,7 @@
 -- table they do what the functions on tables do (proofs/ChangeLaws.antt). Assumes nothing.
 use Rattle.std.specs.Prelude.{ℕ, suc, ◌+◌, ◌*◌, ◌-◌, min, Bool, ◌&&◌, List, [], ◌∷◌, ◌++◌, ltb, leb, eqb, length, get_or, set, take, drop}
 use Rattle.std.proofs.Math.Option.{Option, none, some}
-use Rattle.base.specs.Choice.{if◌then◌else◌}
+use Rattle.std.specs.Prelude.{if◌then◌else◌}
 use Rattle.railway.specs.Relations.{precedes, same_relation}
 use Rattle.timetable.specs.Tables.{Table, empty, lose_all}
 use Rattle.records.specs.Bytes.{word, splice, closed}
@@ -119,7 +119,7 @@ slotted q n b =
     else put_in n (index_of (λ r. precedes q (decode_relation r)) (records_of n b)) (encode_relation q) b
 
 unfoldable pub slotted_count : Relation → ℕ → List ℕ → ℕ
-slotted_count q n b = if is_slotted q n b then n else n + 1
+slotted_count q n b = if is_slotted q n b then n else (n + 1)
 
 -- the same of what is left of a relation
 unfoldable pub slotted_left : Left → ℕ → List ℕ → List ℕ

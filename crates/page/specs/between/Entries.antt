@@ -1,7 +1,7 @@
 -- The entries and relations of a page by their index: the bytes of their records, and what these are read as. Assumes
 -- nothing.
 use Rattle.std.specs.Prelude.{ℕ, ◌+◌, ◌*◌, List, [], ltb, length, get_or, take, drop}
-use Rattle.base.specs.Choice.{if◌then◌else◌}
+use Rattle.std.specs.Prelude.{if◌then◌else◌}
 use Rattle.railway.specs.declared.relation.Relation.{Relation}
 use Rattle.timetable.specs.Tables.{Entry}
 use Rattle.records.specs.Records.{decode_entry, decode_relation}

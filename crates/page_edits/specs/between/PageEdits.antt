@@ -1,7 +1,8 @@
 -- A sheet or a division as pages of 512 bytes in a row: a page is a page wherever it stands. The page of a station is
 -- found by its index, counted from 0. Assumes nothing.
 use Rattle.std.specs.Prelude.{ℕ, ◌+◌, ◌*◌, ◌-◌, Bool, List, [], ◌∷◌, map, eqb}
-use Rattle.base.specs.Choice.{if◌then◌else◌, ◌if◌else◌}
+use Rattle.base.specs.Choice.{◌if◌else◌}
+use Rattle.std.specs.Prelude.{if◌then◌else◌}
 use Rattle.network.specs.Networks.{area_of, stations_of}
 use Rattle.timetable.specs.Tables.{has_visit}
 use Rattle.timetable.specs.Machine.{meaning}
@@ -14,7 +15,7 @@ use Rattle.sheet.specs.between.Frames.{frame, change_frame}
 
 -- the index of a station's page: in a sheet by its number, in a division by its area first
 unfoldable pub place_of : Bool → Network → Station → ℕ
-place_of divided n k = if divided then 16 * (area_of n k - 1) + (k.0 - 1) else k.0 - 1
+place_of divided n k = if divided then 16 * (area_of n k - 1) + (k.0 - 1) else (k.0 - 1)
 
 -- edit 11: pages changed alike, one after the other
 unfoldable pub sweep : Train → List ℕ → List ℕ → List ℕ

@@ -1,7 +1,7 @@
 -- What is left of a relation without a train, as the code has it. Assumes nothing.
 use Rattle.std.specs.Prelude.{not, ◌&&◌}
 use Rattle.std.proofs.Math.Option.{Option, none, some}
-use Rattle.base.specs.Choice.{if◌then◌else◌}
+use Rattle.std.specs.Prelude.{if◌then◌else◌}
 use Rattle.railway.specs.Ranges.{same_train}
 use Rattle.railway.specs.Relations.{present}
 use Rattle.relation_loss.specs.Types.{Train, Trains, Relation}

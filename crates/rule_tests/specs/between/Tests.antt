@@ -1,7 +1,7 @@
 -- Which rules are broken by the visits of a sheet, by the rule's number. `here` is the table of s, m the timetable that
 -- the sheet holds. findings/proofs/ListsBuilt.antt says that these are the rules of document 01. Assumes nothing.
 use Rattle.std.specs.Prelude.{ℕ, Bool, not, ◌&&◌, List, [], ◌∷◌, eqb}
-use Rattle.base.specs.Choice.{if◌then◌else◌}
+use Rattle.std.specs.Prelude.{if◌then◌else◌}
 use Rattle.timetable.specs.Visits.{comes, leaves}
 use Rattle.timetable.specs.Tables.{Entry, Table}
 use Rattle.timetable.specs.Machine.{Timetable}

@@ -1,6 +1,6 @@
 -- Parts of the rules of timetable/specs/Rules.antt, as the functions on visits test them. Assumes nothing.
 use Rattle.std.specs.Prelude.{ℕ, Bool, true, false, not, ◌&&◌, ltb, eqb}
-use Rattle.base.specs.Choice.{if◌then◌else◌}
+use Rattle.std.specs.Prelude.{if◌then◌else◌}
 use Rattle.base.specs.Lists.{is}
 use Rattle.railway.specs.Ranges.{same_station, same_train, same_line}
 use Rattle.network.specs.Networks.{line_row, least_time}

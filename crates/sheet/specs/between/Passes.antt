@@ -3,7 +3,8 @@
 -- tests are `good_page`, `good_sheet` and `good_division`. Assumes nothing.
 use Rattle.std.specs.Prelude.{ℕ, zero, suc, ◌+◌, ◌*◌, ◌-◌, Bool, true, ◌&&◌, ◌||◌, List, ◌≡◌, ltb, leb, eqb, length, get_or, take, drop}
 use Rattle.std.proofs.Math.Option.{Option, none, some}
-use Rattle.base.specs.Choice.{if◌then◌else◌, ◌if◌else◌}
+use Rattle.base.specs.Choice.{◌if◌else◌}
+use Rattle.std.specs.Prelude.{if◌then◌else◌}
 use Rattle.base.specs.Lists.{same}
 use Rattle.railway.specs.Ranges.{train_ok, track_ok, line_ok, minute_ok}
 use Rattle.network.specs.Networks.{listed, area_of, station_row, blank_line}

@@ -1,7 +1,8 @@
 -- What the functions put of a sheet. A sheet whose list of findings is refused, and a place that is further than any
 -- text, put no finding. Assumes nothing.
 use Rattle.std.specs.Prelude.{ℕ, ◌*◌, ◌<◌, ◌≡◌, Bool, ◌&&◌, List, [], ◌∷◌, eqb, leb, length}
-use Rattle.base.specs.Choice.{if◌then◌else◌, ◌if◌else◌}
+use Rattle.base.specs.Choice.{◌if◌else◌}
+use Rattle.std.specs.Prelude.{if◌then◌else◌}
 use Rattle.timetable.specs.Findings.{findings}
 use Rattle.sheet.specs.Sheets.{decode_sheet}
 use Rattle.timetable_writing.specs.Writing.{sheet_totals}

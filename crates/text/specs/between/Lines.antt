@@ -1,7 +1,7 @@
 -- What the functions put: lines of numbers and of findings. A place that is further than any text, and numbers that are
 -- not there, put nothing. Assumes nothing.
 use Rattle.std.specs.Prelude.{ℕ, ◌+◌, ◌*◌, ◌&&◌, List, [], ◌∷◌, ◌++◌, eqb, leb, length, get_or, take}
-use Rattle.base.specs.Choice.{if◌then◌else◌}
+use Rattle.std.specs.Prelude.{if◌then◌else◌}
 use Rattle.listings.specs.Text.{line}
 use Rattle.listings.specs.Shift.{refusal_text}
 
@@ -19,7 +19,7 @@ refusal_at number place = if leb place 16384 then refusal_text number place else
 
 -- the areas that a list is of: none, one or two; 0 stands for none
 unfoldable pub of_areas : ℕ → ℕ → List ℕ
-of_areas a b = if eqb a 0 then [] else if eqb b 0 then a ∷ [] else a ∷ b ∷ []
+of_areas a b = if eqb a 0 then [] else if eqb b 0 then a ∷ [] else (a ∷ b ∷ [])
 
 -- four numbers from a place on
 unfoldable pub four_at : List ℕ → ℕ → List ℕ

@@ -2,7 +2,7 @@
 -- entry is remembered, and later ones change nothing. proofs/SheetEntries.antt has that on the sheet of a timetable
 -- this is `entered`. Assumes nothing.
 use Rattle.std.specs.Prelude.{ℕ, ◌-◌, true, false, List, [], ◌∷◌, eqb}
-use Rattle.base.specs.Choice.{if◌then◌else◌}
+use Rattle.std.specs.Prelude.{if◌then◌else◌}
 use Rattle.timetable.specs.Formats.{Format, field, Outcome, accepted, refused, Placed}
 use Rattle.timetable.specs.Tables.{Table, has_relation}
 use Rattle.timetable.specs.TimetableFile.{StationVisit, Entries, visits_format, relations_format, visit_refusal, relation_refusal}

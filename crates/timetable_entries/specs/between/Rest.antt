@@ -2,7 +2,7 @@
 -- the input of `inspect` share. timetable_files CallLaws and InspectLaws say that it is what their definitions have
 -- behind the network. Assumes nothing.
 use Rattle.std.specs.Prelude.{ℕ, List, eqb, length}
-use Rattle.base.specs.Choice.{if◌then◌else◌}
+use Rattle.std.specs.Prelude.{if◌then◌else◌}
 use Rattle.timetable.specs.declared.FileForm.{FileForm}
 use Rattle.timetable.specs.declared.Fault.{Fault}
 use Rattle.timetable.specs.Formats.{Outcome, refused, behind, read, ended}
