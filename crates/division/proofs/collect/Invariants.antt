@@ -1,0 +1,16 @@
+-- `division::collect` meets its contract. The loop's invariant: the first i pages are those of the sheet to be made.
+-- Assumes nothing.
+use Prim.Native.Nat.{◌*◌, ◌-◌, ◌≤◌}
+use mathlib.Core.Path.{◌≡◌, refl, sym, ◌∙◌}
+use native.Mathlib.Omega.{arith}
+use lib.ListN.{length, take, drop}
+use Rattle.division.specs.between.Copies.{collected}
+use Rattle.division.proofs.CopyLaws.{high_at, collected_size, collected_row}
+use Rattle.sheet.proofs.FillLaws.{filled_next, filled_length, part_size, filled}
+use Rattle.division.proofs.collect.Given as goal
+
+abbrev pub invariant-loop-i : goal.invariant-loop-i
+invariant-loop-i l = (l.i ≤ 16) × (length l.sheet ≡ 8192) × (take (512 * l.i) l.sheet ≡ take (512 * l.i) (collected l.areas l.division))
+
+abbrev pub decreases-loop-i : goal.decreases-loop-i
+decreases-loop-i l = 16 - l.i

@@ -1,0 +1,17 @@
+-- `division::fill` meets its contract. The loop's invariant: the first i pages are those of the sheet to be made. Each
+-- turn fills one page more; after the last turn all are filled. Assumes nothing.
+use Prim.Native.Nat.{◌*◌, ◌-◌, ◌≤◌}
+use mathlib.Core.Path.{◌≡◌, refl, sym, ◌∙◌}
+use native.Mathlib.Nat.{add-sub_cancel_left}
+use native.Mathlib.Omega.{arith}
+use lib.ListN.{length, take, drop}
+use Rattle.division.specs.between.Copies.{spread}
+use Rattle.division.proofs.CopyLaws.{spread_size, spread_page}
+use Rattle.sheet.proofs.FillLaws.{filled_next, filled_length, part_size, filled}
+use Rattle.division.proofs.fill.Given as goal
+
+abbrev pub invariant-loop-i : goal.invariant-loop-i
+invariant-loop-i l = (l.i ≤ 16) × (length l.part ≡ 8192) × (take (512 * l.i) l.part ≡ take (512 * l.i) (spread l.areas l.sheet l.a))
+
+abbrev pub decreases-loop-i : goal.decreases-loop-i
+decreases-loop-i l = 16 - l.i

@@ -1,0 +1,15 @@
+-- `edit_changes::append` meets its contract: the planned visit is put in with its link. Assumes nothing.
+use borrow.Author.Rules.{rules}
+use mathlib.Core.Path.{◌∙◌, ap, ap₂}
+use Rattle.railway.specs.declared.visit.Visit.{Visit}
+use Rattle.timetable.specs.Visits.{with_in}
+use Rattle.page.specs.between.Changes.{page_add_visit}
+use Rattle.edit_changes.specs.between.EditPages.{here_page}
+use Rattle.edit_changes.proofs.append.Goals as goal
+
+pub returns : goal.returns
+unfolding here_page
+returns c =
+    let s = c.args in
+    c.add_visit.ensures.1
+    ∙ ap (λ (v : Visit). page_add_visit s.x.plan.train v s.page.now) (c.linked_in-v.ensures ∙ ap₂ with_in c.link_from.ensures c.plan_visit.ensures)

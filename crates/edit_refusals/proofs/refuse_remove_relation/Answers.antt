@@ -1,0 +1,14 @@
+-- `edit_refusals::refuse_remove_relation` meets its contract: each return rewrites with the tests that led there.
+-- Assumes nothing.
+use borrow.Author.Rules.{rules}
+use Rattle.timetable.specs.Machine.{meaning}
+use Rattle.edit_refusals.specs.between.Refusing.{refuses_on}
+use Rattle.edit_refusals.proofs.refuse_remove_relation.Goals as goal
+
+pub returns-then-has_relation : goal.returns-then-has_relation
+unfolding refuses_on meaning
+returns-then-has_relation c = simp (c.if-has_relation.true, ← c.has_relation.ensures)
+
+pub returns : goal.returns
+unfolding refuses_on meaning
+returns c = simp (c.if-has_relation.false, ← c.has_relation.ensures)

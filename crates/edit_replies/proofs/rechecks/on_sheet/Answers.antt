@@ -1,0 +1,26 @@
+-- `edit_replies::rechecks::on_sheet` meets its contract: the edit's file is refused, or the call is reached. Assumes nothing.
+use mathlib.Core.Path.{◌∙◌, ap}
+use borrow.Author.Rules.{rules}
+use Rattle.replies.specs.Replies.{of_reply}
+use Rattle.edit_replies.specs.Rechecks.{recheck_reply, recheck_left}
+use Rattle.edit_replies.proofs.EditFile.{edit_refused, edit_held}
+use Rattle.edit_replies.proofs.rechecks.on_sheet.Goals as goal
+
+pub returns-then-found-ne0 : goal.returns-then-found-ne0
+unfolding recheck_reply recheck_left
+returns-then-found-ne0 c =
+    let s = c.args in
+    let r = c.one_edit-found in
+    let z = c.if-found-ne0.true in
+    (c.placed.ensures ∙ edit_refused s.edit.now r.result r.ensures _ _ z, edit_refused s.edit.now r.result r.ensures _ _ z)
+
+pub returns : goal.returns
+unfolding recheck_reply recheck_left
+returns c =
+    let s = c.args in
+    let r = c.one_edit-found in
+    let z = c.if-found-ne0.false in
+    let x = c.recheck.ensures in (
+      c.of_output.ensures ∙ ap of_reply x.0 ∙ edit_held s.edit.now r.result r.ensures _ _ z,
+      x.1 ∙ edit_held s.edit.now r.result r.ensures _ _ z,
+    )

@@ -1,0 +1,14 @@
+-- `fields::put::put_byte` meets its contract: past the end nothing is set. Assumes nothing.
+use mathlib.Core.Path.{refl, sym}
+use lib.Seq.{set_out}
+use Rattle.timetable.specs.Outputs.{put}
+use borrow.Author.Rules.{rules}
+use Rattle.fields.proofs.put.put_byte.Goals as goal
+
+pub returns-then-at-out : goal.returns-then-at-out
+unfolding put
+returns-then-at-out c = refl
+
+pub returns-else-at-out : goal.returns-else-at-out
+unfolding put
+returns-else-at-out c = let s = c.args in sym (set_out s.out.now s.at s.b c.if-at-out.false)

@@ -1,0 +1,44 @@
+-- `network_files::closures::closures` meets its contract. The loop's invariant: the rows read stand in the first
+-- places, the list is those rows and then what is left, and the two faults are those of the rows read. Assumes nothing.
+use Prim.Native.Nat.{ℕ, suc, ◌+◌, ◌-◌, ◌<◌, ◌≤◌}
+use mathlib.Core.Path.{◌≡◌, sym, ◌∙◌, ap, ap₂}
+use mathlib.Core.Bool.{Bool, true, not}
+use mathlib.Core.List.{List, [], ◌∷◌, map}
+use native.Mathlib.Omega.{arith}
+use lib.ListN.{length-map, set}
+use borrow.Author.Rules.{rules}
+use Rattle.base.specs.Lists.{first}
+use Rattle.network.specs.declared.Closure.{Closure}
+use Rattle.network.specs.declared.Network.{Network}
+use Rattle.network.specs.Networks.{blank_closure, ends_after, line_listed}
+use Rattle.timetable.specs.Formats.{Outcome, accepted, refused, read, entries, Placed}
+use Rattle.timetable.specs.NetworkFile.{fault_of, closure_fields, closure_entry, closure_floor, closures_format}
+use Rattle.timetable.specs.declared.Fault.{Fault}
+use Rattle.fields.specs.between.Answers.{padded}
+use Rattle.fields.proofs.ReadLaws.{prefixed, SoFar, start, turn, stop, over, padded_next, map_snoc, entries_next, entries_stop, entries_over}
+use Rattle.fields.proofs.EntryLaws.{placed_some, placed_none}
+use Rattle.network_files.specs.between.Faults.{fault_next}
+use Rattle.network_files.specs.Answers.{closures_read, closure_outcome}
+use Rattle.network_files.specs.declared.closures.ClosuresRead.{ClosuresRead}
+use Rattle.network_files.proofs.DraftLaws.{fault_snoc}
+use Rattle.network_files.proofs.closures.closures.Given as goal
+
+abbrev pub left_at : List ℕ → ℕ → ℕ → ℕ → ℕ → Outcome (List (Placed Closure))
+left_at file k l s place = read (entries closure_entry closure_floor k (l ∷ s ∷ [])) file place
+
+abbrev pub rows_of : List (Placed Closure) → List Closure
+rows_of cs = map (λ c. c.entry) cs
+
+abbrev pub lasting : Placed Closure → Bool
+lasting c = not (ends_after c.entry)
+
+abbrev pub loose : Network → Placed Closure → Bool
+loose known c = not (line_listed known c.entry.line)
+
+abbrev pub invariant-loop-i : goal.invariant-loop-i
+invariant-loop-i l =
+    (l.i ≤ l.n) × ((s : SoFar (left_at l.file l.n 0 0 l.at) l.i (left_at l.file (l.n - l.i) l.line.0 l.start.0 l.place))
+    × (l.rows ≡ padded 32 blank_closure (rows_of s.elements)) × (l.unended ≡ fault_of 14 (first lasting s.elements)) × (l.unlisted ≡ fault_of 4 (first (loose l.known) s.elements)))
+
+abbrev pub decreases-loop-i : goal.decreases-loop-i
+decreases-loop-i l = l.n - l.i

@@ -1,0 +1,55 @@
+-- `network_writing::writing::put_closures` meets its contract: what all rows in use would write is what the rows from i
+-- on still write, from the place reached. Assumes nothing.
+use Prim.Native.Nat.{◌+◌, ◌-◌, ◌*◌, ◌≤◌}
+use mathlib.Core.Path.{◌≡◌, refl, ◌∙◌}
+use native.Mathlib.Omega.{arith}
+use lib.ListN.{length, length-map}
+use Rattle.network.specs.Networks.{blank_closure, closure_rows}
+use Rattle.timetable.specs.NetworkFile.{closure_numbers}
+use Rattle.fields.proofs.NumbersPut.{Left, row_put, rows_put}
+use borrow.Author.Rules.{rules}
+use Rattle.network_writing.proofs.writing.put_closures.Goals as goal
+
+pub in_use-k-requires : goal.in_use-k-requires
+in_use-k-requires c = search rules
+
+pub loop-i-init : goal.loop-i-init
+loop-i-init c = (omega arith, omega arith, refl, (refl, refl))
+
+pub offset_bounds-rows-i : goal.offset_bounds-rows-i
+offset_bounds-rows-i c = omega arith
+
+pub bounds-rows-i : goal.bounds-rows-i
+bounds-rows-i c = omega arith
+
+pub put_closure-next-requires : goal.put_closure-next-requires
+put_closure-next-requires c = omega arith
+
+pub overflow_add-i : goal.overflow_add-i
+overflow_add-i c = omega arith
+
+pub loop-i-smaller : goal.loop-i-smaller
+loop-i-smaller c = omega arith
+
+pub loop-i-preserved : goal.loop-i-preserved
+loop-i-preserved c =
+    let s = c.args in
+    let many : length s.n.closures ≡ 32 = search rules in
+    let u = c.in_use-k in
+    let l = c.loop-i in
+    let w = c.put_closure-next in (
+      omega arith,
+      omega (arith, w.ensures.2),
+      w.auto.out ∙ l.invariant.2,
+      row_put closure_numbers s.n.closures u.result s.at s.out.now (omega (arith, u.ensures, many)) l.i blank_closure l.next l.out l.invariant.3 c.loop-i-test.true w.result w.new.out w.ensures.0 w.ensures.1,
+    )
+
+pub returns : goal.returns
+unfolding closure_rows
+returns c =
+    let s = c.args in
+    let many : length s.n.closures ≡ 32 = search rules in
+    let u = c.in_use-k in
+    let l = c.loop-i in
+    let x = rows_put closure_numbers s.n.closures u.result s.at s.out.now (omega (arith, u.ensures, many)) l.i blank_closure l.next l.out l.invariant.3 c.loop-i-test.false s.n.closurecount 32 many u.ensures in
+    (x.0, x.1, omega (arith, l.invariant.0, l.invariant.1, u.ensures))

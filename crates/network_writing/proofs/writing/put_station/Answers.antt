@@ -1,0 +1,12 @@
+-- `network_writing::writing::put_station` meets its contract: the first numbers of the row are the station's. Assumes
+-- nothing.
+use native.Mathlib.Omega.{arith}
+use Rattle.timetable.specs.NetworkFile.{station_numbers}
+use Rattle.fields.specs.between.Answers.{in_use}
+use Rattle.fields.proofs.NumbersPut.{near}
+use borrow.Author.Rules.{rules}
+use Rattle.network_writing.proofs.writing.put_station.Goals as goal
+
+pub returns : goal.returns
+unfolding station_numbers in_use
+returns c = near _ _ _ _ _ 39 (omega arith) c.put_row.ensures

@@ -1,0 +1,51 @@
+-- `page::relation_place` meets its contract. The loop's invariant: no record before index i passes the test. Assumes
+-- nothing.
+use borrow.Author.Rules.{rules}
+use native.Mathlib.Omega.{arith}
+use Prim.Native.Nat.{◌-◌}
+use mathlib.Core.Path.{sym, ap, ◌∙◌}
+use Rattle.railway.specs.Relations.{precedes}
+use Rattle.records.specs.Records.{decode_relation}
+use Rattle.page.proofs.SlotLaws.{Searched, search_start, search_hit, search_on, search_end}
+use Rattle.page.proofs.relation_place.Goals as goal
+
+pub loop-i-init : goal.loop-i-init
+loop-i-init c = let a = c.args in search_start (λ b. precedes a.relation (decode_relation b)) a.n a.slots.now
+
+pub overflow_mul-i : goal.overflow_mul-i
+overflow_mul-i c = omega arith
+
+pub record_at-r-requires : goal.record_at-r-requires
+record_at-r-requires c = search rules
+
+pub relation_in-requires : goal.relation_in-requires
+relation_in-requires c = search rules
+
+pub precedes-requires : goal.precedes-requires
+precedes-requires c = search rules
+
+pub returns-then-precedes : goal.returns-then-precedes
+returns-then-precedes c =
+    let l = c.loop-i in
+    let a = c.args in
+    let read = sym (c.precedes.ensures ∙ ap (precedes a.relation) (c.relation_in.ensures ∙ ap decode_relation c.record_at-r.ensures)) in
+    (search_hit (λ b. precedes a.relation (decode_relation b)) a.n a.slots.now l.i l.invariant c.loop-i-test.true (read ∙ c.if-precedes.true), omega arith)
+
+pub overflow_add-i : goal.overflow_add-i
+overflow_add-i c = omega arith
+
+pub loop-i-smaller : goal.loop-i-smaller
+loop-i-smaller c = omega arith
+
+pub loop-i-preserved : goal.loop-i-preserved
+loop-i-preserved c =
+    let l = c.loop-i in
+    let a = c.args in
+    let read = sym (c.precedes.ensures ∙ ap (precedes a.relation) (c.relation_in.ensures ∙ ap decode_relation c.record_at-r.ensures)) in
+    search_on (λ b. precedes a.relation (decode_relation b)) a.n a.slots.now l.i l.invariant c.loop-i-test.true (read ∙ c.if-precedes.false)
+
+pub returns : goal.returns
+returns c =
+    let l = c.loop-i in
+    let a = c.args in
+    (search_end (λ b. precedes a.relation (decode_relation b)) a.n a.slots.now l.i l.invariant c.loop-i-test.false, omega arith)

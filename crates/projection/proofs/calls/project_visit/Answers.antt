@@ -1,0 +1,25 @@
+-- `projection::calls::project_visit` meets its contract: the look-up tells whether there is a visit. Assumes nothing.
+use native.Mathlib.Omega.{arith}
+use Rattle.projection.specs.Calls.{projected}
+use Rattle.page.proofs.FoundLaws.{found_some, found_none}
+use Rattle.timetable.proofs.BuffersFilled.{refused_so}
+use Rattle.projection.proofs.ProjectionCall.{visit_missing, visit_there}
+use borrow.Author.Rules.{rules}
+use Rattle.projection.proofs.calls.project_visit.Goals as goal
+
+pub visit_at-found-requires : goal.visit_at-found-requires
+visit_at-found-requires c = search rules
+
+pub write_rows-requires : goal.write_rows-requires
+write_rows-requires c = search rules
+
+pub returns-in-Nothing : goal.returns-in-Nothing
+returns-in-Nothing c =
+    let s = c.args in
+    rw (visit_missing s.s s.t s.a s.sheet.now (found_none _ _ c.visit_at-found.ensures c.in-Nothing.is))
+    (refused_so (projected s.s s.t s.a s.sheet.now) s.out.now 9 (λ z. omega arith))
+
+pub returns-in-Is : goal.returns-in-Is
+returns-in-Is c =
+    let s = c.args in
+    rw (visit_there s.s s.t s.a s.sheet.now _ (found_some _ _ _ c.visit_at-found.ensures c.in-Is.is)) c.write_rows.ensures

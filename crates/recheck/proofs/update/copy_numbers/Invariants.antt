@@ -1,0 +1,17 @@
+-- `recheck::update::copy_numbers` meets its contract. The loop's invariant: the first i numbers are the draft's, the
+-- rest is as it was; at the end there is no rest. Assumes nothing.
+use Prim.Native.Nat.{◌-◌, ◌≤◌}
+use mathlib.Core.Path.{◌≡◌, refl, ◌∙◌}
+use native.Mathlib.Omega.{arith}
+use lib.ListN.{length}
+use lib.Seq.{paste, paste-zero}
+use borrow.Author.Rules.{rules}
+use Rattle.timetable.proofs.DraftsHandedOver.{copied_on}
+use Rattle.recheck.proofs.UpdateLaws.{copied_whole}
+use Rattle.recheck.proofs.update.copy_numbers.Given as goal
+
+abbrev pub invariant-loop-i : goal.invariant-loop-i
+invariant-loop-i l = (l.i ≤ l.k) × (l.part ≡ paste l.initial.part 0 l.draft l.i) × (length l.part ≡ length l.initial.part)
+
+abbrev pub decreases-loop-i : goal.decreases-loop-i
+decreases-loop-i l = l.k - l.i

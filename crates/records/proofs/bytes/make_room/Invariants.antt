@@ -1,0 +1,17 @@
+-- `records::bytes::make_room` meets its contract. The loop's invariant: the bytes from i on have moved, those before i
+-- are as they were. Assumes nothing.
+use borrow.Author.Rules.{rules}
+use native.Mathlib.Omega.{arith}
+use Prim.Native.Nat.{◌≤◌, ◌-◌}
+use mathlib.Core.Path.{◌≡◌, refl, sym, ap, ◌∙◌}
+use lib.ListN.{length, length-set}
+use borrow.Author.Tests.{le-leb, lt-leb}
+use Rattle.records.specs.Bytes.{roomed}
+use Rattle.records.proofs.ByteLaws.{moved, moved_at, moved_step, moved_start}
+use Rattle.records.proofs.bytes.make_room.Given as goal
+
+abbrev pub invariant-loop-i : goal.invariant-loop-i
+invariant-loop-i l = (l.i ≤ length l.initial.part) × (16 ≤ l.i) × (l.part ≡ moved l.initial.part l.i) × (length l.part ≡ length l.initial.part)
+
+abbrev pub decreases-loop-i : goal.decreases-loop-i
+decreases-loop-i l = l.i

@@ -1,0 +1,29 @@
+-- `relation_files::reading::trains` meets its contract. The loop's invariant: the trains read stand in the first
+-- places, and the list is those and then what is left to read. Assumes nothing.
+use Prim.Native.Nat.{ℕ, suc, ◌+◌, ◌-◌, ◌<◌, ◌≤◌}
+use mathlib.Core.Path.{◌≡◌, refl, sym, ◌∙◌, ap}
+use mathlib.Core.Bool.{Bool, true}
+use mathlib.Core.List.{List, [], ◌∷◌}
+use native.Mathlib.Omega.{arith}
+use lib.ListN.{set}
+use borrow.Author.Rules.{rules}
+use Rattle.timetable.specs.Formats.{Outcome, accepted, refused, field_at, least, floor_after, read}
+use Rattle.timetable.specs.EditsFile.{trains_format}
+use Rattle.fields.specs.declared.field.RowRead.{RowRead}
+use Rattle.fields.specs.between.Answers.{padded, row_read}
+use Rattle.fields.proofs.ReadLaws.{prefixed, SoFar, start, turn, stop, over, padded_next}
+use Rattle.fields.specs.between.Answers.{in_use, number_read}
+use Rattle.fields.proofs.FloorLaws.{number_value, number_refusal}
+use Rattle.fields.proofs.RowHolds.{row_held}
+use Rattle.relation_files.proofs.ReadingLaws.{least_train, train_taken, train_refused, trains_over}
+use Rattle.relation_files.proofs.reading.trains.Given as goal
+
+abbrev pub left_at : List ℕ → Bool → ℕ → ℕ → List ℕ → ℕ → Outcome (List ℕ)
+left_at file rise k before floor place = read (trains_format rise k before floor) file place
+
+abbrev pub invariant-loop-i : goal.invariant-loop-i
+invariant-loop-i l =
+    (l.i ≤ l.count) × ((s : SoFar (left_at l.file l.rise l.count 0 (in_use l.initial.left) l.at) l.i (left_at l.file l.rise (l.count - l.i) l.before (in_use l.left) l.place)) × (l.values ≡ padded 13 0 s.elements))
+
+abbrev pub decreases-loop-i : goal.decreases-loop-i
+decreases-loop-i l = l.count - l.i

@@ -1,0 +1,14 @@
+-- `rules::stays::on_one_line` meets its contract: the link is none, or is known. Assumes nothing.
+use Rattle.visits.proofs.LinkLaws.{leaves_at, leaves_none}
+use Rattle.timetable.specs.Rules.{on_one_line}
+use Rattle.rules.specs.between.Parts.{leaves_by}
+use borrow.Author.Rules.{rules}
+use Rattle.rules.proofs.stays.on_one_line.Goals as goal
+
+pub returns-in-Nothing : goal.returns-in-Nothing
+unfolding on_one_line leaves_by
+returns-in-Nothing c = rw (leaves_none _ c.args.v c.in-Nothing.is)
+
+pub returns-in-To : goal.returns-in-To
+unfolding on_one_line leaves_by
+returns-in-To c = rw (leaves_at _ c.args.v _ c.in-To.is) c.leaves_by.ensures

@@ -1,0 +1,27 @@
+-- `sheet::test::visit_run` meets its contract. The loop's invariant: what is asked of all records is asked of those
+-- from i on, and the train that is kept is that of the record before i. The network, whose rows the loop reads, is the
+-- argument `t3`. Assumes nothing.
+use Prim.Native.Nat.{ℕ, ◌+◌, ◌*◌, ◌≤◌, ◌-◌}
+use mathlib.Core.Bool.{Bool, true, false, ◌&&◌}
+use mathlib.Core.List.{List}
+use lib.ListN.{take, drop}
+use mathlib.Core.Logic.{⊎_elim}
+use mathlib.Core.Path.{◌≡◌, refl, sym, ◌∙◌, ap}
+use native.Mathlib.Omega.{arith}
+use lib.Dec.{ltb}
+use borrow.Author.Rules.{rules}
+use borrow.Author.Tests.{lt-ltb, le-ltb}
+use Rattle.records.specs.Bytes.{chunk}
+use Rattle.sheet.specs.Types.{Station, Network}
+use Rattle.sheet.specs.between.Passes.{visit_passes, passing_train, train_after, visit_run}
+use Rattle.sheet.proofs.PassLaws.{all_from, from_not, from_both, from_end, visit_run_start, train_before, train_kept, train_next}
+use Rattle.sheet.proofs.LinkRows.{place_low, row_read}
+use Rattle.sheet.proofs.test.visit_run.Given as goal
+
+abbrev pub invariant-loop-i : goal.invariant-loop-i
+invariant-loop-i l =
+    (l.i ≤ l.n) × (l.last ≡ train_before l.slots l.i)
+    × (visit_run l.network l.s l.n l.slots ≡ all_from (λ j. visit_passes l.network l.s (chunk j l.slots)) (train_after l.slots) l.n l.i)
+
+abbrev pub decreases-loop-i : goal.decreases-loop-i
+decreases-loop-i l = l.n - l.i

@@ -1,0 +1,18 @@
+-- `sheet_lines::whole::put_near` meets its contract: the lines are put; or nothing is, and then they are put from an
+-- array with room for any list. Assumes nothing.
+use Rattle.sheet_lines.proofs.FindingLines.{lines_put, none_put}
+use borrow.Author.Rules.{rules}
+use Rattle.sheet_lines.proofs.whole.put_near.Goals as goal
+
+pub returns-in-Lines : goal.returns-in-Lines
+returns-in-Lines c =
+    let s = c.args in
+    let f = c.put_listed-listed in
+    lines_put s.at s.n s.sheet.now _ s.out.now _ f.result f.ensures _ c.in-Lines.is
+
+pub returns-in-TooShort : goal.returns-in-TooShort
+returns-in-TooShort c =
+    let s = c.args in
+    let f = c.put_listed-listed in
+    let none = none_put s.at s.n s.sheet.now _ s.out.now _ f.result f.ensures c.in-TooShort.is in
+    rw (← none.2) c.put_any.ensures

@@ -1,0 +1,10 @@
+-- `shift_lines::answers::put_answer` meets its contract: one line of three numbers. Assumes nothing.
+use native.Mathlib.Omega.{arith}
+use borrow.Author.Rules.{rules}
+use Rattle.text.proofs.PutParts.{puts_as}
+use Rattle.text.proofs.WithinBounds.{line_there}
+use Rattle.shift_lines.proofs.answers.put_answer.Goals as goal
+
+pub returns : goal.returns
+returns c =
+    puts_as _ _ _ _ _ _ _ (line_there c.args.at c.requires 69 3 _ (omega arith)) c.put_line.ensures

@@ -1,0 +1,16 @@
+-- `text::draft::copy_over` meets its contract. The loop's invariant: the first i bytes are the draft's, the rest is
+-- as it was. Assumes nothing.
+use borrow.Author.Rules.{rules}
+use native.Mathlib.Omega.{arith}
+use Prim.Native.Nat.{◌≤◌, ◌-◌}
+use mathlib.Core.Path.{◌≡◌, refl}
+use lib.ListN.{length}
+use lib.Seq.{paste, paste-zero}
+use Rattle.timetable.proofs.DraftsHandedOver.{copied_on, draft_too_long, draft_copied}
+use Rattle.text.proofs.draft.copy_over.Given as goal
+
+abbrev pub invariant-loop-i : goal.invariant-loop-i
+invariant-loop-i l = (l.i ≤ l.k) × (l.out ≡ paste l.initial.out 0 l.draft l.i) × (length l.out ≡ length l.initial.out)
+
+abbrev pub decreases-loop-i : goal.decreases-loop-i
+decreases-loop-i l = l.k - l.i

@@ -1,0 +1,13 @@
+-- `timetable_entries::enter::put_relation` meets its contract by the test. Assumes nothing.
+use mathlib.Core.Path.{sym, ◌∙◌}
+use Rattle.timetable_entries.specs.between.Entering.{page_with_relation}
+use borrow.Author.Rules.{rules}
+use Rattle.timetable_entries.proofs.enter.put_relation.Goals as goal
+
+pub returns-then-has_relation : goal.returns-then-has_relation
+unfolding page_with_relation
+returns-then-has_relation c = rw (sym c.has_relation.ensures ∙ c.if-has_relation.true)
+
+pub returns : goal.returns
+unfolding page_with_relation
+returns c = c.add_relation.ensures.1 ∙ rw (sym c.has_relation.ensures ∙ c.if-has_relation.false)
