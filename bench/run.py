@@ -27,7 +27,7 @@ RUNS = 101
 
 def build():
     environment = dict(os.environ, CARGO_TARGET_DIR=os.path.join(TOP, 'target', 'bench'),
-                       STRAKEWHIP_LIB=os.path.join(TOP, 'target', 'staticlib'))
+                       STRAKEWHIP_LIB=os.path.join(TOP, 'crates', 'strakewhip', 'out'))
     for folder, own in (('reference', None), ('bench', environment)):
         subprocess.run(['cargo', 'build', '--release', '--offline', '--quiet'], cwd=os.path.join(TOP, folder), env=own,
                        check=True)

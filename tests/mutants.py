@@ -6,7 +6,7 @@ Usage: tests/mutants.py [WORD ...]    only the mistakes whose name has one of th
 The copy is built in a temporary folder. A mistake is found if compare.py reports a difference to the second implementation.
 No program turns an old network file, updates a list of findings, tells the areas that an edit names or reads the
 earlier form: of a mistake there (TURNED, RECHECKED, NAMED, EARLIER) the library's comparison has to report a difference
-of those calls, for which target/staticlib/libstrakewhip.a has to be built.
+of those calls, for which crates/strakewhip/out/libstrakewhip.a has to be built.
 """
 
 import os
@@ -18,7 +18,7 @@ import tempfile
 HERE = os.path.dirname(os.path.abspath(__file__))
 TOP = os.path.join(HERE, "..")
 REFERENCE = os.path.join(TOP, "reference")
-ARCHIVES = os.path.abspath(os.path.join(TOP, "target", "staticlib"))
+ARCHIVES = os.path.abspath(os.path.join(TOP, "crates", "strakewhip", "out"))
 
 # What refuses a report, in its order; and a clock that keeps the latest minute of the reports before.
 AHEAD = "            (report.time > report.present, FUTURE),\n"
@@ -487,7 +487,7 @@ def by_programs(name, folder, built):
 def by_library(calls, folder, built):
     """The first difference of these calls that tests/library, built beside the copy with the mistake, reports, or none."""
     if not os.path.exists(os.path.join(ARCHIVES, "libstrakewhip.a")):
-        print("target/staticlib/libstrakewhip.a is not built")
+        print("crates/strakewhip/out/libstrakewhip.a is not built")
         return None
     for part in (("tests", "library"), ("bindings", "rust")):
         shutil.copytree(os.path.join(TOP, *part), os.path.join(folder, *part), ignore=shutil.ignore_patterns("target"),

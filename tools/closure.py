@@ -6,7 +6,7 @@ rests = {}
 for line in open(path, encoding='utf-8'):
     head, _, tail = line.split('#')[0].partition(':')
     if head.strip():
-        rests[head.strip()] = tail.split()
+        rests[head.split()[0]] = tail.split()
 found, todo = set(), [name]
 while todo:
     crate = todo.pop()

@@ -6,7 +6,7 @@
 #   tools/library.sh c          a C program over include/strakewhip.h
 #   tools/library.sh rust       bindings/rust with its examples
 #   tools/library.sh python     bindings/python on the shared object
-#   tools/library.sh archive    target/staticlib/libstrakewhip.a, proved, whether or not the code is newer
+#   tools/library.sh archive    crates/strakewhip/out/libstrakewhip.a, proved, whether or not the code is newer
 #   tools/library.sh shared     target/library/libstrakewhip.so, from the archive
 #   tools/library.sh agree      code, exports, header and wrappers name the same calls with the same parameters
 #   tools/library.sh test       tests/library: every call against the second implementation
@@ -15,22 +15,22 @@ set -euo pipefail
 cd "$(dirname "${BASH_SOURCE[0]}")/.."
 . tools/scratch.sh
 top=$PWD
-archive=target/staticlib/libstrakewhip.a
-export STRAKEWHIP_LIB=$top/target/staticlib
+archive=$top/crates/strakewhip/out/libstrakewhip.a
+export STRAKEWHIP_LIB=$top/crates/strakewhip/out
 export CARGO_TARGET_DIR=$top/target/library/rust
 mkdir -p target/library
 
 # Nothing below is called behind `if`, `&&` or `||`: there a command that fails would not end this script.
 
 archive() {
-    if ! rt staticlib strakewhip >target/library/archive.log 2>&1; then
+    if ! (cd crates/strakewhip && rt lib) >target/library/archive.log 2>&1; then
         tail -n 20 target/library/archive.log >&2
         exit 1
     fi
 }
 current() {
     local newer=yes
-    if [ -e "$archive" ]; then newer=$(find crates crates.txt -newer "$archive" -type f -print -quit); fi
+    if [ -e "$archive" ]; then newer=$(find crates crates.txt -path '*/out' -prune -o -newer "$archive" -type f -print -quit); fi
     if [ -n "$newer" ]; then archive; fi
 }
 shared() {

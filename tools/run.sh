@@ -1,5 +1,6 @@
 #!/usr/bin/env bash
 # Runs a program on a file of plain decimal numbers; proves and builds it first where it is not built yet.
+# Each crate that it rests on is proved on the way; its line says so.
 #
 #   tools/run.sh shift tools/sample.txt
 #   tools/run.sh inspect tools/timetable.txt
@@ -9,7 +10,7 @@ if [ $# -ne 2 ]; then
     exit 2
 fi
 tools=$(cd "$(dirname "${BASH_SOURCE[0]}")" && pwd)
-built="$tools/../target/bin/$1"
+built="$tools/../crates/$1/out/$1"
 . "$tools/scratch.sh"
 
 # Proves the program and the crates that it rests on, and says which of how many is done.
@@ -17,11 +18,11 @@ prove() {
     local all at=0
     all=$(python3 "$tools/closure.py" "$1" crates.txt)
     echo "proving $1 and the crates that it rests on, $all in all; this takes some minutes" >&2
-    rt check "$1" | while IFS= read -r line; do
+    (cd "crates/$1" && rt run 2>&1 >/dev/null </dev/null) | while IFS= read -r line; do
         case $line in
-        'rt: '*' proved ('* | 'rt: '*' NOT PROVED'*)
+        'logic=proved '* | 'logic=not-proved'*)
             at=$((at + 1))
-            echo "crate $at of $all: ${line#rt: }" >&2
+            echo "crate $at of $all: ${line%% *}" >&2
             ;;
         *error*) printf '%s\n' "$line" >&2 ;;
         esac

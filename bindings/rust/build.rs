@@ -8,7 +8,7 @@ fn main() {
     let own = PathBuf::from(env::var_os("CARGO_MANIFEST_DIR").expect("cargo names this folder"));
     let folder = match env::var_os("STRAKEWHIP_LIB") {
         Some(folder) => PathBuf::from(folder),
-        None => own.join("../../target/staticlib"),
+        None => own.join("../../crates/strakewhip/out"),
     };
     println!("cargo:rustc-link-search=native={}", folder.display());
     println!("cargo:rustc-link-lib=static=strakewhip");

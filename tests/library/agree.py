@@ -57,7 +57,7 @@ def from_code():
     folder = os.path.join(TOP, "crates", "strakewhip", "src")
     for file in sorted(os.listdir(folder)):
         source = without_comments(text(folder, file))
-        for name, parameters in re.findall(r'#\[no_mangle\]\s*pub extern "C" fn (\w+)\(([^)]*)\) -> Reply', source):
+        for name, parameters in re.findall(r'#\[(?:unsafe\()?no_mangle\)?\]\s*pub extern "C" fn (\w+)\(([^)]*)\) -> Reply', source):
             calls[name] = []
             for one in split(parameters):
                 label, form = (part.strip() for part in one.split(":", 1))
@@ -103,7 +103,7 @@ def constants(source, pattern):
 def main():
     sys.path.insert(0, os.path.join(TOP, "bindings", "python"))
     import strakewhip as module
-    archive = sys.argv[1] if len(sys.argv) > 1 else os.path.join(TOP, "target", "staticlib", "libstrakewhip.a")
+    archive = sys.argv[1] if len(sys.argv) > 1 else os.path.join(TOP, "crates", "strakewhip", "out", "libstrakewhip.a")
     header, rust, code, python = from_header(), from_rust(), from_code(), from_python(module)
     faults = [] if header else ["the header names no call"]
 
