@@ -1,13 +1,14 @@
-// Standard output, for what a call left in a lent buffer.
+// Standard input and output of the programs: a lent buffer filled from a reader, and what a call left in a lent buffer
+// written to a writer. Neither allocates.
 #![tactic(auto)]
 
-ghost use Rattle.std.specs.Io.KnownBytes.{Appends};
-ghost use Rattle.std.specs.Prelude.{◌≡◌, ◌<◌, length, take, IfOk, OnOk, OnErr, vec_len};
+ghost use Rattle.std.specs.Io.KnownBytes.{Appends, Consumes, IsAtEnd};
+ghost use Rattle.std.specs.Prelude.{◌≡◌, ◌<◌, ◌≤◌, length, take, IfOk, OnOk, OnErr};
 ghost use Rattle.console.specs.Printed.{printed};
+ghost use Rattle.console.specs.Filled.{ReadPart};
 
-use std::alloc::{AllocError, Global};
 use std::io;
-use std::io::Write;
+use std::io::{Read, Write};
 use timetable::Output;
 
 // The head of the buffer that the call wrote, nothing where it was refused.
@@ -43,9 +44,21 @@ pub fn print<W: Write>(writer: &mut W, out: &[u8], output: Output) -> io::Result
     Ok(head.len())
 }
 
-// A buffer to lend, of n zeros.
-pub fn zeros(alloc: Global, n: usize) -> Result<Vec<u8>, AllocError>
-    ensures { IfOk result (λ v. vec_len v ≡ n) }
+// Reads until the buffer is full or the input ends; answers how many bytes it read, which stand at the buffer's head.
+// An error, which only the reader brings, leaves at the head what was read before it.
+pub fn read_full<R: Read>(reader: &mut R, buffer: &mut [u8]) -> io::Result<usize>
+    ensures bound { IfOk result (λ n. n ≤ length buffer.new) }
+    ensures bytes { IfOk result (λ n. Consumes (R.remaining reader.old) (R.remaining reader.new) (take n buffer.new)) }
+    ensures end { IfOk result (λ n. n < length buffer.new → IsAtEnd (R.remaining reader.new)) }
+    ensures err { OnErr result (ReadPart (R.remaining reader.old) (R.remaining reader.new) buffer.new) }
 {
-    vec![in alloc; 0u8; n]
+    let mut at = 0;
+    while at < buffer.len() {
+        let n = reader.read(&mut buffer[at..])?;
+        if n == 0 {
+            return Ok(at);
+        }
+        at += n;
+    }
+    Ok(at)
 }

@@ -6,7 +6,7 @@
 use inspect_lines::parts;
 use network::Network;
 use std::io;
-use std::io::{Read, Write};
+use std::io::Write;
 use text::refusal;
 
 // The part with index k; the buffer has room for any, so none is refused.
@@ -75,8 +75,8 @@ fn print_read<W: Write>(writer: &mut W, input: &[u8], out: &mut [u8]) -> io::Res
 }
 
 fn main(rt: HostRuntime) -> io::Result<()> {
-    let mut input = Vec::new(rt.alloc());
-    rt.stdin().take(16385).read_to_end(&mut input)?;
-    let mut out = console::zeros(rt.alloc(), parts::MOST)?;
-    print_read(&mut rt.stdout(), &input, &mut out)
+    let mut buffer = [0u8; 16385];
+    let n = console::read_full(&mut rt.stdin(), &mut buffer)?;
+    let mut out = [0u8; parts::MOST];
+    print_read(&mut rt.stdout(), &buffer[..n], &mut out)
 }

@@ -3,34 +3,38 @@
 #![tactic(auto)]
 
 use shift_lines::listing;
-use std::alloc::Global;
 use std::io;
-use std::io::{Read, Write};
+use std::io::Write;
 use timetable::Output;
 
-// Prints the listing through a buffer of n bytes; answers how many it needs where these are too few.
-fn print_within<W: Write>(
-    writer: &mut W,
-    alloc: Global,
-    input: &[u8],
-    n: usize,
-) -> io::Result<Option<usize>> {
-    let mut out = console::zeros(alloc, n)?;
+// A buffer that has room for any text, so none is refused. Where nothing was printed, it is tried again so many times.
+// A function that calls itself is not merged into its caller: the buffer's pages are touched only where it is needed.
+fn print_long<W: Write>(writer: &mut W, input: &[u8], tries: u8) -> io::Result<()> {
+    let mut out = [0u8; listing::MOST];
+    let output = listing::write_listing(input, &mut out);
+    let printed = console::print(writer, &out, output)?;
+    if printed == 0 {
+        if 0 < tries {
+            return print_long(writer, input, tries - 1);
+        }
+    }
+    Ok(())
+}
+
+// Most texts are short: only for a longer one a large buffer is cleared.
+fn print_listing<W: Write>(writer: &mut W, input: &[u8]) -> io::Result<()> {
+    let mut out = [0u8; listing::SHORT];
     let output = listing::write_listing(input, &mut out);
     console::print(writer, &out, output)?;
     match output {
-        Output::TooShort(needed) => Ok(Some(needed)),
-        Output::Written(_k) => Ok(None),
-        Output::Refused(_k) => Ok(None),
+        Output::Written(_k) => Ok(()),
+        Output::Refused(_k) => Ok(()),
+        Output::TooShort(_k) => print_long(writer, input, 1),
     }
 }
 
 fn main(rt: HostRuntime) -> io::Result<()> {
-    let mut input = Vec::new(rt.alloc());
-    rt.stdin().take(16385).read_to_end(&mut input)?;
-    // Most texts are short: only for a longer one a large buffer is cleared.
-    if let Some(needed) = print_within(&mut rt.stdout(), rt.alloc(), &input, listing::SHORT)? {
-        print_within(&mut rt.stdout(), rt.alloc(), &input, needed)?;
-    }
-    Ok(())
+    let mut input = [0u8; 16385];
+    let n = console::read_full(&mut rt.stdin(), &mut input)?;
+    print_listing(&mut rt.stdout(), &input[..n])
 }
