@@ -4,8 +4,9 @@
 usage: bench/run.py [--times]
 
 Instructions are counted by `valgrind --tool=callgrind`; it counts a byte that is cleared or copied in bulk as one. With
---times the wall times of one run are told too: the middle of many rounds. It needs target/bin/shift and
-target/bin/inspect (`rt check`), target/staticlib/libstrakewhip.a (`rt staticlib strakewhip`), cargo and valgrind.
+--times the wall times of one run are told too: the middle of many rounds. It needs crates/shift/out/shift and
+crates/inspect/out/inspect (`rt run` in each of the two folders), crates/strakewhip/out/libstrakewhip.a
+(`tools/library.sh archive`), cargo and valgrind.
 """
 import os
 import re
@@ -18,7 +19,7 @@ import time
 TOP = os.path.dirname(os.path.dirname(os.path.abspath(__file__)))
 BUILT = os.path.join(TOP, 'target', 'bench', 'release', 'bench')
 SECOND = os.path.join(TOP, 'reference', 'target', 'release')
-FIRST = os.path.join(TOP, 'target', 'bin')
+FIRST = os.path.join(TOP, 'crates', '{0}', 'out')
 SIZES = ['small', 'medium', 'sparse', 'dense']
 GROWTH = ['2-stations', '4-stations', '8-stations', '16-stations', '3-visits', '6-visits', '12-visits']
 TURNS = 10
@@ -83,7 +84,7 @@ def programs(folder):
         cells = []
         for size in SIZES:
             given = os.path.join(folder, f'{size}.{program}')
-            own = instructions([os.path.join(FIRST, program)], given)
+            own = instructions([os.path.join(FIRST.format(program), program)], given)
             cells.append(beside(own, instructions([os.path.join(SECOND, program)], given)))
         row(f'`{program}`', *cells)
 
@@ -155,7 +156,7 @@ def wall(folder):
                 for _ in range(RUNS):
                     with open(given, 'rb') as source:
                         began = time.perf_counter()
-                        subprocess.run([os.path.join(where, program)], stdin=source, stdout=subprocess.DEVNULL)
+                        subprocess.run([os.path.join(where.format(program), program)], stdin=source, stdout=subprocess.DEVNULL)
                         rounds.append(1000 * (time.perf_counter() - began))
                 middle.append(statistics.median(rounds))
             cells.append(f'{middle[0]:.2f} / {middle[1]:.2f}')

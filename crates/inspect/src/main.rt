@@ -74,9 +74,14 @@ fn print_read<W: Write>(writer: &mut W, input: &[u8], out: &mut [u8]) -> io::Res
     print_input(writer, input, &mut sheet, out)
 }
 
+// A buffer that has room for any part; made by a function of its own, so that no proof looks at its millions of zeros.
+fn roomy() -> [u8; parts::MOST] {
+    [0u8; parts::MOST]
+}
+
 fn main(rt: HostRuntime) -> io::Result<()> {
     let mut buffer = [0u8; 16385];
     let n = console::read_full(&mut rt.stdin(), &mut buffer)?;
-    let mut out = [0u8; parts::MOST];
+    let mut out = roomy();
     print_read(&mut rt.stdout(), &buffer[..n], &mut out)
 }
