@@ -29,8 +29,8 @@ fn written(out: &[u8], output: Output) -> &[u8]
     }
 }
 
-// Writes what the call wrote; answers how many bytes that is. An error, which only the writer brings, says that not all
-// of them were written; where there are none, none comes.
+// Writes what the call wrote; answers how many bytes that is. An error, which only the writer brings, leaves open how
+// many of them were written; where there are none to write, none comes.
 pub fn print<W: Write>(writer: &mut W, out: &[u8], output: Output) -> io::Result<usize>
     ensures count { IfOk result (λ n. n ≡ printed output out.now) }
     ensures bytes { OnOk result (Appends (W.contents writer.old) (W.contents writer.new) (take (printed output out.now) out.now)) }

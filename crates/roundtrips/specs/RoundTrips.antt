@@ -8,7 +8,7 @@
 -- names no form is of the newest.
 --
 -- The letters: file the bytes of a file, at and next places in it, n a network, e an edit, es a list of edits, m a
--- timetable. `T b` says that the test b passes. `bytes_of (x-numbers x)` is the file that is written for x. A record
+-- timetable. `T b` says that the test b passes. `bytes_of (x_numbers x)` is the file that is written for x. A record
 -- collects what is promised together. Assumes nothing.
 use Rattle.std.specs.Prelude.{ℕ, ◌+◌, ◌≤◌, ◌<◌, ◌≡◌, List, ◌++◌, T, length, get_or, drop}
 use Rattle.base.specs.Lists.{every}

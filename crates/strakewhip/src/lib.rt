@@ -1,6 +1,6 @@
 // The calls of document 01 for programs in C, Rust and Python, over numbers and lent bytes: a network, an edit, a list
-// of edits and a timetable are the bytes of their files. `rt staticlib strakewhip` writes them to
-// target/staticlib/libstrakewhip.a under the names that they have here; include/strakewhip.h says what each one does.
+// of edits and a timetable are the bytes of their files. `rt lib` in this crate's folder writes them to
+// out/libstrakewhip.a under the names that they have here; include/strakewhip.h says what each one does.
 #![tactic(auto)]
 
 mod asking; // a network read; the areas that an edit names

@@ -1,6 +1,6 @@
 -- The promises about the order and the division of edits: every edit is local (the laws of Locality), any order is the
 -- first (Exchange, as edits that name no common group name no common station), edits on a division are the edits on the
--- whole, divisions round_trip (Divided), and a good network's areas are a grouping, since each of its rows has an area
+-- whole, divisions round-trip (Divided), and a good network's areas are a grouping, since each of its rows has an area
 -- of 1..6. Assumes nothing.
 use mathlib.Core.Path.{◌≡◌, refl, sym}
 use mathlib.Core.Bool.{Bool, true, false, ◌&&◌, ◌||◌}

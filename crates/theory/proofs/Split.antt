@@ -13,7 +13,7 @@ use Rattle.base.proofs.Tests.{by_test, if_yes, if_no, and_l, and_r, both}
 use Rattle.theory.proofs.Local.{LocalStep}
 
 module _ {Place Part : Type 0} (nothing : Part) (γ : Place → ℕ) where
-  -- timetable Groups has these four of tables: in-group, divide, merge, gather
+  -- timetable Groups has these four of tables: in_group, divide, merge, gather
 
   abbrev inside : ℕ → Place → Bool
   inside g k = ltb 0 g && eqb g (γ k)

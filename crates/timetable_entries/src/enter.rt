@@ -76,7 +76,7 @@ pub(crate) fn enter_visit(
     fault: Fault,
 ) -> Fault
     requires { (length sheet.old ≡ 8192) × T (station_ok s) }
-    ensures { record { sheet = sheet.exit.now; fault = result } ≡ visit_step n (record { place = place; entry = record { station = s; train = t; visit = v } }) (record { sheet = sheet.entry.now; fault = fault }) }
+    ensures { record { sheet = sheet.new; fault = result } ≡ visit_step n (record { place = place; entry = record { station = s; train = t; visit = v } }) (record { sheet = sheet.old; fault = fault }) }
 {
     if fault.number == 0 {
         let at = 512 * (bytes::size(s.0) - 1);
@@ -102,7 +102,7 @@ pub(crate) fn enter_relation(
     fault: Fault,
 ) -> Fault
     requires { (length sheet.old ≡ 8192) × T (station_ok x.station) }
-    ensures { record { sheet = sheet.exit.now; fault = result } ≡ relation_step n (record { place = place; entry = x }) (record { sheet = sheet.entry.now; fault = fault }) }
+    ensures { record { sheet = sheet.new; fault = result } ≡ relation_step n (record { place = place; entry = x }) (record { sheet = sheet.old; fault = fault }) }
 {
     if fault.number == 0 {
         let s = x.station;

@@ -61,8 +61,8 @@ fn visits(
     fault: Fault,
 ) -> EntriesRead
     requires { (length sheet.old ≡ 8192) × (count ≤ 384) }
-    ensures { (result ≡ entries_read (visit_step n) (record { sheet = sheet.entry.now; fault = fault }) (read (visits_format form count) file.now at))
-        × (result.accepted ≡ true → sheet.exit.now ≡ entries_sheet (visit_step n) (record { sheet = sheet.entry.now; fault = fault }) (read (visits_format form count) file.now at)) }
+    ensures { (result ≡ entries_read (visit_step n) (record { sheet = sheet.old; fault = fault }) (read (visits_format form count) file.now at))
+        × (result.accepted ≡ true → sheet.new ≡ entries_sheet (visit_step n) (record { sheet = sheet.old; fault = fault }) (read (visits_format form count) file.now at)) }
 {
     let mut place = at;
     let mut station = Station(0);
@@ -96,8 +96,8 @@ fn relations(
     fault: Fault,
 ) -> EntriesRead
     requires { (length sheet.old ≡ 8192) × (count ≤ 384) }
-    ensures { (result ≡ entries_read (relation_step n) (record { sheet = sheet.entry.now; fault = fault }) (read (relations_format count) file.now at))
-        × (result.accepted ≡ true → sheet.exit.now ≡ entries_sheet (relation_step n) (record { sheet = sheet.entry.now; fault = fault }) (read (relations_format count) file.now at)) }
+    ensures { (result ≡ entries_read (relation_step n) (record { sheet = sheet.old; fault = fault }) (read (relations_format count) file.now at))
+        × (result.accepted ≡ true → sheet.new ≡ entries_sheet (relation_step n) (record { sheet = sheet.old; fault = fault }) (read (relations_format count) file.now at)) }
 {
     let mut place = at;
     let mut floor = no_floor();
@@ -130,8 +130,8 @@ fn visit_part(
     fault: Fault,
 ) -> EntriesRead
     requires { length sheet.old ≡ 8192 }
-    ensures { (result ≡ entries_read (visit_step n) (record { sheet = sheet.entry.now; fault = fault }) (read (visit_part form) file.now at))
-        × (result.accepted ≡ true → sheet.exit.now ≡ entries_sheet (visit_step n) (record { sheet = sheet.entry.now; fault = fault }) (read (visit_part form) file.now at)) }
+    ensures { (result ≡ entries_read (visit_step n) (record { sheet = sheet.old; fault = fault }) (read (visit_part form) file.now at))
+        × (result.accepted ≡ true → sheet.new ≡ entries_sheet (visit_step n) (record { sheet = sheet.old; fault = fault }) (read (visit_part form) file.now at)) }
 {
     let count = field(file, at, 0, 384);
     match count {
@@ -143,8 +143,8 @@ fn visit_part(
 // "count of relations (0..96)", and the relations.
 fn relation_part(file: &[u8], at: usize, n: Network, sheet: &mut [u8], fault: Fault) -> EntriesRead
     requires { length sheet.old ≡ 8192 }
-    ensures { (result ≡ entries_read (relation_step n) (record { sheet = sheet.entry.now; fault = fault }) (read relation_part file.now at))
-        × (result.accepted ≡ true → sheet.exit.now ≡ entries_sheet (relation_step n) (record { sheet = sheet.entry.now; fault = fault }) (read relation_part file.now at)) }
+    ensures { (result ≡ entries_read (relation_step n) (record { sheet = sheet.old; fault = fault }) (read relation_part file.now at))
+        × (result.accepted ≡ true → sheet.new ≡ entries_sheet (relation_step n) (record { sheet = sheet.old; fault = fault }) (read relation_part file.now at)) }
 {
     let count = field(file, at, 0, 96);
     match count {
@@ -162,8 +162,8 @@ pub(crate) fn entries(
     sheet: &mut [u8],
 ) -> EntriesRead
     requires { length sheet.old ≡ 8192 }
-    ensures { (result ≡ timetable_entries n (record { sheet = sheet.entry.now; fault = no_fault }) (read (timetable_format form) file.now at))
-        × (result.accepted ≡ true → sheet.exit.now ≡ timetable_sheet n (record { sheet = sheet.entry.now; fault = no_fault }) (read (timetable_format form) file.now at)) }
+    ensures { (result ≡ timetable_entries n (record { sheet = sheet.old; fault = no_fault }) (read (timetable_format form) file.now at))
+        × (result.accepted ≡ true → sheet.new ≡ timetable_sheet n (record { sheet = sheet.old; fault = no_fault }) (read (timetable_format form) file.now at)) }
 {
     let none = Fault {
         number: 0,

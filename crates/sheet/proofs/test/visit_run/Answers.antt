@@ -1,6 +1,5 @@
 -- `sheet::test::visit_run` meets its contract. The loop's invariant: what is asked of all records is asked of those
--- from i on, and the train that is kept is that of the record before i. The network, whose rows the loop reads, is the
--- argument `t3`. Assumes nothing.
+-- from i on, and the train that is kept is that of the record before i. Assumes nothing.
 use Prim.Native.Nat.{ℕ, ◌+◌, ◌*◌, ◌≤◌, ◌-◌}
 use mathlib.Core.Bool.{Bool, true, false, ◌&&◌}
 use mathlib.Core.List.{List}

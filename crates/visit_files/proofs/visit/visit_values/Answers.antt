@@ -1,4 +1,4 @@
--- `visit_files::visit::visit_values` meets its contract: the row, the in_link and the out_link decide in this
+-- `visit_files::visit::visit_values` meets its contract: the row, the in-link and the out-link decide in this
 -- order. Assumes nothing.
 use Prim.Native.Nat.{ℕ, ◌%◌}
 use mathlib.Core.Path.{◌≡◌, sym, ◌∙◌, ap}
