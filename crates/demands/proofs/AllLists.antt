@@ -11,7 +11,7 @@ use Rattle.base.proofs.Tests.{and_l, and_r, every_head, every_tail}
 use Rattle.network.specs.Networks.{area_of}
 use Rattle.timetable.specs.Machine.{Timetable}
 use Rattle.timetable.specs.Groups.{six, Divided, divide}
-use Rattle.timetable.specs.Findings.{finding, numbers, numbers_of, own_list, pair_list, findings_in}
+use Rattle.timetable.specs.Findings.{numbers, numbers_of, own_list, pair_list, findings_in}
 use Rattle.theory.specs.Statements as theory
 use Rattle.sheet.specs.Sheets.{decode_sheet, sheet_at}
 use Rattle.sheet.proofs.SheetLaws.{area_number, all_areas}

@@ -6,7 +6,7 @@
 use Prim.Native.Nat.{ℕ}
 use mathlib.Core.Path.{◌≡◌, refl, sym, ◌∙◌, ap}
 use mathlib.Core.Bool.{Bool, true, false, not, ◌||◌}
-use mathlib.Core.List.{List, [], ◌∷◌, flat_map}
+use mathlib.Core.List.{List, [], ◌∷◌}
 use lib.Dec.{T, eqb}
 use lib.ListN.{length, length-replicate}
 use borrow.Author.Tests.{eq-eqb, eqb-true}
@@ -14,15 +14,14 @@ use Rattle.std.specs.Prelude.{if◌then◌else◌}
 use Rattle.base.specs.Lists.{every}
 use Rattle.base.specs.Runs.{run, answers}
 use Rattle.base.proofs.Tests.{flatMap_same, and_l, and_r}
-use Rattle.railway.specs.Ranges.{area_ok}
-use Rattle.network.specs.Networks.{network_refusal, listed, area_of}
+use Rattle.network.specs.Networks.{network_refusal, area_of}
 use Rattle.network.proofs.AreaLaws.{listed_placed}
 use Rattle.timetable.specs.declared.FileForm.{FileForm}
 use Rattle.timetable.specs.Formats.{accepted, bytes_of}
 use Rattle.timetable.specs.Machine.{Timetable, answer, after}
 use Rattle.timetable.specs.Groups.{six, in_group, names_group, gather, divide, divided_answer}
 use Rattle.timetable.specs.TimetableFile.{read_timetable_as, timetable_numbers_as}
-use Rattle.theory.specs.Reordering.{along, Reordering}
+use Rattle.theory.specs.Reordering.{along}
 use Rattle.theory.specs.Statements.{AnyOrder}
 use Rattle.theory.specs.Earlier as Earlier
 use Rattle.theory.specs.Releases.{Railway, early_table, unmarked, handed, older_sees, older_after, newer_answer, older_answer, both_after, two_releases, UnmarkedThere, marks_there, none_marks}
@@ -33,7 +32,7 @@ use Rattle.theory.proofs.EarlyFiles.{early_numbers, part_whole, part_said}
 use Rattle.roundtrips.proofs.TimetableTrips.{timetable_trip}
 use Rattle.fields.specs.Outcomes.{end_of}
 use Rattle.records.specs.Bytes.{zeros}
-use Rattle.sheet.specs.Sheets.{encode_sheet, decode_sheet, good_sheet, sheet_at, divided}
+use Rattle.sheet.specs.Sheets.{encode_sheet, decode_sheet, sheet_at, divided}
 use Rattle.sheet.proofs.SheetLaws.{area_number, divided_size, divided_reads, sheets_whole}
 use Rattle.machine.specs.Calls.{parts, sheet_answer, sheet_after, division_answer, division_after}
 use Rattle.machine.proofs.ByteEdits.{whole_of, divided_part, gather_agree, divided_edit_answer, divided_edit_after}

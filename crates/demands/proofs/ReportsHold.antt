@@ -22,9 +22,9 @@ use Rattle.actions.proofs.EarlyLaws.{early_facts}
 use Rattle.theory.specs.Reports.{carrying}
 use Rattle.theory.proofs.ReportsJudged.{own_future, past, own_arrival, own_departure, arrival_means, departure_means}
 use Rattle.sheet.specs.Sheets.{good_sheet}
-use Rattle.machine.specs.Calls.{refused_with, sheet_refusal, sheet_answer, sheet_after, named_good, division_refusal, division_answer, division_after}
+use Rattle.machine.specs.Calls.{sheet_refusal, sheet_answer, sheet_after, named_good, division_refusal, division_answer, division_after}
 use Rattle.machine.proofs.EditCalls.{sheet_not, division_not}
-use Rattle.demands.specs.Types.{Report, Edit, ReportArrival, ReportDeparture, Network}
+use Rattle.demands.specs.Types.{Edit, ReportArrival, ReportDeparture, Network}
 use Rattle.demands.specs.Reports.{FutureIsAnswered, TakenIsPast, SameBytes, NoByteKeepsIt}
 
 module _ (n : Network) (range : ¬ (network_refusal n ≡ 3)) (e : Edit) (ok : T (edit_ok e)) (t : T (future e)) where

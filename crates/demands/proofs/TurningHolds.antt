@@ -1,8 +1,7 @@
 -- An old file's network has one time a line (roundtrips `both_times`), so that it finds what the rules found (theory
 -- FreightAlike); the calls' lists are numbers of those. Assumes nothing.
-use mathlib.Core.Path.{◌≡◌, ap}
+use mathlib.Core.Path.{ap}
 use mathlib.Core.Bool.{◌||◌}
-use mathlib.Core.List.{List}
 use lib.Dec.{eqb}
 use Rattle.network.specs.Networks.{area_of}
 use Rattle.timetable.specs.declared.NetworkForm.{NetworkForm}
@@ -12,7 +11,6 @@ use Rattle.sheet.specs.Sheets.{decode_sheet}
 use Rattle.findings.specs.Lists.{sheet_list, area_list, two_parts, two_list}
 use Rattle.roundtrips.proofs.TurnedTrips.{turned_trips, both_times}
 use Rattle.theory.proofs.FreightAlike.{one_time_alike}
-use Rattle.demands.specs.Types.{Finding}
 use Rattle.demands.specs.Turning.{TurnedFilesFindAlike}
 
 pub turned_files_find_alike : TurnedFilesFindAlike

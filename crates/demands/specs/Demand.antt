@@ -8,7 +8,7 @@
 -- sheet Sheets (`encode_sheet`, `sheet_at`, dividing and merging), machine Calls (edits on a division) and findings
 -- Lists (lists formed from sheets). Assumes nothing.
 use Rattle.std.specs.Prelude.{ℕ, ◌≡◌, Bool, T, length}
-use mathlib.Core.List.{List, [], ◌∷◌, ◌++◌, flat_map}
+use mathlib.Core.List.{List, ◌++◌, flat_map}
 use Rattle.base.specs.Lists.{any, each_two, pairs, below, same}
 use Rattle.base.specs.Runs.{run, answers}
 use Rattle.railway.specs.Ranges.{area_ok}
@@ -16,7 +16,7 @@ use Rattle.network.specs.Networks.{network_refusal, area_of}
 use Rattle.timetable.specs.Machine.{Timetable, answer, after}
 use Rattle.timetable.specs.Groups.{six, names_group, divide}
 use Rattle.timetable.specs.Good.{Whole}
-use Rattle.timetable.specs.Findings.{finding, numbers, findings, findings_in}
+use Rattle.timetable.specs.Findings.{numbers, findings, findings_in}
 use Rattle.theory.specs.Reordering.{along, Reordering}
 use Rattle.theory.specs.Statements.{times_listed}
 use Rattle.sheet.specs.Sheets.{encode_sheet, sheet_at, divided, divide_refusal, after_divide, merge_refusal, after_merge}

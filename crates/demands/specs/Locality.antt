@@ -3,7 +3,7 @@
 -- with 3 or 7 names none. It reads and changes only the sheets of those areas." Document 02, W7: one refused with 15
 -- "names no area". Of the edit on a division, by the definitions that its contract cites; the sheets may be good or
 -- not. Nothing here is proved. Assumes nothing.
-use Rattle.std.specs.Prelude.{ℕ, ◌≡◌, ◌||◌, T, eqb, length}
+use Rattle.std.specs.Prelude.{ℕ, ◌≡◌, T, length}
 use mathlib.Core.List.{List, flat_map}
 use Rattle.std.specs.Prelude.{if◌then◌else◌}
 use Rattle.railway.specs.Ranges.{station_ok, area_ok}

@@ -12,13 +12,12 @@ use lib.ListN.{length}
 use borrow.Author.Tests.{ltb-true, eq-eqb, ne_eqb}
 use Rattle.base.specs.Choice.{◌if◌else◌}
 use Rattle.std.specs.Prelude.{if◌then◌else◌}
-use Rattle.base.specs.Lists.{any, every, each_two, rising}
+use Rattle.base.specs.Lists.{every, each_two, rising}
 use Rattle.base.proofs.Tests.{by_test, by_value, T_true, true_T, not_T_false, and_l, and_r, both}
 use Rattle.railway.specs.Ranges.{station_ok}
 use Rattle.network.specs.Networks.{listed, area_of}
 use Rattle.timetable.specs.Tables.{empty}
 use Rattle.timetable.specs.Machine.{Timetable, answer, after}
-use Rattle.timetable.specs.Refusals.{early}
 use Rattle.timetable.specs.Groups.{six, names, names_group, in_group, divide, merge, gather, divided_answer, divided_after}
 use Rattle.timetable.specs.Good.{Whole, table_good, visits_good, relations_good}
 use Rattle.timetable.proofs.Locality.{others_kept, names_listed}

@@ -16,7 +16,7 @@ use Rattle.base.specs.Lists.{any, every, each_two, count}
 use Rattle.base.proofs.Tests.{by_value, T_true, true_T, T_false, or_l, or_r, both, parts, every_head, every_tail, every_weaker, every_any}
 use Rattle.base.proofs.Sorted.{smaller, two_head, two_tail}
 use Rattle.railway.specs.Ranges.{same_station}
-use Rattle.network.specs.Networks.{network_refusal, stations_rise, stations_of, listed}
+use Rattle.network.specs.Networks.{network_refusal, stations_of, listed}
 use Rattle.network.proofs.NetworkLaws.{network_facts}
 use Rattle.timetable.specs.Tables.{Table, has_visit, without}
 use Rattle.timetable.specs.Machine.{Timetable, put, Action, Meaning, local, throughout, meaning, known, sound, refused_as, refusal, changed, removed_by, answer, after}

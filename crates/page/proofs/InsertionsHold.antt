@@ -2,9 +2,8 @@
 -- nothing.
 use mathlib.Core.Path.{◌≡◌, sym, refl}
 use native.Mathlib.Omega.{arith}
-use lib.ListN.{length, take, drop, length-drop}
+use lib.ListN.{length, drop, length-drop}
 use lib.Seq.{length-take-le}
-use Prim.Native.Nat.{◌≤◌}
 use Rattle.page.specs.Insertions.{place, size, lent, StepsAlone, VisitsPut, RelationsPut}
 use Rattle.page.proofs.RecordsPut.{put_done}
 use Rattle.page.proofs.ChangeLaws.{Fitting, add_visit_page, moved_visit_page, add_relation_page, moved_relation_page}

@@ -2,24 +2,13 @@
 -- in range, and said in that form, so a visit has no mark (EditTrips, TimetableTrips: `only`); the newest form says
 -- anything, so the newest file of it reads back to it (`back`). What is in range and said in the earlier form is read
 -- back from its earlier file. Assumes nothing.
-use Prim.Native.Nat.{ℕ, ◌≤◌}
-use mathlib.Core.Path.{◌≡◌, sym, ◌∙◌, ap}
-use mathlib.Core.Bool.{not}
-use mathlib.Core.List.{List}
-use lib.Dec.{T}
+use Prim.Native.Nat.{ℕ}
+use mathlib.Core.Path.{sym, ◌∙◌, ap}
 use lib.ListN.{length}
-use Rattle.base.specs.Lists.{every}
-use Rattle.numbers.specs.Numbers.{width}
-use Rattle.railway.specs.Edits.{edit_ok}
-use Rattle.network.specs.Networks.{network_refusal}
 use Rattle.timetable.specs.declared.FileForm.{FileForm}
-use Rattle.timetable.specs.Formats.{accepted, bytes_of, Placed}
+use Rattle.timetable.specs.Formats.{accepted}
 use Rattle.timetable.specs.FileForms.{newest_form, mark_said}
-use Rattle.timetable.specs.EditsFile.{edit_said, read_edits_as, edits_numbers}
-use Rattle.timetable.specs.Machine.{Timetable}
-use Rattle.timetable.specs.Good.{Whole}
-use Rattle.timetable.specs.TimetableFile.{visit_said, read_timetable_as, timetable_numbers_as}
-use Rattle.roundtrips.specs.Types.{Station, Edit, Network}
+use Rattle.timetable.specs.TimetableFile.{visit_said}
 use Rattle.roundtrips.specs.Earlier.{edits_file, EarlierEdits, SaidEdits, EarlierTimetables, UnmarkedTimetables}
 use Rattle.roundtrips.proofs.EditTrips.{edits_said_newest, edits_trip}
 use Rattle.roundtrips.proofs.TimetableTrips.{timetable_said_newest, timetable_trip}

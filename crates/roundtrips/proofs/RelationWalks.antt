@@ -18,7 +18,7 @@ use Rattle.railway.specs.Ranges.{interval_ok}
 use Rattle.railway.specs.Relations.{used, trains_ok, pair_ok, relation_ok, group_key, key}
 use Rattle.railway.specs.Edits.{station_relation_ok}
 use Rattle.timetable.specs.Tables.{packed}
-use Rattle.timetable.specs.Formats.{least, floor_after, compared}
+use Rattle.timetable.specs.Formats.{floor_after, compared}
 use Rattle.timetable.specs.EditsFile.{trains_format, pair_of, group_of, relation_of, most_trains, trains_part, train_count_part, interval_part, relation_entry, group_numbers, relation_numbers}
 use Rattle.timetable.specs.EditsFile.{station_relation_entry, station_relation_numbers}
 use Rattle.timetable.proofs.TableLaws.{Further, Places, places, places_fit, used_two, used_three, used_four}

@@ -3,17 +3,17 @@
 -- Assumes nothing.
 use Prim.Native.Nat.{ℕ}
 use mathlib.Core.Path.{◌≡◌, refl, sym, ◌∙◌, ap}
-use mathlib.Core.Bool.{Bool, true, false, not, ◌&&◌}
+use mathlib.Core.Bool.{Bool, true, false, not}
 use mathlib.Core.List.{List, [], ◌∷◌, ◌++◌, map, flat_map}
 use lib.Dec.{T}
 use lib.ListN.{length, length-map}
 use Rattle.std.specs.Prelude.{if◌then◌else◌}
 use Rattle.base.specs.Lists.{every, each_two, rising}
-use Rattle.base.proofs.Tests.{by_value, true_T, T_true, both}
+use Rattle.base.proofs.Tests.{true_T}
 use Rattle.network.specs.Networks.{stations_of, listed}
 use Rattle.timetable.specs.declared.FileForm.{FileForm}
 use Rattle.timetable.specs.FileForms.{mark_numbers, mark_said}
-use Rattle.timetable.specs.Tables.{Entry, Table, empty}
+use Rattle.timetable.specs.Tables.{Entry, empty}
 use Rattle.timetable.specs.Machine.{Timetable}
 use Rattle.timetable.specs.Groups.{Grouping, in_group, divide}
 use Rattle.timetable.specs.Good.{table_good, visits_good, relations_good, Whole}

@@ -1,11 +1,11 @@
 -- Of a line with one time for all trains the least time is that time, whatever the train; so rule 5 is the rule as it
 -- was, the table of rules is the same, and so is each list. Assumes nothing.
 use Prim.Native.Nat.{ℕ}
-use mathlib.Core.Path.{◌≡◌, refl, sym, ◌∙◌, ap, fun_ext}
+use mathlib.Core.Path.{◌≡◌, refl, sym, ap, fun_ext}
 use mathlib.Core.Bool.{Bool, true, false}
 use mathlib.Core.List.{List, [], ◌∷◌, ◌++◌, map, flat_map}
 use lib.ListN.{take, drop}
-use mathlib.Core.Option.{Option, none, some}
+use mathlib.Core.Option.{some}
 use lib.Dec.{T, ltb, eqb}
 use borrow.Author.Tests.{eqb-true}
 use Rattle.base.specs.Choice.{◌if◌else◌}
@@ -16,7 +16,6 @@ use Rattle.railway.specs.Ranges.{is_freight, same_line}
 use Rattle.railway.specs.declared.sorts.Line.{Line}
 use Rattle.railway.specs.declared.sorts.Train.{Train}
 use Rattle.railway.specs.declared.visit.Outward.{Outward}
-use Rattle.railway.specs.declared.visit.OutLink.{OutLink}
 use Rattle.railway.specs.declared.visit.Visit.{Visit}
 use Rattle.network.specs.declared.LineRow.{LineRow}
 use Rattle.network.specs.Networks.{line_rows, line_row, least_time, same_times, stations_of}
@@ -24,7 +23,7 @@ use Rattle.timetable.specs.Visits.{leaves}
 use Rattle.timetable.specs.Tables.{Entry, Table}
 use Rattle.timetable.specs.Machine.{Timetable}
 use Rattle.timetable.specs.Rules.{breaks_5}
-use Rattle.timetable.specs.Findings.{Spanning, Rule, of_one, unused, rules, found_by_all, at_station, spanning, picked, findings, inside, group_findings, between, pair_findings}
+use Rattle.timetable.specs.Findings.{Spanning, of_one, unused, rules, found_by_all, at_station, spanning, picked, findings, inside, group_findings, between, pair_findings}
 use Rattle.theory.specs.Types.{Station, Network}
 use Rattle.theory.specs.Freight.{broke_5, rules_had, found_had, OneTimeAlike}
 

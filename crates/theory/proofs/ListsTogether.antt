@@ -9,7 +9,7 @@ use native.Mathlib.Omega.{arith}
 use lib.Dec.{T, eqb, eqb→eq, T_not, not_T}
 use Rattle.std.specs.Prelude.{if◌then◌else◌}
 use Rattle.base.specs.Lists.{every, keep, count, each_two, same}
-use Rattle.base.proofs.Tests.{T_true, true_T, and_l, and_r, or_l, or_r, or_cases, parts, every_head, every_tail, every_cons, every_weaker, every_both, every_append, every_keep, kept_passes}
+use Rattle.base.proofs.Tests.{T_true, and_l, and_r, or_l, or_r, or_cases, parts, every_head, every_tail, every_cons, every_weaker, every_both, every_append, every_keep, kept_passes}
 use Rattle.base.proofs.Counts.{count_append, keep_none, keep_every}
 use Rattle.base.proofs.Sorted.{two_head, two_tail, two_cons, two_append, two_keep, same_refl, same_equal, below_itself, below_trans, below_total}
 use Rattle.timetable.specs.Findings.{numbers}

@@ -6,8 +6,8 @@ use mathlib.Core.Path.{◌≡◌, refl, sym, ◌∙◌, ap, ap₂}
 use mathlib.Core.Bool.{Bool, true, false, not, ◌&&◌}
 use mathlib.Core.List.{List, [], ◌∷◌, ◌++◌, map, flat_map}
 use lib.Dec.{T, T_not, not_T}
-use Rattle.base.specs.Lists.{any, every, keep, first, is}
-use Rattle.base.proofs.Tests.{by_test, by_value, and_l, and_r, both, or_l, or_r, or_cases, parts, any_weaker, every_head, every_tail, every_weaker, flatMap_same, first_any}
+use Rattle.base.specs.Lists.{every, keep}
+use Rattle.base.proofs.Tests.{by_test, by_value, and_l, and_r, both, or_l, or_r, or_cases, parts, any_weaker, every_weaker, flatMap_same, first_any}
 use Rattle.base.proofs.Counts.{keep_two, keep_flatMap, keep_none, keep_swap, keep_map}
 use Rattle.base.proofs.Sorted.{two_map, two_keep}
 use Rattle.railway.specs.Ranges.{same_station, same_line}

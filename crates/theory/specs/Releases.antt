@@ -8,7 +8,7 @@ use Rattle.std.specs.Prelude.{ℕ, Bool, true, false, not, ◌&&◌, ◌||◌, L
 use Rattle.std.specs.Prelude.{if◌then◌else◌}
 use Rattle.base.specs.Lists.{every}
 use Rattle.base.specs.Runs.{run, answers}
-use Rattle.timetable.specs.Tables.{Entry, Table, empty}
+use Rattle.timetable.specs.Tables.{Table}
 use Rattle.timetable.specs.Machine.{Timetable, local, throughout, meaning, answer, after}
 use Rattle.timetable.specs.EditsFile.{mark_of}
 use Rattle.timetable.specs.Groups.{Grouping, names_group, in_group, Divided, divide, merge, gather, divided_answer, divided_after}

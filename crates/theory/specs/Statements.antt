@@ -10,7 +10,7 @@
 -- timetable after all the edits, `answers (after n) (answer n) es m` the list of their answers. The same with
 -- `divided_after` and `divided_answer` is the work on a division. A record collects what is promised together; of what
 -- it is promised stands at the end of the file. Assumes nothing.
-use Rattle.std.specs.Prelude.{◌||◌, ◌≡◌, ℕ, ◌+◌, T, eqb, ltb}
+use Rattle.std.specs.Prelude.{◌≡◌, ℕ, ◌+◌, T, eqb, ltb}
 use mathlib.Core.List.{List, ◌++◌, flat_map}
 use Rattle.base.specs.Lists.{any, count, each_two, pairs, below, same}
 use Rattle.base.specs.Runs.{run, answers}

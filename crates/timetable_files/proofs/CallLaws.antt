@@ -9,7 +9,7 @@ use lib.ListN.{length}
 use borrow.Author.Tests.{eq-eqb, ne_eqb}
 use Rattle.network.specs.Networks.{network_refusal}
 use Rattle.timetable.specs.declared.FileForm.{FileForm}
-use Rattle.timetable.specs.Formats.{Outcome, refused, behind, read_file}
+use Rattle.timetable.specs.Formats.{Outcome, refused, read_file}
 use Rattle.timetable.specs.Machine.{Timetable}
 use Rattle.timetable.specs.NetworkFile.{under}
 use Rattle.timetable.specs.TimetableFile.{read_timetable_as}

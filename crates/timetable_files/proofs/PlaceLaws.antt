@@ -1,19 +1,18 @@
 -- The input of `inspect` is refused with a number that is not 0, at a place of it or at its end; so an answer of 0 says
 -- that it was accepted. Reading never goes past the end (network_files), and entry by entry the place is one of those
 -- read. Assumes nothing.
-use Prim.Native.Nat.{ℕ, ◌-◌, ◌≤◌}
+use Prim.Native.Nat.{ℕ, ◌≤◌}
 use mathlib.Core.Path.{◌≡◌, refl, sym, ◌∙◌, ap}
-use mathlib.Core.Bool.{Bool, true, false, not}
+use mathlib.Core.Bool.{Bool, true, false}
 use mathlib.Core.List.{List, [], ◌∷◌}
 use native.Mathlib.Omega.{arith}
 use lib.Dec.{leb, eqb, leb→le}
 use lib.ListN.{length}
 use borrow.Author.Tests.{eqb-false}
 use Rattle.std.specs.Prelude.{if◌then◌else◌}
-use Rattle.base.specs.Lists.{first, within}
 use Rattle.base.proofs.Tests.{every_head, every_tail}
 use Rattle.timetable.specs.declared.FileForm.{FileForm}
-use Rattle.timetable.specs.Formats.{Format, done, field, Outcome, accepted, refused, ◌and_then◌, field_at, behind, read, ended, read_file, entries, Placed, placed}
+use Rattle.timetable.specs.Formats.{Format, done, field, Outcome, accepted, refused, ◌and_then◌, field_at, behind, read, ended, read_file, Placed, placed}
 use Rattle.timetable.specs.NetworkFile.{Listed, network_format}
 use Rattle.timetable.specs.NetworkFile.{network_of, network_fault, unless_fault}
 use Rattle.timetable.specs.EditsFile.{station_relation_entry}

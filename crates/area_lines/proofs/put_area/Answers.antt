@@ -3,7 +3,6 @@
 use Prim.Native.Nat.{ℕ}
 use mathlib.Core.Path.{sym}
 use lib.ListN.{length-replicate}
-use borrow.Author.Rules.{rules}
 use Rattle.builder.specs.between.Builder.{list_most}
 use Rattle.area_lines.proofs.put_area.Goals as goal
 

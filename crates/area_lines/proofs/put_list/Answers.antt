@@ -3,7 +3,6 @@
 use Prim.Native.Nat.{◌*◌, ◌/◌, ◌≤◌}
 use native.Mathlib.Omega.{arith}
 use lib.ListN.{length}
-use borrow.Author.Rules.{rules}
 use Rattle.text.specs.between.Lines.{of_areas}
 use Rattle.text.proofs.PutParts.{puts_as}
 use Rattle.text.proofs.WithinBounds.{findings_there}

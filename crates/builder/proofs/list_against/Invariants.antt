@@ -1,17 +1,13 @@
 -- `builder::list_against` meets its contract. The loop's invariant: what is left to put is t with the trains
 -- from index i on. Assumes nothing.
-use native.Mathlib.Omega.{arith}
-use borrow.Author.Rules.{rules}
 use Prim.Native.Nat.{◌+◌, ◌*◌, ◌-◌, ◌≤◌}
-use mathlib.Core.Path.{◌≡◌, refl, ◌∙◌}
+use mathlib.Core.Path.{◌≡◌}
 use lib.ListN.{length, drop}
 use Rattle.page.specs.between.Changes.{table_in}
 use Rattle.rules.specs.between.Parts.{entry}
-use Rattle.page.proofs.EntryLaws.{entry_of, entry_parts, entries_over}
 use Rattle.builder.specs.between.Builder.{against}
 use Rattle.builder.specs.between.Builder.{visit_most}
-use Rattle.builder.proofs.FindingsPut.{Left, left_start, left_on, left_end}
-use Rattle.builder.proofs.BuildLaws.{against_next, against_none}
+use Rattle.builder.proofs.FindingsPut.{Left}
 use Rattle.builder.proofs.list_against.Given as goal
 
 abbrev pub invariant-loop-i : goal.invariant-loop-i

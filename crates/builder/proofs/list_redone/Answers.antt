@@ -2,16 +2,15 @@
 -- stations from row i on. Assumes nothing.
 use native.Mathlib.Omega.{arith}
 use borrow.Author.Rules.{rules}
-use Prim.Native.Nat.{◌*◌, ◌-◌, ◌≤◌}
 use mathlib.Core.Path.{◌≡◌, refl}
 use mathlib.Core.List.{flat_map}
-use lib.ListN.{length, length-map, take, drop}
+use lib.ListN.{length, take}
 use Rattle.network.specs.Networks.{blank_station}
 use Rattle.rule_tests.specs.between.Tests.{held}
 use Rattle.builder.specs.between.Builder.{redone_station, redone_numbers}
 use Rattle.builder.specs.between.Builder.{list_most, station_most}
 use Rattle.timetable.proofs.BuffersFilled.{puts_as}
-use Rattle.builder.proofs.FindingsPut.{Left, left_start, left_on, left_end}
+use Rattle.builder.proofs.FindingsPut.{left_start, left_on, left_end}
 use Rattle.builder.proofs.BuildLaws.{rows_next, rows_over, stations_are}
 use Rattle.builder.proofs.list_redone.Goals as goal
 

@@ -1,18 +1,13 @@
 -- `builder::list_redone` meets its contract. The loop's invariant: what is left to put is what is redone at the
 -- stations from row i on. Assumes nothing.
-use native.Mathlib.Omega.{arith}
-use borrow.Author.Rules.{rules}
 use Prim.Native.Nat.{◌*◌, ◌-◌, ◌≤◌}
-use mathlib.Core.Path.{◌≡◌, refl}
+use mathlib.Core.Path.{◌≡◌}
 use mathlib.Core.List.{flat_map}
-use lib.ListN.{length, length-map, take, drop}
-use Rattle.network.specs.Networks.{blank_station}
+use lib.ListN.{length, take, drop}
 use Rattle.rule_tests.specs.between.Tests.{held}
-use Rattle.builder.specs.between.Builder.{redone_station, redone_numbers}
-use Rattle.builder.specs.between.Builder.{list_most, station_most}
-use Rattle.timetable.proofs.BuffersFilled.{puts_as}
-use Rattle.builder.proofs.FindingsPut.{Left, left_start, left_on, left_end}
-use Rattle.builder.proofs.BuildLaws.{rows_next, rows_over, stations_are}
+use Rattle.builder.specs.between.Builder.{redone_station}
+use Rattle.builder.specs.between.Builder.{station_most}
+use Rattle.builder.proofs.FindingsPut.{Left}
 use Rattle.builder.proofs.list_redone.Given as goal
 
 abbrev pub invariant-loop-i : goal.invariant-loop-i

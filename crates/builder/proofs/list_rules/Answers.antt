@@ -2,15 +2,14 @@
 -- on list, up to the end. Assumes nothing.
 use native.Mathlib.Omega.{arith}
 use borrow.Author.Rules.{rules}
-use Prim.Native.Nat.{◌+◌, ◌-◌, ◌≤◌}
-use mathlib.Core.Path.{◌≡◌, refl}
-use lib.ListN.{length}
+use Prim.Native.Nat.{◌+◌, ◌-◌}
+use mathlib.Core.Path.{refl}
 use Rattle.page.specs.between.Changes.{table_in}
 use Rattle.rule_tests.specs.between.Tests.{held}
 use Rattle.rule_tests.proofs.HeldLaws.{page_read}
 use Rattle.builder.specs.between.Builder.{visits_most, station_most}
 use Rattle.timetable.proofs.BuffersFilled.{puts_as}
-use Rattle.builder.proofs.FindingsPut.{Left, left_start, left_on, left_end}
+use Rattle.builder.proofs.FindingsPut.{left_start, left_on, left_end}
 use Rattle.builder.proofs.BuildLaws.{rules_left, rules_next, rules_over, rules_all}
 use Rattle.builder.proofs.MostLaws.{page_bound}
 use Rattle.builder.proofs.list_rules.Goals as goal

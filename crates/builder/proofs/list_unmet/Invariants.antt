@@ -1,16 +1,11 @@
 -- `builder::list_unmet` meets its contract. The loop's invariant: what is left to put is the relations from
 -- index i on. Assumes nothing.
-use native.Mathlib.Omega.{arith}
-use borrow.Author.Rules.{rules}
 use Prim.Native.Nat.{◌+◌, ◌*◌, ◌-◌, ◌≤◌}
-use mathlib.Core.Path.{◌≡◌, refl, ◌∙◌}
+use mathlib.Core.Path.{◌≡◌}
 use lib.ListN.{length, drop}
 use Rattle.page.specs.between.Changes.{table_in}
-use Rattle.page.proofs.EntryLaws.{relation_of, relations_over}
 use Rattle.builder.specs.between.Builder.{unmet_numbers}
-use Rattle.builder.specs.between.Builder.{relations_most}
-use Rattle.builder.proofs.FindingsPut.{Left, left_start, left_on, left_end}
-use Rattle.builder.proofs.BuildLaws.{unmet_next, unmet_none}
+use Rattle.builder.proofs.FindingsPut.{Left}
 use Rattle.builder.proofs.list_unmet.Given as goal
 
 abbrev pub invariant-loop-i : goal.invariant-loop-i

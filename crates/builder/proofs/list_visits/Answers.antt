@@ -2,15 +2,13 @@
 -- of the visits from index i on. Assumes nothing.
 use native.Mathlib.Omega.{arith}
 use borrow.Author.Rules.{rules}
-use Prim.Native.Nat.{◌+◌, ◌*◌, ◌-◌, ◌≤◌}
-use mathlib.Core.Path.{◌≡◌, refl}
-use lib.ListN.{length, drop}
+use mathlib.Core.Path.{refl}
 use Rattle.page.specs.between.Changes.{table_in}
 use Rattle.rule_tests.specs.between.Tests.{held}
 use Rattle.page.proofs.EntryLaws.{entries_over}
 use Rattle.builder.specs.between.Builder.{walk}
 use Rattle.builder.specs.between.Builder.{visit_most, visits_most}
-use Rattle.builder.proofs.FindingsPut.{Left, left_start, left_on, left_end}
+use Rattle.builder.proofs.FindingsPut.{left_start, left_on, left_end}
 use Rattle.builder.proofs.BuildLaws.{walk_next, walk_none}
 use Rattle.builder.proofs.list_visits.Goals as goal
 

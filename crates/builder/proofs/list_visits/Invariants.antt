@@ -1,17 +1,13 @@
 -- `builder::list_visits` meets its contract. The loop's invariant: what is left to put is what the rule tells
 -- of the visits from index i on. Assumes nothing.
-use native.Mathlib.Omega.{arith}
-use borrow.Author.Rules.{rules}
 use Prim.Native.Nat.{◌+◌, ◌*◌, ◌-◌, ◌≤◌}
-use mathlib.Core.Path.{◌≡◌, refl}
+use mathlib.Core.Path.{◌≡◌}
 use lib.ListN.{length, drop}
 use Rattle.page.specs.between.Changes.{table_in}
 use Rattle.rule_tests.specs.between.Tests.{held}
-use Rattle.page.proofs.EntryLaws.{entries_over}
 use Rattle.builder.specs.between.Builder.{walk}
-use Rattle.builder.specs.between.Builder.{visit_most, visits_most}
-use Rattle.builder.proofs.FindingsPut.{Left, left_start, left_on, left_end}
-use Rattle.builder.proofs.BuildLaws.{walk_next, walk_none}
+use Rattle.builder.specs.between.Builder.{visit_most}
+use Rattle.builder.proofs.FindingsPut.{Left}
 use Rattle.builder.proofs.list_visits.Given as goal
 
 abbrev pub invariant-loop-i : goal.invariant-loop-i

@@ -1,9 +1,6 @@
 -- `division::area_sheet` meets its contract: the tests that led to each return decide the part. Assumes nothing.
 use mathlib.Core.Path.{sym, ◌∙◌}
-use native.Mathlib.Omega.{arith}
 use Rattle.division.proofs.CopyLaws.{part_is, part_none, part_short}
-use Rattle.sheet.proofs.FillLaws.{area_bounds}
-use borrow.Author.Rules.{rules}
 use Rattle.division.proofs.area_sheet.Goals as goal
 
 pub returns-then-valid : goal.returns-then-valid

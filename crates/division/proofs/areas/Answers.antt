@@ -2,7 +2,6 @@
 use mathlib.Core.List.{[], ◌∷◌}
 use Rattle.sheet.specs.Sheets.{sixteen}
 use Rattle.division.specs.between.Copies.{areas_in}
-use borrow.Author.Rules.{rules}
 use Rattle.division.proofs.areas.Goals as goal
 
 pub returns : goal.returns

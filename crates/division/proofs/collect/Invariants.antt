@@ -1,12 +1,9 @@
 -- `division::collect` meets its contract. The loop's invariant: the first i pages are those of the sheet to be made.
 -- Assumes nothing.
 use Prim.Native.Nat.{◌*◌, ◌-◌, ◌≤◌}
-use mathlib.Core.Path.{◌≡◌, refl, sym, ◌∙◌}
-use native.Mathlib.Omega.{arith}
-use lib.ListN.{length, take, drop}
+use mathlib.Core.Path.{◌≡◌}
+use lib.ListN.{length, take}
 use Rattle.division.specs.between.Copies.{collected}
-use Rattle.division.proofs.CopyLaws.{high_at, collected_size, collected_row}
-use Rattle.sheet.proofs.FillLaws.{filled_next, filled_length, part_size, filled}
 use Rattle.division.proofs.collect.Given as goal
 
 abbrev pub invariant-loop-i : goal.invariant-loop-i

@@ -7,7 +7,6 @@ use lib.ListN.{length, take, drop}
 use Rattle.records.specs.Bytes.{zeros}
 use Rattle.division.proofs.CopyLaws.{collects, collects_none}
 use Rattle.sheet.proofs.FillLaws.{overwrites, part_size}
-use borrow.Author.Rules.{rules}
 use Rattle.division.proofs.collect_page.Goals as goal
 
 pub returns-then-a-eq0 : goal.returns-then-a-eq0

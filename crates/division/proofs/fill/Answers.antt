@@ -1,6 +1,6 @@
 -- `division::fill` meets its contract. The loop's invariant: the first i pages are those of the sheet to be made. Each
 -- turn fills one page more; after the last turn all are filled. Assumes nothing.
-use Prim.Native.Nat.{◌*◌, ◌-◌, ◌≤◌}
+use Prim.Native.Nat.{◌*◌}
 use mathlib.Core.Path.{◌≡◌, refl, sym, ◌∙◌}
 use native.Mathlib.Nat.{add-sub_cancel_left}
 use native.Mathlib.Omega.{arith}

@@ -1,13 +1,9 @@
 -- `division::fill` meets its contract. The loop's invariant: the first i pages are those of the sheet to be made. Each
 -- turn fills one page more; after the last turn all are filled. Assumes nothing.
 use Prim.Native.Nat.{◌*◌, ◌-◌, ◌≤◌}
-use mathlib.Core.Path.{◌≡◌, refl, sym, ◌∙◌}
-use native.Mathlib.Nat.{add-sub_cancel_left}
-use native.Mathlib.Omega.{arith}
-use lib.ListN.{length, take, drop}
+use mathlib.Core.Path.{◌≡◌}
+use lib.ListN.{length, take}
 use Rattle.division.specs.between.Copies.{spread}
-use Rattle.division.proofs.CopyLaws.{spread_size, spread_page}
-use Rattle.sheet.proofs.FillLaws.{filled_next, filled_length, part_size, filled}
 use Rattle.division.proofs.fill.Given as goal
 
 abbrev pub invariant-loop-i : goal.invariant-loop-i

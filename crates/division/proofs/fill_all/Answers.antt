@@ -1,6 +1,6 @@
 -- `division::fill_all` meets its contract. The loop's invariant: the first i sheets are those of the division to be
 -- made, and a is the next area. Assumes nothing.
-use Prim.Native.Nat.{◌+◌, ◌*◌, ◌-◌, ◌≤◌}
+use Prim.Native.Nat.{◌*◌}
 use mathlib.Core.Path.{◌≡◌, refl, sym, ◌∙◌, ap}
 use native.Mathlib.Omega.{arith}
 use lib.ListN.{length, take, drop}

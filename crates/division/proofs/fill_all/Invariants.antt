@@ -1,12 +1,9 @@
 -- `division::fill_all` meets its contract. The loop's invariant: the first i sheets are those of the division to be
 -- made, and a is the next area. Assumes nothing.
 use Prim.Native.Nat.{◌+◌, ◌*◌, ◌-◌, ◌≤◌}
-use mathlib.Core.Path.{◌≡◌, refl, sym, ◌∙◌, ap}
-use native.Mathlib.Omega.{arith}
-use lib.ListN.{length, take, drop}
-use Rattle.division.specs.between.Copies.{spread, spread_all}
-use Rattle.division.proofs.CopyLaws.{spread_all_size, spread_sheet}
-use Rattle.sheet.proofs.FillLaws.{filled_next, filled_length, part_size, filled}
+use mathlib.Core.Path.{◌≡◌}
+use lib.ListN.{length, take}
+use Rattle.division.specs.between.Copies.{spread_all}
 use Rattle.division.proofs.fill_all.Given as goal
 
 abbrev pub invariant-loop-i : goal.invariant-loop-i

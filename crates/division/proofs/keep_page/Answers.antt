@@ -1,9 +1,7 @@
 -- `division::keep_page` meets its contract: each arm is one call, on parts of 512 bytes. Assumes nothing.
-use mathlib.Core.Path.{◌∙◌, ap}
+use mathlib.Core.Path.{◌∙◌}
 use native.Mathlib.Omega.{arith}
-use Rattle.records.specs.Bytes.{zeros}
 use Rattle.sheet.proofs.FillLaws.{overwrites}
-use borrow.Author.Rules.{rules}
 use Rattle.division.proofs.keep_page.Goals as goal
 
 pub returns-then-kept : goal.returns-then-kept

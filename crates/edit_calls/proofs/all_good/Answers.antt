@@ -2,7 +2,6 @@
 use mathlib.Core.Path.{sym}
 use borrow.Author.Tests.{eq-eqb, ne_eqb}
 use Rattle.edit_calls.specs.Lists.{known_good}
-use borrow.Author.Rules.{rules}
 use Rattle.edit_calls.proofs.all_good.Goals as goal
 
 pub returns-then-refusal-eq0 : goal.returns-then-refusal-eq0

@@ -1,10 +1,6 @@
 -- `edit_calls::edit_once` meets its contract: on a division that is known to be good the edit that tests no sheet is
 -- the single call. Assumes nothing.
-use mathlib.Core.Path.{sym, ◌∙◌}
-use mathlib.Core.Bool.{false}
-use Rattle.base.proofs.Tests.{true_T}
 use Rattle.edit_calls.proofs.KnownGood.{known_kept}
-use borrow.Author.Rules.{rules}
 use Rattle.edit_calls.proofs.edit_once.Goals as goal
 
 pub returns-then-tested : goal.returns-then-tested

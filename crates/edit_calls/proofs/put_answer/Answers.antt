@@ -1,10 +1,7 @@
 -- `edit_calls::put_answer` meets its contract: two numbers set in turn. Assumes nothing.
 use mathlib.Core.Path.{refl}
-use native.Mathlib.Omega.{arith}
-use lib.ListN.{length-set}
 use Rattle.timetable.specs.Outputs.{put}
 use Rattle.edit_calls.specs.Lists.{answer_numbers}
-use borrow.Author.Rules.{rules}
 use Rattle.edit_calls.proofs.put_answer.Goals as goal
 
 pub returns : goal.returns

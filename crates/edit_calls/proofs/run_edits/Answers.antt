@@ -1,17 +1,15 @@
 -- `edit_calls::run_edits` meets its contract: a run of all edits from the start is a run of those from i on, on what
 -- the first i left; and so are the answers. Assumes nothing.
-use Prim.Native.Nat.{ℕ, suc, ◌+◌, ◌-◌, ◌*◌, ◌≤◌}
+use Prim.Native.Nat.{ℕ, suc, ◌+◌, ◌-◌, ◌*◌}
 use mathlib.Core.Path.{◌≡◌, refl, sym, ◌∙◌, ap}
-use mathlib.Core.Bool.{true}
 use mathlib.Core.List.{List, []}
 use native.Mathlib.Omega.{arith}
 use borrow.Author.Rules.{rules}
-use lib.ListN.{length}
 use Rattle.timetable.specs.Outputs.{put}
 use Rattle.edit_files.specs.Answers.{next_outcome}
 use Rattle.edit_calls.specs.Types.{Edit}
-use Rattle.edit_calls.specs.Lists.{known_good, answers_of, division_of}
-use Rattle.edit_calls.specs.between.Taken.{edits_at, can_be_read}
+use Rattle.edit_calls.specs.Lists.{answers_of, division_of}
+use Rattle.edit_calls.specs.between.Taken.{edits_at}
 use Rattle.edit_calls.proofs.TakenLaws.{rest_read, not_stopped, none_taken, division_none, answers_none, turn_division, turn_answers}
 use Rattle.edit_calls.proofs.run_edits.Goals as goal
 

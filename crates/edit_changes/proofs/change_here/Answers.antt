@@ -1,5 +1,4 @@
 -- `edit_changes::change_here` meets its contract: each arm is the change of its edit. Assumes nothing.
-use borrow.Author.Rules.{rules}
 use Rattle.visits.specs.between.Changes.{change_by}
 use Rattle.edit_changes.specs.between.EditPages.{here_page}
 use Rattle.edit_changes.proofs.change_here.Goals as goal

@@ -2,7 +2,7 @@
 -- Assumes nothing.
 use Prim.Native.Nat.{ℕ}
 use mathlib.Core.Path.{◌≡◌, refl, ◌∙◌, ap}
-use mathlib.Core.List.{List, [], ◌∷◌}
+use mathlib.Core.List.{List}
 use Rattle.railway.specs.declared.visit.InLink.{InLink}
 use Rattle.railway.specs.declared.visit.OutLink.{OutLink}
 use Rattle.railway.specs.declared.edit.Deletion.{Deletion}
@@ -12,7 +12,6 @@ use Rattle.visits.specs.between.Changes.{change_by}
 use Rattle.edit_changes.specs.Types.{Edit, Place, Prepend, Append, DeleteFirst, DeleteLast, Amend}
 use Rattle.edit_changes.specs.Types.{ReportArrival, ReportDeparture, AddRelation, RemoveRelation, DeleteTrain}
 use Rattle.edit_changes.specs.between.EditPages.{page_change, there_page}
-use borrow.Author.Rules.{rules}
 use Rattle.edit_changes.proofs.change_there.Goals as goal
 
 -- an edit of none of the kinds that carry a second station

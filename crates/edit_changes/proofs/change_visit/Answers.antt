@@ -1,5 +1,4 @@
 -- `edit_changes::change_visit` meets its contract: the train's visit is written over, if it is there. Assumes nothing.
-use borrow.Author.Rules.{rules}
 use mathlib.Core.Path.{sym, ◌∙◌, ap}
 use Rattle.railway.specs.declared.visit.Visit.{Visit}
 use Rattle.visits.specs.between.Changes.{change_by}

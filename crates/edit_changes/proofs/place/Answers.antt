@@ -1,5 +1,4 @@
 -- `edit_changes::place` meets its contract: the planned visit is put in. Assumes nothing.
-use borrow.Author.Rules.{rules}
 use mathlib.Core.Path.{◌∙◌, ap}
 use Rattle.railway.specs.declared.visit.Visit.{Visit}
 use Rattle.page.specs.between.Changes.{page_add_visit}

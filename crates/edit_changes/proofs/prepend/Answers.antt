@@ -1,5 +1,4 @@
 -- `edit_changes::prepend` meets its contract: the planned visit is put in with its link. Assumes nothing.
-use borrow.Author.Rules.{rules}
 use mathlib.Core.Path.{◌∙◌, ap, ap₂}
 use Rattle.railway.specs.declared.visit.Visit.{Visit}
 use Rattle.timetable.specs.Visits.{with_out}

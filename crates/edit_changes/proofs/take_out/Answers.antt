@@ -1,6 +1,5 @@
 -- `edit_changes::take_out` meets its contract: the visit is removed, and then the train leaves the relations. Assumes
 -- nothing.
-use borrow.Author.Rules.{rules}
 use mathlib.Core.Path.{◌∙◌, ap}
 use Rattle.page.specs.between.Changes.{page_lose_train}
 use Rattle.edit_changes.specs.between.EditPages.{page_without}

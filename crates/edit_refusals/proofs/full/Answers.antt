@@ -1,5 +1,4 @@
 -- `edit_refusals::full` meets its contract: the count is the table's. Assumes nothing.
-use borrow.Author.Rules.{rules}
 use Rattle.timetable.specs.Tables.{full_visits}
 use Rattle.edit_refusals.proofs.full.Goals as goal
 

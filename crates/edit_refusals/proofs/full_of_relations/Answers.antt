@@ -1,5 +1,4 @@
 -- `edit_refusals::full_of_relations` meets its contract: the count is the table's. Assumes nothing.
-use borrow.Author.Rules.{rules}
 use Rattle.timetable.specs.Tables.{full_relations}
 use Rattle.edit_refusals.proofs.full_of_relations.Goals as goal
 

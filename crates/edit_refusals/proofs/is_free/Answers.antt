@@ -1,6 +1,5 @@
 -- `edit_refusals::is_free` meets its contract: by which end it is. Assumes nothing.
 use Rattle.edit_refusals.specs.between.Refusing.{lacks_link}
-use borrow.Author.Rules.{rules}
 use Rattle.edit_refusals.proofs.is_free.Goals as goal
 
 pub returns-then-first : goal.returns-then-first

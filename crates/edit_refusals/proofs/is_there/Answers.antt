@@ -1,5 +1,4 @@
 -- `edit_refusals::is_there` meets its contract: the look-up's answer says it. Assumes nothing.
-use borrow.Author.Rules.{rules}
 use mathlib.Core.Path.{sym}
 use Rattle.timetable.specs.Tables.{visit_of}
 use Rattle.page.specs.between.Changes.{table_in}

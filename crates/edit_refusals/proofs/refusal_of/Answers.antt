@@ -1,5 +1,4 @@
 -- `edit_refusals::refusal_of` meets its contract: each arm is the refusal of its edit. Assumes nothing.
-use borrow.Author.Rules.{rules}
 use Rattle.timetable.specs.Machine.{meaning}
 use Rattle.edit_refusals.specs.between.Refusing.{refuses_on, missing_visit, lacks_link, extend_refusal, end_stands, delete_refusal}
 use Rattle.edit_refusals.proofs.refusal_of.Goals as goal

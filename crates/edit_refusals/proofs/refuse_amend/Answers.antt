@@ -1,6 +1,5 @@
 -- `edit_refusals::refuse_amend` meets its contract: each return rewrites with the look-up and test that led there.
 -- Assumes nothing.
-use borrow.Author.Rules.{rules}
 use Rattle.timetable.specs.Tables.{visit_of}
 use Rattle.timetable.specs.Machine.{meaning}
 use Rattle.page.specs.between.Changes.{table_in}

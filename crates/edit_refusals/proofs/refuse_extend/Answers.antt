@@ -1,6 +1,5 @@
 -- `edit_refusals::refuse_extend` meets its contract: each return rewrites with the look-ups and tests that led there.
 -- Assumes nothing.
-use borrow.Author.Rules.{rules}
 use Rattle.timetable.specs.Tables.{visit_of}
 use Rattle.page.specs.between.Changes.{table_in}
 use Rattle.edit_refusals.specs.between.Refusing.{extend_refusal}

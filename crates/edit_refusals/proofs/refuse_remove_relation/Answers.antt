@@ -1,6 +1,5 @@
 -- `edit_refusals::refuse_remove_relation` meets its contract: each return rewrites with the tests that led there.
 -- Assumes nothing.
-use borrow.Author.Rules.{rules}
 use Rattle.timetable.specs.Machine.{meaning}
 use Rattle.edit_refusals.specs.between.Refusing.{refuses_on}
 use Rattle.edit_refusals.proofs.refuse_remove_relation.Goals as goal

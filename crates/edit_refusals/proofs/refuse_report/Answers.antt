@@ -1,6 +1,5 @@
 -- `edit_refusals::refuse_report` meets its contract: each return rewrites with the tests that led there. Assumes
 -- nothing.
-use borrow.Author.Rules.{rules}
 use Rattle.edit_refusals.specs.between.Refusing.{missing_visit}
 use Rattle.edit_refusals.proofs.refuse_report.Goals as goal
 

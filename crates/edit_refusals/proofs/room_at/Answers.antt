@@ -1,5 +1,4 @@
 -- `edit_refusals::room_at` meets its contract: each return rewrites with the test that led there. Assumes nothing.
-use borrow.Author.Rules.{rules}
 use Rattle.timetable.specs.Machine.{room}
 use Rattle.edit_refusals.proofs.room_at.Goals as goal
 

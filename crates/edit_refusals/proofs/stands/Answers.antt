@@ -1,6 +1,5 @@
 -- `edit_refusals::stands` meets its contract: by which end it is. Assumes nothing.
 use Rattle.edit_refusals.specs.between.Refusing.{end_stands}
-use borrow.Author.Rules.{rules}
 use Rattle.edit_refusals.proofs.stands.Goals as goal
 
 pub returns-then-first : goal.returns-then-first

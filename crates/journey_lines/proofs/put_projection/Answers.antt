@@ -2,7 +2,6 @@
 -- that it wrote are printed. Assumes nothing.
 use mathlib.Core.Path.{refl, ◌∙◌}
 use native.Mathlib.Omega.{arith}
-use borrow.Author.Rules.{rules}
 use Rattle.text.proofs.PutParts.{puts_as}
 use Rattle.text.proofs.WithinBounds.{rows_there}
 use Rattle.journey_lines.proofs.JourneyLines.{rows-unrefused, rows_fit, rows-many, lines_printed}

@@ -1,16 +1,16 @@
 -- `journey_lines::put_stations` meets its contract: what the visits of all stations would write is what those
 -- of the rows from i on still write, from the place reached. Assumes nothing.
-use Prim.Native.Nat.{ℕ, ◌-◌, ◌*◌, ◌≤◌}
+use Prim.Native.Nat.{ℕ}
 use mathlib.Core.Path.{◌≡◌, refl, ◌∙◌, ap}
 use mathlib.Core.List.{List, flat_map}
 use native.Mathlib.Omega.{arith}
-use lib.ListN.{length, length-map, take}
+use lib.ListN.{length, take}
 use borrow.Author.Rules.{rules}
 use Rattle.network.specs.Networks.{blank_station}
 use Rattle.sheet.specs.Sheets.{decode_sheet}
 use Rattle.listings.specs.Inspect.{visit_text}
 use Rattle.journey_lines.specs.Types.{StationRow}
-use Rattle.journey_lines.proofs.PutEach.{Unwritten, one_on, all_put}
+use Rattle.journey_lines.proofs.PutEach.{one_on, all_put}
 use Rattle.findings.proofs.ListedSheet.{fine_network}
 use Rattle.journey_lines.proofs.JourneyLines.{count_high, row_listed, rows_journeys}
 use Rattle.journey_lines.proofs.put_stations.Goals as goal

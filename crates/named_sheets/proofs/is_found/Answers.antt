@@ -1,6 +1,5 @@
 -- `named_sheets::is_found` meets its contract: what was found decides. Assumes nothing.
 use mathlib.Core.Path.{sym, ap}
-use borrow.Author.Rules.{rules}
 use Rattle.named_sheets.specs.between.Named.{found_in}
 use Rattle.named_sheets.proofs.is_found.Goals as goal
 

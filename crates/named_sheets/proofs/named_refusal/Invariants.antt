@@ -1,20 +1,14 @@
 -- `named_sheets::named_refusal` meets its contract: what is asked of all sheets is asked of those from i on, and once a
 -- sheet was tested the network is good. Assumes nothing.
-use borrow.Author.Rules.{rules}
 use Prim.Native.Nat.{◌+◌, ◌-◌, ◌≤◌}
-use mathlib.Core.Path.{◌≡◌, refl, sym, ◌∙◌, ap}
-use mathlib.Core.Bool.{true, false, false≢true}
-use mathlib.Core.Logic.{⊎_elim}
-use native.Mathlib.Omega.{arith}
-use lib.ListN.{length, drop}
+use mathlib.Core.Path.{◌≡◌}
+use mathlib.Core.Bool.{true}
+use lib.ListN.{drop}
 use Rattle.base.specs.Lists.{every}
 use Rattle.network.specs.Networks.{network_refusal}
 use Rattle.timetable.specs.Groups.{six}
-use Rattle.timetable.specs.Refusals.{or_else}
 use Rattle.sheet.specs.Sheets.{sheet_at}
-use Rattle.named_sheets.specs.between.Named.{reach_passes, named_refusal}
-use Rattle.named_sheets.proofs.NamedSteps.{named_by, sheets_not, sheets_on, sheets_end, reached_passes, unreached_passes}
-use Rattle.named_sheets.proofs.NamedSteps.{both_passed, refused_unfit, refused_at, refused_none}
+use Rattle.named_sheets.specs.between.Named.{reach_passes}
 use Rattle.named_sheets.proofs.named_refusal.Given as goal
 
 abbrev pub invariant-loop-i : goal.invariant-loop-i

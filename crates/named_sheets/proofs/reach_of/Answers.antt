@@ -1,6 +1,5 @@
 -- `named_sheets::reach_of` meets its contract: the areas of the two stations of the edit's shape. Assumes nothing.
 use mathlib.Core.Path.{◌∙◌, ap, ap₂}
-use borrow.Author.Rules.{rules}
 use Rattle.named_sheets.specs.Types.{AreaFound, Reach}
 use Rattle.named_sheets.specs.between.Named.{reach_of}
 use Rattle.named_sheets.proofs.reach_of.Goals as goal

@@ -1,10 +1,9 @@
 -- The proof of the cycle of calls {read_groups}. The measure is the number of groups still permitted; each return is
 -- one law of `read_groups`. Assumes nothing.
-use Prim.Native.Nat.{ℕ, ◌<◌, ◌-◌}
+use Prim.Native.Nat.{◌-◌}
 use mathlib.Core.Path.{◌≡◌, sym, ◌∙◌, ap}
 use lib.ListN.{drop}
 use native.Mathlib.Omega.{arith}
-use borrow.Author.Rules.{rules}
 use Rattle.base.proofs.Lengths.{rest_whole}
 use Rattle.numbers.specs.Answers.{number_outcome}
 use Rattle.numbers.specs.Numbers.{Value, Refused, read_groups, group_before}

@@ -3,7 +3,6 @@ use mathlib.Core.Path.{sym}
 use native.Mathlib.Omega.{arith}
 use lib.ListN.{length-set}
 use Rattle.numbers.proofs.GroupLaws.{width_one, width_two, width_three, width_more, unwritten, put_one, put_two, put_three}
-use borrow.Author.Rules.{rules}
 use Rattle.numbers.proofs.write.Goals as goal
 
 pub returns-then-out-w : goal.returns-then-out-w

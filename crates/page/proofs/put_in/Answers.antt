@@ -1,7 +1,6 @@
 -- `page::put_in` meets its contract: the part from the record's place to one record behind the last is lent, and the
 -- count follows. Assumes nothing.
 use native.Mathlib.Omega.{arith}
-use borrow.Author.Rules.{rules}
 use Prim.Native.Nat.{◌+◌, ◌*◌, ◌-◌}
 use mathlib.Core.Path.{◌≡◌}
 use lib.ListN.{length, take, drop, length-drop}

@@ -1,7 +1,6 @@
 -- `page::relation_count` meets its contract: a page's table has as many relations as the page counts, and at most 6.
 -- Assumes nothing.
 use native.Mathlib.Omega.{arith}
-use borrow.Author.Rules.{rules}
 use Rattle.page.proofs.SlotLaws.{no_relations, relations_many}
 use Rattle.page.proofs.relation_count.Goals as goal
 

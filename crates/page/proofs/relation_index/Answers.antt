@@ -2,11 +2,10 @@
 -- nothing.
 use borrow.Author.Rules.{rules}
 use native.Mathlib.Omega.{arith}
-use Prim.Native.Nat.{◌-◌}
 use mathlib.Core.Path.{sym, ap, ◌∙◌}
 use Rattle.railway.specs.Relations.{same_relation}
 use Rattle.records.specs.Records.{decode_relation}
-use Rattle.page.proofs.SlotLaws.{Searched, search_start, search_hit, search_on, search_end}
+use Rattle.page.proofs.SlotLaws.{search_start, search_hit, search_on, search_end}
 use Rattle.page.proofs.relation_index.Goals as goal
 
 pub loop-i-init : goal.loop-i-init

@@ -1,12 +1,9 @@
 -- `page::relation_index` meets its contract. The loop's invariant: no record before index i passes the test. Assumes
 -- nothing.
-use borrow.Author.Rules.{rules}
-use native.Mathlib.Omega.{arith}
 use Prim.Native.Nat.{◌-◌}
-use mathlib.Core.Path.{sym, ap, ◌∙◌}
 use Rattle.railway.specs.Relations.{same_relation}
 use Rattle.records.specs.Records.{decode_relation}
-use Rattle.page.proofs.SlotLaws.{Searched, search_start, search_hit, search_on, search_end}
+use Rattle.page.proofs.SlotLaws.{Searched}
 use Rattle.page.proofs.relation_index.Given as goal
 
 abbrev pub invariant-loop-i : goal.invariant-loop-i

@@ -1,16 +1,11 @@
 -- `page::slot_rest` meets its contract. The loop's invariant: the part holds what is left of the relations from index k
 -- on. Assumes nothing.
-use borrow.Author.Rules.{rules}
-use native.Mathlib.Omega.{arith}
-use Prim.Native.Nat.{ℕ, ◌≤◌}
-use mathlib.Core.Path.{◌≡◌, sym, ap, ◌∙◌}
+use Prim.Native.Nat.{◌≤◌}
+use mathlib.Core.Path.{◌≡◌}
 use lib.ListN.{length}
-use Rattle.timetable.specs.Tables.{lose}
-use Rattle.records.specs.Records.{encode_relation, decode_relation}
-use Rattle.page.specs.Types.{Relation}
+use Rattle.records.specs.Records.{encode_relation}
 use Rattle.page.specs.Pages.{slots}
-use Rattle.relation_loss.specs.between.Left.{left}
-use Rattle.page.proofs.AnewLaws.{rest_from, rest_few, rest_none, anew_list, anew_many, empty_slots}
+use Rattle.page.proofs.AnewLaws.{rest_from}
 use Rattle.page.proofs.slot_rest.Given as goal
 
 abbrev pub invariant-loop-k : goal.invariant-loop-k

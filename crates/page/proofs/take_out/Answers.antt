@@ -1,7 +1,6 @@
 -- `page::take_out` meets its contract: the part from the record's place to the last record's end is lent, and the count
 -- follows. Assumes nothing.
 use native.Mathlib.Omega.{arith}
-use borrow.Author.Rules.{rules}
 use Rattle.page.proofs.RecordsPut.{take_done}
 use Rattle.page.proofs.take_out.Goals as goal
 

@@ -2,14 +2,14 @@
 -- nothing.
 use borrow.Author.Rules.{rules}
 use native.Mathlib.Omega.{arith}
-use Prim.Native.Nat.{ℕ, ◌*◌, ◌-◌}
+use Prim.Native.Nat.{ℕ, ◌*◌}
 use mathlib.Core.Path.{sym, ap, ◌∙◌}
 use mathlib.Core.List.{List}
 use lib.Dec.{eqb}
 use lib.ListN.{take, drop}
 use borrow.Author.Tests.{eq-eqb, ne_eqb}
 use Rattle.records.specs.Bytes.{word}
-use Rattle.page.proofs.SlotLaws.{Searched, search_start, search_hit, search_on, search_end}
+use Rattle.page.proofs.SlotLaws.{search_start, search_hit, search_on, search_end}
 use Rattle.page.proofs.train_index.Goals as goal
 
 pub loop-i-init : goal.loop-i-init

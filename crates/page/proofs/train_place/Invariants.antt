@@ -1,15 +1,9 @@
 -- `page::train_place` meets its contract. The loop's invariant: no record before index i passes the test. Assumes
 -- nothing.
-use borrow.Author.Rules.{rules}
-use native.Mathlib.Omega.{arith}
-use Prim.Native.Nat.{ℕ, ◌*◌, ◌-◌}
-use mathlib.Core.Path.{sym, ap, ◌∙◌}
-use mathlib.Core.List.{List}
+use Prim.Native.Nat.{◌-◌}
 use lib.Dec.{ltb}
-use lib.ListN.{take, drop}
-use borrow.Author.Tests.{lt-ltb, le-ltb}
 use Rattle.records.specs.Bytes.{word}
-use Rattle.page.proofs.SlotLaws.{Searched, search_start, search_hit, search_on, search_end}
+use Rattle.page.proofs.SlotLaws.{Searched}
 use Rattle.page.proofs.train_place.Given as goal
 
 abbrev pub invariant-loop-i : goal.invariant-loop-i

@@ -1,7 +1,6 @@
 -- `page::visit_count` meets its contract: a page's table has as many visits as the page counts, and at most 24. Assumes
 -- nothing.
 use native.Mathlib.Omega.{arith}
-use borrow.Author.Rules.{rules}
 use Rattle.page.proofs.SlotLaws.{no_visits, visits_many}
 use Rattle.page.proofs.visit_count.Goals as goal
 

@@ -8,7 +8,6 @@ use borrow.Author.Tests.{eq-eqb, ne_eqb}
 use Rattle.edit_changes.specs.between.EditPages.{there_page}
 use Rattle.sheet.proofs.FrameLaws.{cut_back}
 use Rattle.page_edits.specs.between.PageEdits.{far_changed}
-use borrow.Author.Rules.{rules}
 use Rattle.page_edits.proofs.change_far.Goals as goal
 
 pub returns-then-i-j : goal.returns-then-i-j

@@ -6,7 +6,6 @@ use mathlib.Core.Path.{◌≡◌, ◌∙◌, ap}
 use lib.ListN.{length}
 use Rattle.edit_changes.specs.between.EditPages.{here_page}
 use Rattle.sheet.proofs.FrameLaws.{cut_back}
-use borrow.Author.Rules.{rules}
 use Rattle.page_edits.proofs.change_near.Goals as goal
 
 pub returns : goal.returns

@@ -5,7 +5,6 @@ use Rattle.timetable.specs.Tables.{visit_of}
 use Rattle.page.specs.between.Changes.{table_in}
 use Rattle.page.proofs.FoundLaws.{found_some, found_none, there_some, there_none}
 use Rattle.page_edits.specs.between.PageEdits.{visits_on}
-use borrow.Author.Rules.{rules}
 use Rattle.page_edits.proofs.count_on.Goals as goal
 
 pub returns-in-Is : goal.returns-in-Is

@@ -5,7 +5,6 @@ use Prim.Native.Nat.{ℕ, ◌+◌, ◌*◌, min}
 use mathlib.Core.Path.{◌≡◌, ◌∙◌, ap}
 use lib.ListN.{length}
 use Rattle.sheet.proofs.FrameLaws.{cut_frame}
-use borrow.Author.Rules.{rules}
 use Rattle.page_edits.proofs.page_at.Goals as goal
 
 pub returns : goal.returns

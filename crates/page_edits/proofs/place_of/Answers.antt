@@ -4,7 +4,6 @@ use mathlib.Core.Path.{◌≡◌}
 use native.Mathlib.Omega.{arith}
 use Rattle.network.specs.Networks.{area_of}
 use Rattle.page_edits.specs.between.PageEdits.{place_of}
-use borrow.Author.Rules.{rules}
 use Rattle.page_edits.proofs.place_of.Goals as goal
 
 pub returns-then-divided : goal.returns-then-divided

@@ -4,7 +4,6 @@ use mathlib.Core.Bool.{Bool}
 use mathlib.Core.Path.{sym, ◌∙◌, ap}
 use Rattle.actions.specs.declared.shape.Shape.{Shape}
 use Rattle.page_edits.proofs.PairSteps.{all_unrefused, two_refused}
-use borrow.Author.Rules.{rules}
 use Rattle.page_edits.proofs.refusal_on.Goals as goal
 
 abbrev everywhere : Shape → Bool

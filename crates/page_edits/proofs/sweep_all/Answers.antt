@@ -1,14 +1,14 @@
 -- `page_edits::sweep_all` meets its contract: the loop has changed the pages of the first i rows and counted their
 -- visits: what is left to do and to count is that of the rows from i on. Assumes nothing.
 use borrow.Author.Rules.{rules}
-use Prim.Native.Nat.{ℕ, ◌+◌, ◌-◌, ◌≤◌}
+use Prim.Native.Nat.{ℕ, ◌+◌}
 use mathlib.Core.Path.{◌≡◌, refl, sym, ◌∙◌, ap}
 use native.Mathlib.Omega.{arith}
 use mathlib.Core.List.{map}
-use lib.ListN.{length, length-map, get_or, take, drop}
+use lib.ListN.{length, get_or, take, drop}
 use Rattle.network.specs.Networks.{blank_station}
 use Rattle.edit_changes.specs.between.EditPages.{page_without}
-use Rattle.page_edits.specs.between.PageEdits.{visits_on, swept, sweep}
+use Rattle.page_edits.specs.between.PageEdits.{visits_on, swept}
 use Rattle.sheet.specs.between.Frames.{frame, change_frame}
 use Rattle.page_edits.proofs.RowSteps.{spot, places_are, swept_on, sweep_on, swept_over, sweep_over}
 use Rattle.page_edits.proofs.sweep_all.Goals as goal

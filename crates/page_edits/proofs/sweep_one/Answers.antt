@@ -6,7 +6,6 @@ use lib.ListN.{length}
 use Rattle.edit_changes.specs.between.EditPages.{page_without}
 use Rattle.sheet.proofs.FrameLaws.{cut_back}
 use Rattle.page_edits.specs.between.PageEdits.{visits_on}
-use borrow.Author.Rules.{rules}
 use Rattle.page_edits.proofs.sweep_one.Goals as goal
 
 pub returns : goal.returns

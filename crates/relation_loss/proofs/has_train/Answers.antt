@@ -1,5 +1,4 @@
 -- `relation_loss::has_train` meets its contract: a train is used where a place holds it. Assumes nothing.
-use borrow.Author.Rules.{rules}
 use mathlib.Core.Path.{◌≡◌, sym, ◌∙◌}
 use mathlib.Core.Bool.{true, false}
 use Rattle.relation_loss.proofs.TrainsLeft.{any_used, here}

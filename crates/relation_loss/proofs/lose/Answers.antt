@@ -1,6 +1,5 @@
 -- `relation_loss::lose` meets its contract, case by case: each return rewrites with the tests that led there. Assumes
 -- nothing.
-use borrow.Author.Rules.{rules}
 use mathlib.Core.Path.{sym, ◌∙◌}
 use borrow.Author.Tests.{eq-eqb, ne_eqb}
 use Rattle.timetable.specs.Tables.{lose}

@@ -1,5 +1,4 @@
 -- `relation_loss::others` meets its contract: each place is put before those behind it. Assumes nothing.
-use borrow.Author.Rules.{rules}
 use mathlib.Core.Path.{sym, ap, ◌∙◌}
 use Rattle.relation_loss.specs.between.Left.{shifted}
 use Rattle.relation_loss.proofs.TrainsLeft.{packed_used}

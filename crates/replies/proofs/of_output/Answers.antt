@@ -1,6 +1,5 @@
 -- `replies::of_output` meets its contract: each case by itself. Assumes nothing.
 use mathlib.Core.Path.{sym, ◌∙◌, ap}
-use borrow.Author.Rules.{rules}
 use Rattle.timetable.specs.Outputs.{reply}
 use Rattle.replies.specs.Replies.{file_of, or_nought, of_reply_in, of_reply}
 use Rattle.replies.proofs.of_output.Goals as goal

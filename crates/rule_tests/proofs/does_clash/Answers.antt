@@ -2,7 +2,6 @@
 use borrow.Author.Tests.{eq-eqb, ne_eqb}
 use Rattle.visits.proofs.LinkLaws.{leaves_at, leaves_none}
 use Rattle.rule_tests.specs.between.Tests.{clash}
-use borrow.Author.Rules.{rules}
 use Rattle.rule_tests.proofs.does_clash.Goals as goal
 
 pub returns-then-rule-eq2 : goal.returns-then-rule-eq2

@@ -1,7 +1,6 @@
 -- `rule_tests::is_broken` meets its contract: at its number each rule's test is the one that stands beside it; where
 -- the number is in no row, the rule is of a link. Assumes nothing.
 use mathlib.Core.Path.{sym, ◌∙◌}
-use borrow.Author.Rules.{rules}
 use Rattle.rule_tests.specs.between.Tests.{beside, own_broken, broken}
 use Rattle.rule_tests.proofs.NumbersBeside.{beside_none}
 use Rattle.rule_tests.proofs.is_broken.Goals as goal

@@ -2,7 +2,6 @@
 use borrow.Author.Tests.{eq-eqb, ne_eqb}
 use Rattle.visits.proofs.LinkLaws.{comes_at, comes_none, leaves_at, leaves_none}
 use Rattle.rule_tests.specs.between.Tests.{far_broken}
-use borrow.Author.Rules.{rules}
 use Rattle.rule_tests.proofs.is_far_broken.Goals as goal
 
 pub returns-in-Nothing : goal.returns-in-Nothing

@@ -1,7 +1,6 @@
 -- `rule_tests::is_in_broken` meets its contract: each return rewrites with the test that led there. Assumes
 -- nothing.
 use Rattle.rule_tests.specs.between.Tests.{in_broken}
-use borrow.Author.Rules.{rules}
 use Rattle.rule_tests.proofs.HeldLaws.{page_read}
 use Rattle.rule_tests.proofs.is_in_broken.Goals as goal
 

@@ -2,7 +2,6 @@
 -- nothing.
 use borrow.Author.Tests.{eq-eqb, ne_eqb}
 use Rattle.rule_tests.specs.between.Tests.{out_broken}
-use borrow.Author.Rules.{rules}
 use Rattle.rule_tests.proofs.HeldLaws.{page_read}
 use Rattle.rule_tests.proofs.is_out_broken.Goals as goal
 

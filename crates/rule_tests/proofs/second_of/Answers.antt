@@ -1,7 +1,6 @@
 -- `rule_tests::second_of` meets its contract: the line beside its rule's number, and 0 where the number is in no row.
 -- Assumes nothing.
 use mathlib.Core.Path.{sym}
-use borrow.Author.Rules.{rules}
 use Rattle.rule_tests.specs.between.Tests.{beside, second_of}
 use Rattle.rule_tests.proofs.NumbersBeside.{beside_none}
 use Rattle.rule_tests.proofs.second_of.Goals as goal

@@ -1,7 +1,6 @@
 -- `scope::is_in` meets its contract: each return rewrites with the test that led there. Assumes nothing.
 use borrow.Author.Tests.{lt-ltb, le-ltb}
 use Rattle.timetable.specs.Groups.{in_group}
-use borrow.Author.Rules.{rules}
 use Rattle.scope.proofs.is_in.Goals as goal
 
 pub returns-then-a-gt0 : goal.returns-then-a-gt0

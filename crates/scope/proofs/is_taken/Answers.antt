@@ -1,6 +1,5 @@
 -- `scope::is_taken` meets its contract: by the cases of the scope. Assumes nothing.
 use Rattle.scope.specs.Scopes.{takes}
-use borrow.Author.Rules.{rules}
 use Rattle.scope.proofs.is_taken.Goals as goal
 
 pub returns-then-are_in : goal.returns-then-are_in

@@ -1,6 +1,5 @@
 -- `single_edit::ended_edit` meets its contract: whether anything is behind the edit. Assumes nothing.
 use mathlib.Core.Path.{◌∙◌}
-use borrow.Author.Rules.{rules}
 use Rattle.timetable.specs.Formats.{number, place_of, value_or}
 use Rattle.single_edit.specs.between.OneEdit.{edit_answer}
 use Rattle.single_edit.proofs.EditAlone.{edit_goes_on, edit_stands}

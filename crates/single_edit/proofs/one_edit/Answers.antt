@@ -1,6 +1,5 @@
 -- `single_edit::one_edit` meets its contract: what is read, and whether anything is behind it. Assumes nothing.
 use mathlib.Core.Path.{sym, ◌∙◌, ap}
-use borrow.Author.Rules.{rules}
 use Rattle.edit_files.specs.Answers.{edit_outcome}
 use Rattle.single_edit.proofs.EditAlone.{edit_read, edit_faulty}
 use Rattle.single_edit.proofs.one_edit.Goals as goal

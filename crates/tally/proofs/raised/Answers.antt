@@ -6,7 +6,6 @@ use Rattle.timetable.specs.Machine.{meaning}
 use Rattle.actions.specs.declared.shape.Shape.{Shape}
 use Rattle.actions.proofs.ShapeLaws.{adds_as}
 use Rattle.tally.proofs.TallyLaws.{small, when_overfull, when_unlikely, when-accepted, when-five, when-refused}
-use borrow.Author.Rules.{rules}
 use Rattle.tally.proofs.raised.Goals as goal
 
 pub returns-then-is_overfull : goal.returns-then-is_overfull

@@ -2,7 +2,6 @@
 -- writing answers is told. Assumes nothing.
 use native.Mathlib.Omega.{arith}
 use mathlib.Core.Path.{sym, ◌∙◌, ap}
-use borrow.Author.Rules.{rules}
 use Rattle.timetable.specs.Outputs as outputs
 use Rattle.turning.specs.Answers as answers
 use Rattle.turning.proofs.TurnLaws.{turn_refused, turn_held, never_refused}

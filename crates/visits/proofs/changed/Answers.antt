@@ -1,6 +1,5 @@
 -- `visits::changed` meets its contract: each arm is one clause of the definition. Assumes nothing.
 use Rattle.visits.specs.between.Changes.{change_by}
-use borrow.Author.Rules.{rules}
 use Rattle.visits.proofs.changed.Goals as goal
 
 pub returns-in-In : goal.returns-in-In

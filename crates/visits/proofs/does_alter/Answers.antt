@@ -1,5 +1,4 @@
 -- `visits::does_alter` meets its contract: each return rewrites with the tests that led there. Assumes nothing.
-use borrow.Author.Rules.{rules}
 use Rattle.timetable.specs.Visits.{alters}
 use Rattle.timetable.specs.Visits.{alters}
 use Rattle.visits.proofs.does_alter.Goals as goal

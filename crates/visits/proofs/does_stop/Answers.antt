@@ -1,7 +1,6 @@
 -- `visits::does_stop` meets its contract: a marked visit stops, another one as it stops anyway. Assumes nothing.
 use mathlib.Core.Path.{◌≡◌, refl, ◌∙◌}
 use mathlib.Core.Bool.{Bool, true, false, ◌||◌}
-use borrow.Author.Rules.{rules}
 use Rattle.timetable.specs.Visits.{stops_anyway, stops}
 use Rattle.visits.proofs.does_stop.Goals as goal
 

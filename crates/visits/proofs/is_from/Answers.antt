@@ -1,5 +1,4 @@
 -- `visits::is_from` meets its contract: the link is none, or another station's, or this station's. Assumes nothing.
-use borrow.Author.Rules.{rules}
 use borrow.Author.Tests.{eq-eqb, ne_eqb}
 use Rattle.timetable.specs.Visits.{comes_from}
 use Rattle.visits.proofs.LinkLaws.{comes_at, comes_none}

@@ -1,5 +1,4 @@
 -- `visits::is_to` meets its contract: the link is none, or another station's, or this station's. Assumes nothing.
-use borrow.Author.Rules.{rules}
 use borrow.Author.Tests.{eq-eqb, ne_eqb}
 use Rattle.timetable.specs.Visits.{leaves_to}
 use Rattle.visits.proofs.LinkLaws.{leaves_at, leaves_none}

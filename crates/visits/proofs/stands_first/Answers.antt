@@ -1,6 +1,5 @@
 -- `visits::stands_first` meets its contract: each return rewrites with the links and tests that led there. Assumes
 -- nothing.
-use borrow.Author.Rules.{rules}
 use borrow.Author.Tests.{eq-eqb, ne_eqb}
 use Rattle.timetable.specs.Visits.{first_stands}
 use Rattle.visits.proofs.LinkLaws.{leaves_at, leaves_none}

@@ -1,6 +1,5 @@
 -- `visits::stands_last` meets its contract: each return rewrites with the links and tests that led there. Assumes
 -- nothing.
-use borrow.Author.Rules.{rules}
 use borrow.Author.Tests.{eq-eqb, ne_eqb}
 use Rattle.timetable.specs.Visits.{last_stands}
 use Rattle.visits.proofs.LinkLaws.{comes_at, comes_none}

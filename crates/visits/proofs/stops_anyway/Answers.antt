@@ -1,6 +1,5 @@
 -- `visits::stops_anyway` meets its contract: each return rewrites with the tests that led there. Assumes nothing.
 use borrow.Author.Tests.{le-ltb, lt-ltb}
-use borrow.Author.Rules.{rules}
 use Rattle.timetable.specs.Visits.{stops_anyway}
 use Rattle.visits.proofs.stops_anyway.Goals as goal
 

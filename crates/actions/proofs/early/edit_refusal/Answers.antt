@@ -1,6 +1,5 @@
 -- `actions::early::edit_refusal` meets its contract: the tests that led to each return decide it. Assumes nothing.
 use Rattle.timetable.specs.Machine.{edit_refusal}
-use borrow.Author.Rules.{rules}
 use Rattle.actions.proofs.early.edit_refusal.Goals as goal
 
 pub returns-then-future : goal.returns-then-future

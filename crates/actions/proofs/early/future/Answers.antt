@@ -1,7 +1,6 @@
 -- `actions::early::future` meets its contract: edit by edit. Assumes nothing.
 use mathlib.Core.Path.{sym, ap, ◌∙◌}
 use Rattle.timetable.specs.Reports.{future}
-use borrow.Author.Rules.{rules}
 use Rattle.actions.proofs.early.future.Goals as goal
 
 pub returns-in-Place : goal.returns-in-Place

@@ -1,16 +1,13 @@
 -- `actions::known::fits` meets its contract: each edit that carries a track or a line has an arm; the others fit.
 -- Assumes nothing.
-use Prim.Native.Nat.{ℕ}
 use mathlib.Core.Path.{◌≡◌, refl}
 use mathlib.Core.Bool.{true}
-use mathlib.Core.List.{List, [], ◌∷◌}
 use Rattle.timetable.specs.Machine.{meaning}
 use Rattle.actions.specs.Types.{Network, Edit, Place, Prepend, Append, DeleteFirst, DeleteLast, Amend}
 use Rattle.actions.specs.Types.{ReportArrival, ReportDeparture, AddRelation, RemoveRelation, DeleteTrain}
 use Rattle.railway.specs.declared.edit.Plan.{Plan}
 use Rattle.railway.specs.declared.edit.Extension.{Extension}
 use Rattle.actions.specs.Early.{fits_of}
-use borrow.Author.Rules.{rules}
 use Rattle.actions.proofs.known.fits.Goals as goal
 
 -- an edit of none of the kinds that carry a track or a line

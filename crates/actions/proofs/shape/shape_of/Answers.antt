@@ -1,7 +1,6 @@
 -- `actions::shape::shape_of` meets its contract: each arm is the shape of its kind. Assumes nothing.
 use Rattle.timetable.specs.Machine.{meaning}
 use Rattle.actions.specs.between.Shapes.{shape_of}
-use borrow.Author.Rules.{rules}
 use Rattle.actions.proofs.shape.shape_of.Goals as goal
 
 pub returns-in-Place : goal.returns-in-Place

@@ -4,7 +4,6 @@ use Rattle.timetable.specs.Machine.{meaning}
 use Rattle.actions.specs.Types.{Shape}
 use Rattle.actions.specs.between.Shapes.{shape_touches}
 use Rattle.actions.proofs.ShapeLaws.{touches_by}
-use borrow.Author.Rules.{rules}
 use Rattle.actions.proofs.shape.touched.Goals as goal
 
 pub returns : goal.returns

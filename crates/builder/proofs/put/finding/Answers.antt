@@ -1,6 +1,5 @@
 -- `builder::put::finding` meets its contract: four numbers one behind the other, or none. Assumes nothing.
 use Rattle.builder.proofs.FindingsPut.{told_so, told_not}
-use borrow.Author.Rules.{rules}
 use Rattle.builder.proofs.put.finding.Goals as goal
 
 pub returns-then-found : goal.returns-then-found

@@ -4,7 +4,6 @@ use mathlib.Core.Path.{◌≡◌, sym, ◌∙◌}
 use native.Mathlib.Omega.{arith}
 use Rattle.machine.proofs.EditCalls.{division_not}
 use Rattle.edit_calls.proofs.CallTests.{refused_early, division_short, division_early, division_late, division_made}
-use borrow.Author.Rules.{rules}
 use Rattle.edit_calls.proofs.calls.edit_division.Goals as goal
 
 pub returns-then-division-ne49152 : goal.returns-then-division-ne49152

@@ -4,7 +4,6 @@ use mathlib.Core.Path.{◌≡◌, sym, ◌∙◌}
 use native.Mathlib.Omega.{arith}
 use Rattle.machine.proofs.EditCalls.{sheet_not}
 use Rattle.edit_calls.proofs.CallTests.{refused_early, sheet_short, sheet_early, sheet_late, sheet_made}
-use borrow.Author.Rules.{rules}
 use Rattle.edit_calls.proofs.calls.edit_sheet.Goals as goal
 
 pub returns-then-sheet-ne8192 : goal.returns-then-sheet-ne8192

@@ -1,7 +1,6 @@
 -- `edit_calls::pages::edit_pages` meets its contract: what the pages refuse, and else what the edit makes of them. Assumes
 -- nothing.
 use Rattle.page_edits.proofs.PairSteps.{pages_refused, pages_changed}
-use borrow.Author.Rules.{rules}
 use Rattle.edit_calls.proofs.pages.edit_pages.Goals as goal
 
 pub returns-then-r-eq0 : goal.returns-then-r-eq0

@@ -2,7 +2,6 @@
 -- past that the edit on pages is the single call. Assumes nothing.
 use mathlib.Core.Path.{sym, ◌∙◌}
 use Rattle.edit_calls.proofs.KnownGood.{known_stopped, known_edit}
-use borrow.Author.Rules.{rules}
 use Rattle.edit_calls.proofs.untested.edit_untested.Goals as goal
 
 pub returns-then-first-ne0 : goal.returns-then-first-ne0

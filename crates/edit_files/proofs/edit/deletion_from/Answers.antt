@@ -1,5 +1,4 @@
 -- `edit_files::edit::deletion_from` meets its contract: the stations fit a byte. Assumes nothing.
-use borrow.Author.Rules.{rules}
 use Rattle.timetable.specs.EditsFile.{deletion_of}
 use Rattle.fields.proofs.EntryLaws.{small}
 use Rattle.edit_files.proofs.edit.deletion_from.Goals as goal

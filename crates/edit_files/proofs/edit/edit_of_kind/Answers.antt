@@ -1,7 +1,6 @@
 -- `edit_files::edit::edit_of_kind` meets its contract by the tests of the kind. Assumes nothing.
 use mathlib.Core.Path.{◌∙◌}
 use borrow.Author.Tests.{eq-eqb, ne_eqb}
-use borrow.Author.Rules.{rules}
 use Rattle.timetable.specs.EditsFile.{edit_fields}
 use Rattle.edit_files.proofs.edit.edit_of_kind.Goals as goal
 

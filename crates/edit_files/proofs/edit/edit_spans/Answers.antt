@@ -1,7 +1,6 @@
 -- `edit_files::edit::edit_spans` meets its contract by the tests of the kind. Assumes nothing.
 use mathlib.Core.Path.{sym, ◌∙◌, ap}
 use borrow.Author.Tests.{ne_eqb}
-use borrow.Author.Rules.{rules}
 use Rattle.timetable.specs.EditsFile.{edit_ranges}
 use Rattle.edit_files.proofs.edit.edit_spans.Goals as goal
 

@@ -1,5 +1,4 @@
 -- `edit_files::edit::extension_from` meets its contract: each number fits its place. Assumes nothing.
-use borrow.Author.Rules.{rules}
 use Rattle.timetable.specs.EditsFile.{extension_of}
 use Rattle.fields.proofs.EntryLaws.{small}
 use Rattle.edit_files.proofs.edit.extension_from.Goals as goal

@@ -11,7 +11,6 @@ use Rattle.fields.specs.between.Answers.{row_read}
 use Rattle.edit_files.specs.Answers.{edit_outcome}
 use Rattle.fields.proofs.EntryLaws.{row_took, row_refusal, made, unmade, padded_at}
 use Rattle.edit_files.proofs.EditLaws.{edit_same, supplied_same, supplied_bounded}
-use borrow.Author.Rules.{rules}
 use Rattle.edit_files.proofs.edit.fields_edit.Goals as goal
 
 pub returns-then-read : goal.returns-then-read

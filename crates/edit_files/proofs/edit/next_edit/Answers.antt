@@ -1,7 +1,5 @@
 -- `edit_files::edit::next_edit` meets its contract: the answer says what the outcome is. Assumes nothing.
 use mathlib.Core.Path.{sym, ◌∙◌, ap}
-use borrow.Author.Rules.{rules}
-use Rattle.timetable.specs.Formats.{read}
 use Rattle.edit_files.specs.Answers.{next_outcome, edit_outcome}
 use Rattle.edit_files.proofs.edit.next_edit.Goals as goal
 

@@ -1,7 +1,6 @@
 -- `edit_files::edit::plan_from` meets its contract: station and track fit a byte. Assumes nothing.
 use Rattle.timetable.specs.EditsFile.{plan_of}
 use Rattle.fields.proofs.EntryLaws.{small}
-use borrow.Author.Rules.{rules}
 use Rattle.edit_files.proofs.edit.plan_from.Goals as goal
 
 pub returns : goal.returns

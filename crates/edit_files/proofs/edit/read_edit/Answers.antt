@@ -1,7 +1,6 @@
 -- `edit_files::edit::read_edit` meets its contract: the kind decides, and an accepted one is followed by its fields.
 -- Assumes nothing.
 use mathlib.Core.Path.{sym, ◌∙◌, ap}
-use borrow.Author.Rules.{rules}
 use Rattle.timetable.specs.EditsFile.{edit_fields, edit_entry}
 use Rattle.fields.specs.between.Answers.{field_outcome}
 use Rattle.edit_files.specs.Answers.{edit_outcome}

@@ -2,7 +2,6 @@
 use mathlib.Core.Path.{sym, ◌∙◌, ap}
 use Prim.Native.Nat.{ℕ}
 use mathlib.Core.List.{List, []}
-use borrow.Author.Rules.{rules}
 use Rattle.railway.specs.declared.edit.Edit.TheVariants.{RemoveRelation}
 use Rattle.timetable.specs.Formats.{read}
 use Rattle.timetable.specs.EditsFile.{station_relation_entry}

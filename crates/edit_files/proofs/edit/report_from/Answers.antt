@@ -1,5 +1,4 @@
 -- `edit_files::edit::report_from` meets its contract: the station fits a byte. Assumes nothing.
-use borrow.Author.Rules.{rules}
 use Rattle.timetable.specs.EditsFile.{report_of}
 use Rattle.fields.proofs.EntryLaws.{small}
 use Rattle.edit_files.proofs.edit.report_from.Goals as goal

@@ -3,7 +3,6 @@ use mathlib.Core.Path.{sym, ap}
 use Rattle.timetable.specs.FileForms.{minute_range}
 use Rattle.timetable.specs.EditsFile.{report_ranges}
 use Rattle.fields.specs.between.Answers.{ranges_of}
-use borrow.Author.Rules.{rules}
 use Rattle.edit_files.proofs.edit.report_spans.Goals as goal
 
 pub returns-in-Earlier : goal.returns-in-Earlier

@@ -2,7 +2,6 @@
 -- Assumes nothing.
 use mathlib.Core.Path.{sym, ◌∙◌}
 use Rattle.edit_files.proofs.EditLaws.{supplied_newest, supplied_marked, supplied_dated, supplied_same_row}
-use borrow.Author.Rules.{rules}
 use Rattle.edit_files.proofs.edit.supplied.Goals as goal
 
 pub returns-then-has_track : goal.returns-then-has_track

@@ -1,6 +1,5 @@
 -- `edit_files::edit::with_fourth` meets its contract: place by place. Assumes nothing.
 use Rattle.edit_files.proofs.EditLaws.{cells_with}
-use borrow.Author.Rules.{rules}
 use Rattle.edit_files.proofs.edit.with_fourth.Goals as goal
 
 pub returns : goal.returns

@@ -1,14 +1,14 @@
 -- `edit_files::list::scan_edits` meets its contract. The loop's invariant: the list is the edits read and then what is
 -- left. Assumes nothing.
-use Prim.Native.Nat.{◌-◌, ◌≤◌}
+use Prim.Native.Nat.{◌-◌}
 use mathlib.Core.Path.{◌≡◌, sym, ◌∙◌, ap}
 use native.Mathlib.Omega.{arith}
 use borrow.Author.Rules.{rules}
 use Rattle.timetable.specs.EditsFile.{edits_on}
 use Rattle.fields.specs.Outcomes.{end_of}
 use Rattle.edit_files.specs.Answers.{edit_outcome, scan_outcome}
-use Rattle.fields.proofs.ReadLaws.{SoFar, start, turn, stop, over}
-use Rattle.edit_files.proofs.EditsParts.{left_at, edit_taken, edit_stopped, edits_over}
+use Rattle.fields.proofs.ReadLaws.{start, turn, stop, over}
+use Rattle.edit_files.proofs.EditsParts.{edit_taken, edit_stopped, edits_over}
 use Rattle.edit_files.proofs.list.scan_edits.Goals as goal
 
 pub loop-i-init : goal.loop-i-init

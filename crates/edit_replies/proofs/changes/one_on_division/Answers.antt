@@ -1,7 +1,6 @@
 -- `edit_replies::changes::one_on_division` meets its contract: the edit's file is refused, or the call is reached.
 -- Assumes nothing.
 use mathlib.Core.Path.{◌∙◌, ap}
-use borrow.Author.Rules.{rules}
 use Rattle.replies.specs.Replies.{of_answer}
 use Rattle.edit_replies.specs.Replies.{one_reply, one_left}
 use Rattle.edit_replies.proofs.EditFile.{edit_refused, edit_held}

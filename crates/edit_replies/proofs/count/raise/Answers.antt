@@ -1,7 +1,6 @@
 -- `edit_replies::count::raise` meets its contract: an overfull tally, the edit's file, or the raise. Assumes
 -- nothing.
 use mathlib.Core.Path.{sym, ◌∙◌, ap}
-use borrow.Author.Rules.{rules}
 use Rattle.replies.specs.Replies.{plain}
 use Rattle.edit_replies.specs.Replies.{numbers_of}
 use Rattle.edit_replies.proofs.RaiseLaws.{raise_overfull, raise_faulty, raise_done}

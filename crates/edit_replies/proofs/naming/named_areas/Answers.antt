@@ -1,5 +1,4 @@
 -- `edit_replies::naming::named_areas` meets its contract: it is the sum of six bits. Assumes nothing.
-use borrow.Author.Rules.{rules}
 use Rattle.replies.specs.Replies.{bits}
 use Rattle.edit_replies.proofs.naming.named_areas.Goals as goal
 

@@ -1,6 +1,5 @@
 -- `edit_replies::naming::names_of` meets its contract: what refuses the edit, or its areas. Assumes nothing.
 use mathlib.Core.Path.{◌∙◌}
-use borrow.Author.Rules.{rules}
 use Rattle.edit_replies.proofs.NameLaws.{names_none, names_some}
 use Rattle.edit_replies.proofs.naming.names_of.Goals as goal
 

@@ -1,7 +1,6 @@
 -- `edit_replies::naming::names_under` meets its contract: the edit's file is refused, or what it names. Assumes
 -- nothing.
 use mathlib.Core.Path.{◌∙◌}
-use borrow.Author.Rules.{rules}
 use Rattle.edit_replies.specs.Replies.{named_under}
 use Rattle.edit_replies.proofs.EditFile.{edit_refused, edit_held}
 use Rattle.edit_replies.proofs.naming.names_under.Goals as goal

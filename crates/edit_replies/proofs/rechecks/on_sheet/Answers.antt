@@ -1,6 +1,5 @@
 -- `edit_replies::rechecks::on_sheet` meets its contract: the edit's file is refused, or the call is reached. Assumes nothing.
 use mathlib.Core.Path.{◌∙◌, ap}
-use borrow.Author.Rules.{rules}
 use Rattle.replies.specs.Replies.{of_reply}
 use Rattle.edit_replies.specs.Rechecks.{recheck_reply, recheck_left}
 use Rattle.edit_replies.proofs.EditFile.{edit_refused, edit_held}

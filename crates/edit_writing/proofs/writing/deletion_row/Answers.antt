@@ -2,7 +2,6 @@
 use mathlib.Core.Path.{refl}
 use Rattle.timetable.specs.EditsFile.{deletion_numbers}
 use Rattle.fields.specs.between.Answers.{padded, row_of}
-use borrow.Author.Rules.{rules}
 use Rattle.edit_writing.proofs.writing.deletion_row.Goals as goal
 
 pub returns : goal.returns

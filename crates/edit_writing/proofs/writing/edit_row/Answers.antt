@@ -1,6 +1,5 @@
 -- `edit_writing::writing::edit_row` meets its contract: each kind by its row. Assumes nothing.
 use Rattle.timetable.specs.EditsFile.{edit_numbers}
-use borrow.Author.Rules.{rules}
 use Rattle.edit_writing.proofs.writing.edit_row.Goals as goal
 
 pub returns-in-Place : goal.returns-in-Place

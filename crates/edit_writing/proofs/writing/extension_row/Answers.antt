@@ -2,7 +2,6 @@
 -- nothing.
 use mathlib.Core.Path.{ap}
 use lib.ListN.{set}
-use borrow.Author.Rules.{rules}
 use Rattle.timetable.specs.FileForms.{mark_numbers}
 use Rattle.timetable.specs.EditsFile.{plan_numbers, extension_numbers}
 use Rattle.fields.specs.declared.field.Numbers.{Numbers}

@@ -3,7 +3,6 @@
 use Rattle.timetable.specs.FileForms.{mark_numbers}
 use Rattle.timetable.specs.EditsFile.{plan_numbers}
 use Rattle.fields.specs.between.Answers.{padded, row_of}
-use borrow.Author.Rules.{rules}
 use Rattle.edit_writing.proofs.writing.plan_row.Goals as goal
 
 pub returns : goal.returns

@@ -1,6 +1,6 @@
 -- `edit_writing::writing::put_edits` meets its contract. The loop's invariant: the list is the edits read and then what
 -- is left, and those read are put. Assumes nothing.
-use Prim.Native.Nat.{ℕ, ◌+◌, ◌-◌, ◌*◌, ◌≤◌}
+use Prim.Native.Nat.{ℕ, ◌+◌, ◌-◌}
 use mathlib.Core.Path.{◌≡◌, refl, sym, ◌∙◌, ap}
 use mathlib.Core.List.{List, flat_map}
 use native.Mathlib.Omega.{arith}
@@ -12,9 +12,9 @@ use Rattle.timetable.specs.FileForms.{newest_form}
 use Rattle.timetable.specs.EditsFile.{edits_on}
 use Rattle.timetable.specs.Outputs.{put}
 use Rattle.timetable.proofs.OutcomeLaws.{clash}
-use Rattle.fields.proofs.ReadLaws.{SoFar, start, turn, stop, over}
+use Rattle.fields.proofs.ReadLaws.{start, turn, stop, over}
 use Rattle.fields.proofs.NumbersPut.{near}
-use Rattle.edit_files.proofs.EditsParts.{left_at, edit_taken, edit_stopped, edits_over}
+use Rattle.edit_files.proofs.EditsParts.{edit_taken, edit_stopped, edits_over}
 use Rattle.edit_files.specs.Answers.{edit_outcome}
 use Rattle.fields.proofs.RowHolds.{row_held}
 use Rattle.edit_writing.proofs.WritingLaws.{list_bytes, edit_put, same_edits}

@@ -3,7 +3,6 @@ use mathlib.Core.Path.{refl}
 use Rattle.timetable.specs.FileForms.{minute_numbers}
 use Rattle.timetable.specs.EditsFile.{report_numbers}
 use Rattle.fields.specs.between.Answers.{padded, row_of}
-use borrow.Author.Rules.{rules}
 use Rattle.edit_writing.proofs.writing.report_row.Goals as goal
 
 pub returns : goal.returns

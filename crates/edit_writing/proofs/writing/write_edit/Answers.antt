@@ -12,7 +12,6 @@ use Rattle.timetable.specs.Outputs.{put}
 use Rattle.fields.proofs.NumbersPut.{near}
 use Rattle.fields.proofs.RowHolds.{row_held}
 use Rattle.edit_writing.proofs.WritingLaws.{edit_bad, edit_short, edit_fits}
-use borrow.Author.Rules.{rules}
 use Rattle.edit_writing.proofs.writing.write_edit.Goals as goal
 
 pub returns-then-out-needed : goal.returns-then-out-needed

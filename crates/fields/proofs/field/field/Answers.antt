@@ -2,7 +2,6 @@
 -- its number gave. Assumes nothing.
 use mathlib.Core.Path.{sym, ◌∙◌, ap}
 use native.Mathlib.Omega.{arith}
-use borrow.Author.Rules.{rules}
 use Rattle.numbers.specs.Answers.{number_outcome}
 use Rattle.fields.specs.between.Answers.{field_outcome}
 use Rattle.fields.proofs.FieldLaws.{field_past, field_byte, field_ends, field_odd, field_fits, field-value}

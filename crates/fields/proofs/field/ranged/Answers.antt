@@ -1,5 +1,4 @@
 -- `fields::field::ranged` meets its contract: both bounds are compared. Assumes nothing.
-use borrow.Author.Rules.{rules}
 use borrow.Author.Tests.{le-leb, lt-leb}
 use Rattle.fields.specs.between.Answers.{field_outcome}
 use Rattle.fields.proofs.field.ranged.Goals as goal

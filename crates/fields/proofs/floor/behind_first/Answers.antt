@@ -1,14 +1,14 @@
 -- `fields::floor::behind_first` meets its contract. The loop's invariant: what was copied and what is left are the
 -- numbers behind the first. Assumes nothing.
-use Prim.Native.Nat.{ℕ, ◌+◌, ◌-◌, ◌≤◌}
+use Prim.Native.Nat.{ℕ, ◌+◌}
 use mathlib.Core.Path.{◌≡◌, sym, ◌∙◌, ap}
 use mathlib.Core.List.{List}
 use native.Mathlib.Omega.{arith}
-use lib.ListN.{length, length-map, drop}
+use lib.ListN.{length, drop}
 use borrow.Author.Rules.{rules}
 use Rattle.fields.specs.between.Answers.{padded, row_of}
 use Rattle.fields.proofs.FloorLaws.{floor_none}
-use Rattle.fields.proofs.RowHolds.{Copied, copied_none, copied_next, copied_all, behind_one}
+use Rattle.fields.proofs.RowHolds.{copied_none, copied_next, copied_all, behind_one}
 use Rattle.fields.proofs.floor.behind_first.Goals as goal
 
 pub smaller-to-requires : goal.smaller-to-requires

@@ -1,14 +1,8 @@
 -- `fields::floor::behind_first` meets its contract. The loop's invariant: what was copied and what is left are the
 -- numbers behind the first. Assumes nothing.
-use Prim.Native.Nat.{ℕ, ◌+◌, ◌-◌, ◌≤◌}
-use mathlib.Core.Path.{◌≡◌, sym, ◌∙◌, ap}
-use mathlib.Core.List.{List}
-use native.Mathlib.Omega.{arith}
-use lib.ListN.{length, length-map, drop}
-use borrow.Author.Rules.{rules}
-use Rattle.fields.specs.between.Answers.{padded, row_of}
-use Rattle.fields.proofs.FloorLaws.{floor_none}
-use Rattle.fields.proofs.RowHolds.{Copied, copied_none, copied_next, copied_all, behind_one}
+use Prim.Native.Nat.{◌+◌, ◌-◌, ◌≤◌}
+use mathlib.Core.Path.{◌≡◌}
+use Rattle.fields.proofs.RowHolds.{Copied}
 use Rattle.fields.proofs.floor.behind_first.Given as goal
 
 abbrev pub invariant-loop-i : goal.invariant-loop-i

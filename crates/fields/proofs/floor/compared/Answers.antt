@@ -2,7 +2,6 @@
 -- nothing.
 use Prim.Native.Nat.{ℕ}
 use mathlib.Core.Path.{sym, ◌∙◌, ap}
-use borrow.Author.Rules.{rules}
 use Rattle.timetable.specs.Formats.{field_at}
 use Rattle.fields.specs.between.Answers.{field_outcome, number_read}
 use Rattle.fields.proofs.floor.compared.Goals as goal

@@ -2,7 +2,7 @@
 -- other leaves none. Assumes nothing.
 use mathlib.Core.Path.{◌≡◌, ◌∙◌, ap}
 use native.Mathlib.Omega.{arith}
-use lib.ListN.{length, length-map}
+use lib.ListN.{length}
 use borrow.Author.Rules.{rules}
 use Rattle.fields.specs.between.Answers.{row_of}
 use Rattle.fields.proofs.FloorLaws.{after_none, after_last, after_other, after_equal}

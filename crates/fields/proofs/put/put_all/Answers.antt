@@ -1,11 +1,11 @@
 -- `fields::put::put_all` meets its contract: what the whole row would write is what the numbers from i on still write,
 -- from the place reached. Assumes nothing.
-use Prim.Native.Nat.{ℕ, ◌+◌, ◌-◌, ◌*◌, ◌≤◌, max}
+use Prim.Native.Nat.{ℕ}
 use mathlib.Core.Path.{◌≡◌, refl, sym, ◌∙◌, ap}
 use mathlib.Core.List.{List, flat_map}
 use native.Mathlib.Omega.{arith}
 use borrow.Author.Rules.{rules}
-use lib.ListN.{length, length-map, take, drop}
+use lib.ListN.{length, take, drop}
 use Rattle.numbers.specs.Numbers.{write_number}
 use Rattle.network.proofs.RowsInUse.{used_rows}
 use Rattle.timetable.specs.Outputs.{put}

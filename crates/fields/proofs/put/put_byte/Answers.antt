@@ -2,7 +2,6 @@
 use mathlib.Core.Path.{refl, sym}
 use lib.Seq.{set_out}
 use Rattle.timetable.specs.Outputs.{put}
-use borrow.Author.Rules.{rules}
 use Rattle.fields.proofs.put.put_byte.Goals as goal
 
 pub returns-then-at-out : goal.returns-then-at-out

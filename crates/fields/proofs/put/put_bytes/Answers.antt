@@ -2,9 +2,7 @@
 -- takes. Assumes nothing.
 use mathlib.Core.Path.{refl, sym, ◌∙◌}
 use native.Mathlib.Omega.{arith}
-use Rattle.timetable.specs.Outputs.{put}
 use Rattle.fields.proofs.ByteLaws.{put_one, put_both, put_three}
-use borrow.Author.Rules.{rules}
 use Rattle.fields.proofs.put.put_bytes.Goals as goal
 
 pub returns-then-w-eq1 : goal.returns-then-w-eq1

@@ -1,7 +1,6 @@
 -- `fields::put::put_number` meets its contract: beyond the last place nothing is put. Assumes nothing.
 use mathlib.Core.List.{[], ◌∷◌}
 use native.Mathlib.Omega.{arith}
-use borrow.Author.Rules.{rules}
 use Rattle.fields.proofs.NumbersPut.{one_puts, far_puts}
 use Rattle.fields.proofs.put.put_number.Goals as goal
 

@@ -1,6 +1,5 @@
 -- `fields::put::put_row` meets its contract: beyond the last place nothing is put. Assumes nothing.
 use native.Mathlib.Omega.{arith}
-use borrow.Author.Rules.{rules}
 use Rattle.fields.specs.between.Answers.{in_use}
 use Rattle.fields.proofs.NumbersPut.{near_puts, far_puts}
 use Rattle.fields.proofs.put.put_row.Goals as goal

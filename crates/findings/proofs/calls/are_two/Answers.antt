@@ -1,6 +1,5 @@
 -- `findings::calls::are_two` meets its contract: each return rewrites with the tests that led there. Assumes nothing.
 use Rattle.findings.specs.Lists.{two_areas}
-use borrow.Author.Rules.{rules}
 use Rattle.findings.proofs.calls.are_two.Goals as goal
 
 pub returns-then-valid-2 : goal.returns-then-valid-2

@@ -1,7 +1,6 @@
 -- `findings::calls::area_refusal` meets its contract: each return rewrites with the test that led there. Assumes
 -- nothing.
 use mathlib.Core.Path.{sym, ◌∙◌}
-use borrow.Author.Rules.{rules}
 use Rattle.findings.proofs.ListCalls.{early_network_alone, early_of_areas}
 use Rattle.findings.proofs.calls.area_refusal.Goals as goal
 

@@ -1,11 +1,8 @@
 -- `findings::calls::hand_over` meets its contract. The loop's invariant: the first i numbers are the draft's, the rest
 -- is as it was. Assumes nothing.
-use borrow.Author.Rules.{rules}
 use native.Mathlib.Omega.{arith}
-use Prim.Native.Nat.{◌≤◌, ◌-◌}
-use mathlib.Core.Path.{◌≡◌, refl}
-use lib.ListN.{length}
-use lib.Seq.{paste, paste-zero}
+use mathlib.Core.Path.{refl}
+use lib.Seq.{paste-zero}
 use Rattle.timetable.proofs.DraftsHandedOver.{copied_on, draft_too_long, draft_copied}
 use Rattle.findings.proofs.calls.hand_over.Goals as goal
 

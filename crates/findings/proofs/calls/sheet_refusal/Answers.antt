@@ -1,7 +1,6 @@
 -- `findings::calls::sheet_refusal` meets its contract: each return by the tests that led there. Assumes nothing.
 use mathlib.Core.Path.{sym, ◌∙◌}
 use Rattle.findings.proofs.ListCalls.{sheet_short, sheet_early, sheet_bad, sheet_good}
-use borrow.Author.Rules.{rules}
 use Rattle.findings.proofs.calls.sheet_refusal.Goals as goal
 
 pub returns-then-sheet-ne8192 : goal.returns-then-sheet-ne8192

@@ -1,13 +1,9 @@
 -- `findings::joint::join` meets its contract. The loop's invariant: the first i pages are those of the sheet to be
 -- made. Assumes nothing.
-use native.Mathlib.Omega.{arith}
 use Prim.Native.Nat.{◌+◌, ◌*◌, ◌-◌, ◌≤◌}
-use mathlib.Core.Path.{◌≡◌, refl, ◌∙◌}
-use native.Mathlib.Nat.{add-sub_cancel_left}
-use lib.ListN.{length, take, drop}
-use Rattle.sheet.proofs.FillLaws.{filled_next, filled_length, part_size, filled}
+use mathlib.Core.Path.{◌≡◌}
+use lib.ListN.{length, take}
 use Rattle.findings.specs.between.Joined.{joined}
-use Rattle.findings.proofs.JointLaws.{joined_size, joined_row}
 use Rattle.findings.proofs.joint.join.Given as goal
 
 abbrev pub invariant-loop-i : goal.invariant-loop-i

@@ -5,7 +5,6 @@ use native.Mathlib.Omega.{arith}
 use Rattle.records.specs.Bytes.{zeros}
 use Rattle.sheet.proofs.FillLaws.{overwrites}
 use Rattle.findings.specs.between.Joined.{joined_page}
-use borrow.Author.Rules.{rules}
 use Rattle.findings.proofs.joint.join_page.Goals as goal
 
 pub returns-then-g-a : goal.returns-then-g-a

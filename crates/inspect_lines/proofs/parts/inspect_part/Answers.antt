@@ -2,7 +2,6 @@
 -- nothing.
 use mathlib.Core.Path.{sym, ◌∙◌}
 use Rattle.inspect_lines.proofs.InputPrinted.{too_long_part, sheet_part, answers_as}
-use borrow.Author.Rules.{rules}
 use Rattle.inspect_lines.proofs.parts.inspect_part.Goals as goal
 
 pub returns-then-bytes-gt16384 : goal.returns-then-bytes-gt16384

@@ -2,7 +2,6 @@
 -- nothing.
 use Prim.Native.Nat.{◌*◌}
 use native.Mathlib.Omega.{arith}
-use borrow.Author.Rules.{rules}
 use Rattle.builder.specs.between.Builder.{findings_most}
 use Rattle.text.proofs.PutParts.{puts_as}
 use Rattle.area_lines.proofs.AreaLists.{pair_there}

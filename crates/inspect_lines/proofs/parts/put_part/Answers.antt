@@ -13,7 +13,6 @@ use Rattle.sheet_lines.proofs.TotalsLine.{totals_there}
 use Rattle.journey_lines.proofs.JourneyLines.{journeys_there}
 use Rattle.area_lines.proofs.AreaLists.{area_there}
 use Rattle.inspect_lines.proofs.PartIndices.{area_at, part_whole, part_area, part_pair, part_totals, part_journeys, part_written, part_none}
-use borrow.Author.Rules.{rules}
 use Rattle.inspect_lines.proofs.parts.put_part.Goals as goal
 
 pub returns-then-k-eq0 : goal.returns-then-k-eq0

@@ -1,7 +1,6 @@
 -- `inspect_lines::parts::read_input` meets its contract: an input that is too long is refused as one for a sheet of
 -- another length. Assumes nothing.
 use mathlib.Core.Path.{refl}
-use borrow.Author.Rules.{rules}
 use Rattle.inspect_lines.proofs.InputPrinted.{input_long, input_read}
 use Rattle.inspect_lines.proofs.parts.read_input.Goals as goal
 

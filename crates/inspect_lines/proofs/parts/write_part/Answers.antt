@@ -1,6 +1,5 @@
 -- `inspect_lines::parts::write_part` meets its contract: there is room for any text, or the count is the needed length,
 -- and the buffer has it or not. Assumes nothing.
-use borrow.Author.Rules.{rules}
 use Rattle.inspect_lines.specs.between.Bounds.{part_most}
 use Rattle.inspect_lines.specs.Parts.{part_text}
 use Rattle.text.proofs.OutputLaws.{put_at_once, left_short, put_counted}

@@ -8,7 +8,6 @@ use Rattle.timetable.specs.Outputs.{reply}
 use Rattle.base.specs.Lists.{same}
 use Rattle.records.specs.Bytes.{zeros}
 use Rattle.inspect_lines.proofs.WrittenLine.{written, unwritten, unrefused}
-use borrow.Author.Rules.{rules}
 use Rattle.inspect_lines.proofs.written.is_written.Goals as goal
 
 pub slice_bounds-is_same-end : goal.slice_bounds-is_same-end

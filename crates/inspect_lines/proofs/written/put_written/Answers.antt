@@ -3,7 +3,6 @@ use native.Mathlib.Omega.{arith}
 use Rattle.inspect_lines.proofs.WrittenLine.{line_yes, line_no}
 use Rattle.text.proofs.PutParts.{puts_as}
 use Rattle.text.proofs.WithinBounds.{line_there}
-use borrow.Author.Rules.{rules}
 use Rattle.inspect_lines.proofs.written.put_written.Goals as goal
 
 pub returns-then-is_written : goal.returns-then-is_written

@@ -1,6 +1,5 @@
 -- `network::Closure::valid` meets its contract: the tests of the fields, put together as the definition does. Assumes
 -- nothing.
-use borrow.Author.Rules.{rules}
 use Rattle.network.specs.Networks.{closure_ok}
 use Rattle.network.proofs.Closure.valid.Goals as goal
 

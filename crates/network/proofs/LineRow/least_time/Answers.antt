@@ -1,5 +1,4 @@
 -- `network::LineRow::least_time` meets its contract: each return rewrites with the test of the train. Assumes nothing.
-use borrow.Author.Rules.{rules}
 use Rattle.network.specs.Networks.{least_time}
 use Rattle.network.proofs.LineRow.least_time.Goals as goal
 

@@ -1,5 +1,4 @@
 -- `network::LineRow::runs` meets its contract: each return rewrites with the tests that led there. Assumes nothing.
-use borrow.Author.Rules.{rules}
 use Rattle.network.specs.Networks.{row_runs}
 use Rattle.network.proofs.LineRow.runs.Goals as goal
 

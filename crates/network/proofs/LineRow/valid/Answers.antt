@@ -1,6 +1,5 @@
 -- `network::LineRow::valid` meets its contract: the tests of the fields, put together as the definition does. Assumes
 -- nothing.
-use borrow.Author.Rules.{rules}
 use Rattle.network.specs.Networks.{line_row_ok}
 use Rattle.network.proofs.LineRow.valid.Goals as goal
 

@@ -1,9 +1,8 @@
 -- `network::Network::closures_end` meets its contract. The loop's invariant: each closure ends after its start
 -- if those from i on do. Assumes nothing.
-use Prim.Native.Nat.{◌≤◌, ◌-◌}
 use mathlib.Core.Path.{◌≡◌, refl, sym, ◌∙◌, ap}
 use native.Mathlib.Omega.{arith}
-use lib.ListN.{length, length-map, take, drop}
+use lib.ListN.{length}
 use borrow.Author.Rules.{rules}
 use Rattle.base.specs.Lists.{every}
 use Rattle.network.specs.Networks.{blank_closure, ends_after, closures_end, closure_rows}

@@ -1,13 +1,10 @@
 -- `network::Network::closures_end` meets its contract. The loop's invariant: each closure ends after its start
 -- if those from i on do. Assumes nothing.
 use Prim.Native.Nat.{◌≤◌, ◌-◌}
-use mathlib.Core.Path.{◌≡◌, refl, sym, ◌∙◌, ap}
-use native.Mathlib.Omega.{arith}
-use lib.ListN.{length, length-map, take, drop}
-use borrow.Author.Rules.{rules}
+use mathlib.Core.Path.{◌≡◌}
+use lib.ListN.{take, drop}
 use Rattle.base.specs.Lists.{every}
-use Rattle.network.specs.Networks.{blank_closure, ends_after, closures_end, closure_rows}
-use Rattle.network.proofs.RowsInUse.{used_rows, every_later, every_not, every_over}
+use Rattle.network.specs.Networks.{ends_after}
 use Rattle.network.proofs.Network.closures_end.Given as goal
 
 abbrev pub invariant-loop-i : goal.invariant-loop-i

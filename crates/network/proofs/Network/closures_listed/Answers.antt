@@ -1,9 +1,8 @@
 -- `network::Network::closures_listed` meets its contract. The loop's invariant: each closure's line is listed if
 -- those from i on are. Assumes nothing.
-use Prim.Native.Nat.{◌≤◌, ◌-◌}
 use mathlib.Core.Path.{◌≡◌, refl, sym, ◌∙◌, ap}
 use native.Mathlib.Omega.{arith}
-use lib.ListN.{length, length-map, take, drop}
+use lib.ListN.{length}
 use borrow.Author.Rules.{rules}
 use Rattle.base.specs.Lists.{every}
 use Rattle.network.specs.Networks.{blank_closure, line_listed, closures_listed, closure_rows}

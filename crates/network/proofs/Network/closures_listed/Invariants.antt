@@ -1,13 +1,10 @@
 -- `network::Network::closures_listed` meets its contract. The loop's invariant: each closure's line is listed if
 -- those from i on are. Assumes nothing.
 use Prim.Native.Nat.{◌≤◌, ◌-◌}
-use mathlib.Core.Path.{◌≡◌, refl, sym, ◌∙◌, ap}
-use native.Mathlib.Omega.{arith}
-use lib.ListN.{length, length-map, take, drop}
-use borrow.Author.Rules.{rules}
+use mathlib.Core.Path.{◌≡◌}
+use lib.ListN.{take, drop}
 use Rattle.base.specs.Lists.{every}
-use Rattle.network.specs.Networks.{blank_closure, line_listed, closures_listed, closure_rows}
-use Rattle.network.proofs.RowsInUse.{used_rows, every_later, every_not, every_over}
+use Rattle.network.specs.Networks.{line_listed}
 use Rattle.network.proofs.Network.closures_listed.Given as goal
 
 abbrev pub invariant-loop-i : goal.invariant-loop-i

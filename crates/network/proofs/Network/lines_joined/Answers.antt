@@ -1,9 +1,8 @@
 -- `network::Network::lines_joined` meets its contract. The loop's invariant: every line's ends are listed if those from
 -- i on are. Assumes nothing.
-use Prim.Native.Nat.{◌≤◌, ◌-◌}
 use mathlib.Core.Path.{◌≡◌, refl, sym, ◌∙◌, ap}
 use native.Mathlib.Omega.{arith}
-use lib.ListN.{length, length-map, take, drop}
+use lib.ListN.{length}
 use borrow.Author.Rules.{rules}
 use Rattle.base.specs.Lists.{every}
 use Rattle.network.specs.Networks.{blank_line, ends_listed, lines_joined, line_rows}

@@ -1,13 +1,10 @@
 -- `network::Network::lines_joined` meets its contract. The loop's invariant: every line's ends are listed if those from
 -- i on are. Assumes nothing.
 use Prim.Native.Nat.{◌≤◌, ◌-◌}
-use mathlib.Core.Path.{◌≡◌, refl, sym, ◌∙◌, ap}
-use native.Mathlib.Omega.{arith}
-use lib.ListN.{length, length-map, take, drop}
-use borrow.Author.Rules.{rules}
+use mathlib.Core.Path.{◌≡◌}
+use lib.ListN.{take, drop}
 use Rattle.base.specs.Lists.{every}
-use Rattle.network.specs.Networks.{blank_line, ends_listed, lines_joined, line_rows}
-use Rattle.network.proofs.RowsInUse.{used_rows, every_later, every_not, every_over}
+use Rattle.network.specs.Networks.{ends_listed}
 use Rattle.network.proofs.Network.lines_joined.Given as goal
 
 abbrev pub invariant-loop-i : goal.invariant-loop-i

@@ -1,16 +1,10 @@
 -- `network::Network::lines_rise` meets its contract. The loop's invariant: the rows are in range and rise if those from
 -- i on do, from the last number seen on. Assumes nothing.
-use Prim.Native.Nat.{ℕ, ◌≤◌, ◌<◌, ◌-◌, min}
-use mathlib.Core.Path.{◌≡◌, refl, sym, ◌∙◌, ap}
-use mathlib.Core.Bool.{true}
-use native.Mathlib.Omega.{arith}
-use lib.Dec.{leb→le}
-use lib.ListN.{length, length-map, take, drop}
-use borrow.Author.Rules.{rules}
-use Rattle.base.proofs.Tests.{true_T, and_l}
-use Rattle.network.specs.Types.{LineRow, Network}
-use Rattle.network.specs.Networks.{blank_line, line_row_ok, line_rows, lines_rise}
-use Rattle.network.proofs.RowsInUse.{used_rows, chained, chained_not, chained_falls, chained_later, chained_over, rises}
+use Prim.Native.Nat.{◌≤◌, ◌-◌}
+use mathlib.Core.Path.{◌≡◌}
+use lib.ListN.{take, drop}
+use Rattle.network.specs.Networks.{line_row_ok}
+use Rattle.network.proofs.RowsInUse.{chained}
 use Rattle.network.proofs.Network.lines_rise.Given as goal
 
 abbrev pub invariant-loop-i : goal.invariant-loop-i

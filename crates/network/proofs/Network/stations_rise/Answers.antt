@@ -1,11 +1,11 @@
 -- `network::Network::stations_rise` meets its contract. The loop's invariant: the rows are in range and rise if those
 -- from i on do, from the last number seen on. Assumes nothing.
-use Prim.Native.Nat.{ℕ, ◌≤◌, ◌<◌, ◌-◌, min}
+use Prim.Native.Nat.{ℕ, ◌<◌, min}
 use mathlib.Core.Path.{◌≡◌, refl, sym, ◌∙◌, ap}
 use mathlib.Core.Bool.{true}
 use native.Mathlib.Omega.{arith}
 use lib.Dec.{leb→le}
-use lib.ListN.{length, length-map, take, drop}
+use lib.ListN.{length, take}
 use borrow.Author.Rules.{rules}
 use Rattle.base.proofs.Tests.{true_T, and_l}
 use Rattle.network.specs.Types.{StationRow, Network}

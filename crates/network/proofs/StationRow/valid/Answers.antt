@@ -1,5 +1,4 @@
 -- `network::StationRow::valid` meets its contract: each return rewrites with the tests that led there. Assumes nothing.
-use borrow.Author.Rules.{rules}
 use Rattle.network.specs.Networks.{station_row_ok}
 use Rattle.network.proofs.StationRow.valid.Goals as goal
 

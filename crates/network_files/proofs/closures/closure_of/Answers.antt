@@ -1,5 +1,4 @@
 -- `network_files::closures::closure_of` meets its contract by computation. Assumes nothing.
-use borrow.Author.Rules.{rules}
 use Rattle.network_files.specs.between.Rows.{closure_with}
 use Rattle.network_files.proofs.closures.closure_of.Goals as goal
 

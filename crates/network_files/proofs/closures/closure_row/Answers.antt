@@ -3,7 +3,6 @@
 use Prim.Native.Nat.{ℕ}
 use mathlib.Core.Path.{sym, ◌∙◌, ap}
 use mathlib.Core.List.{List}
-use borrow.Author.Rules.{rules}
 use Rattle.railway.specs.Ranges.{last_minute}
 use Rattle.network.specs.declared.Closure.{Closure}
 use Rattle.timetable.specs.Formats.{accepted, field_at, least, floor_after}

@@ -1,5 +1,4 @@
 -- `network_files::closures::refused_closures` meets its contract: the rows are blank. Assumes nothing.
-use borrow.Author.Rules.{rules}
 use Rattle.fields.specs.between.Answers.{padded}
 use Rattle.network_files.specs.Answers.{closures_read}
 use Rattle.network_files.proofs.closures.refused_closures.Goals as goal

@@ -1,5 +1,4 @@
 -- `network_files::draft::blank_network` meets its contract: every row is blank. Assumes nothing.
-use borrow.Author.Rules.{rules}
 use Rattle.timetable.specs.NetworkFile.{network_with, blank_network}
 use Rattle.network_files.proofs.draft.blank_network.Goals as goal
 

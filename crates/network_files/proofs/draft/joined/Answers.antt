@@ -1,6 +1,5 @@
 -- `network_files::draft::joined` meets its contract: each return rewrites with the tests that led there. Assumes
 -- nothing.
-use borrow.Author.Rules.{rules}
 use Rattle.network.specs.Networks.{ends_listed}
 use Rattle.network_files.proofs.draft.joined.Goals as goal
 

@@ -1,9 +1,6 @@
 -- `network_files::draft::line_from` meets its contract by computation, the place of the time of freight being known.
 -- Assumes nothing.
-use native.Mathlib.Omega.{arith}
-use borrow.Author.Rules.{rules}
 use Rattle.timetable.specs.NetworkFile.{line_of}
-use Rattle.network_files.proofs.DraftLaws.{freight_low}
 use Rattle.network_files.proofs.draft.line_from.Goals as goal
 
 pub returns : goal.returns

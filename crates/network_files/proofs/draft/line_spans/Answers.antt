@@ -1,7 +1,5 @@
 -- `network_files::draft::line_spans` meets its contract: in each form the ranges are computed. Assumes nothing.
-use native.Mathlib.Omega.{arith}
-use borrow.Author.Rules.{rules}
-use Rattle.network_files.proofs.DraftLaws.{freight_low, line_spanned}
+use Rattle.network_files.proofs.DraftLaws.{line_spanned}
 use Rattle.network_files.proofs.draft.line_spans.Goals as goal
 
 pub returns : goal.returns

@@ -1,27 +1,18 @@
 -- `network_files::draft::lines` meets its contract. The loop's invariant: the rows read stand in the first places, the
 -- list is those rows and then what is left, and the fault is that of the rows read. Assumes nothing.
-use Prim.Native.Nat.{ℕ, suc, ◌+◌, ◌-◌, ◌<◌, ◌≤◌}
-use mathlib.Core.Path.{◌≡◌, sym, ◌∙◌, ap, ap₂}
-use mathlib.Core.Bool.{Bool, true, not}
+use Prim.Native.Nat.{ℕ, ◌-◌, ◌≤◌}
+use mathlib.Core.Path.{◌≡◌}
+use mathlib.Core.Bool.{Bool, not}
 use mathlib.Core.List.{List, [], ◌∷◌, map}
-use native.Mathlib.Omega.{arith}
-use lib.ListN.{length-map, set}
-use borrow.Author.Rules.{rules}
 use Rattle.base.specs.Lists.{first}
 use Rattle.network.specs.declared.LineRow.{LineRow}
 use Rattle.network.specs.declared.Network.{Network}
 use Rattle.network.specs.Networks.{blank_line, ends_listed}
-use Rattle.timetable.specs.Formats.{Outcome, accepted, refused, read, entries, Placed}
-use Rattle.timetable.specs.NetworkFile.{fault_of, line_fields, line_entry, line_floor, lines_format}
-use Rattle.network_files.specs.declared.draft.LinesRead.{LinesRead}
-use Rattle.timetable.specs.declared.Fault.{Fault}
+use Rattle.timetable.specs.Formats.{Outcome, read, entries, Placed}
+use Rattle.timetable.specs.NetworkFile.{fault_of, line_entry, line_floor}
 use Rattle.timetable.specs.declared.NetworkForm.{NetworkForm}
 use Rattle.fields.specs.between.Answers.{padded}
-use Rattle.network_files.specs.Answers.{lines_read, line_outcome}
-use Rattle.network_files.specs.between.Faults.{fault_next}
-use Rattle.fields.proofs.ReadLaws.{prefixed, SoFar, start, turn, stop, over, padded_next, map_snoc, entries_next, entries_stop, entries_over}
-use Rattle.fields.proofs.EntryLaws.{placed_some, placed_none}
-use Rattle.network_files.proofs.DraftLaws.{fault_snoc}
+use Rattle.fields.proofs.ReadLaws.{SoFar}
 use Rattle.network_files.proofs.draft.lines.Given as goal
 
 abbrev pub left_at : NetworkForm → List ℕ → ℕ → ℕ → ℕ → Outcome (List (Placed LineRow))

@@ -1,12 +1,9 @@
 -- `network_files::draft::narrowed` meets its contract: the first i bytes are those of the first i numbers. Assumes
 -- nothing.
 use Prim.Native.Nat.{◌-◌, ◌≤◌}
-use mathlib.Core.Path.{◌≡◌, refl, ◌∙◌}
-use native.Mathlib.Omega.{arith}
-use lib.ListN.{length, take, length-set}
-use borrow.Author.Rules.{rules}
+use mathlib.Core.Path.{◌≡◌}
+use lib.ListN.{length, take}
 use Rattle.network_files.specs.between.Rows.{as_bytes}
-use Rattle.network_files.proofs.DraftLaws.{bytes_next, bytes_all}
 use Rattle.network_files.proofs.draft.narrowed.Given as goal
 
 abbrev pub invariant-loop-i : goal.invariant-loop-i

@@ -1,5 +1,4 @@
 -- `network_files::draft::refused_draft` meets its contract: the network is blank. Assumes nothing.
-use borrow.Author.Rules.{rules}
 use Rattle.network_files.specs.Answers.{draft_read}
 use Rattle.network_files.proofs.draft.refused_draft.Goals as goal
 

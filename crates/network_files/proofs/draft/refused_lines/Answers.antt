@@ -1,5 +1,4 @@
 -- `network_files::draft::refused_lines` meets its contract: the rows are blank. Assumes nothing.
-use borrow.Author.Rules.{rules}
 use Rattle.fields.specs.between.Answers.{padded}
 use Rattle.network_files.specs.Answers.{lines_read}
 use Rattle.network_files.proofs.draft.refused_lines.Goals as goal

@@ -1,6 +1,5 @@
 -- `network_files::draft::station_spans` meets its contract by computation. Assumes nothing.
 use mathlib.Core.Path.{refl}
-use borrow.Author.Rules.{rules}
 use Rattle.timetable.specs.NetworkFile.{station_ranges}
 use Rattle.fields.specs.between.Answers.{ranges_of}
 use Rattle.network_files.specs.between.Rows.{above}

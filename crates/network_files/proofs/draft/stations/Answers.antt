@@ -9,12 +9,12 @@ use lib.ListN.{set}
 use borrow.Author.Rules.{rules}
 use Rattle.network.specs.Networks.{blank_station}
 use Rattle.network.specs.declared.StationRow.{StationRow}
-use Rattle.timetable.specs.Formats.{Outcome, accepted, refused, read, entries}
+use Rattle.timetable.specs.Formats.{accepted, refused, read}
 use Rattle.timetable.specs.NetworkFile.{station_entry, station_floor, stations_format}
 use Rattle.network_files.specs.declared.draft.StationsRead.{StationsRead}
 use Rattle.fields.specs.between.Answers.{padded}
 use Rattle.network_files.specs.Answers.{stations_read, station_outcome}
-use Rattle.fields.proofs.ReadLaws.{prefixed, SoFar, start, turn, stop, over, padded_next, entries_next, entries_stop, entries_over}
+use Rattle.fields.proofs.ReadLaws.{prefixed, start, turn, stop, over, padded_next, entries_next, entries_stop, entries_over}
 use Rattle.network_files.proofs.draft.stations.Goals as goal
 use Rattle.network_files.proofs.draft.stations.Invariants.{left_at}
 

@@ -1,20 +1,14 @@
 -- `network_files::draft::stations` meets its contract. The loop's invariant: the rows read stand in the first places,
 -- and the list is those rows and then what is left. Assumes nothing.
-use Prim.Native.Nat.{ℕ, suc, ◌+◌, ◌-◌, ◌<◌, ◌≤◌}
-use mathlib.Core.Path.{◌≡◌, sym, ◌∙◌, ap}
-use mathlib.Core.Bool.{true}
+use Prim.Native.Nat.{ℕ, ◌-◌, ◌≤◌}
+use mathlib.Core.Path.{◌≡◌}
 use mathlib.Core.List.{List, [], ◌∷◌}
-use native.Mathlib.Omega.{arith}
-use lib.ListN.{set}
-use borrow.Author.Rules.{rules}
 use Rattle.network.specs.Networks.{blank_station}
 use Rattle.network.specs.declared.StationRow.{StationRow}
-use Rattle.timetable.specs.Formats.{Outcome, accepted, refused, read, entries}
-use Rattle.timetable.specs.NetworkFile.{station_entry, station_floor, stations_format}
-use Rattle.network_files.specs.declared.draft.StationsRead.{StationsRead}
+use Rattle.timetable.specs.Formats.{Outcome, read, entries}
+use Rattle.timetable.specs.NetworkFile.{station_entry, station_floor}
 use Rattle.fields.specs.between.Answers.{padded}
-use Rattle.network_files.specs.Answers.{stations_read, station_outcome}
-use Rattle.fields.proofs.ReadLaws.{prefixed, SoFar, start, turn, stop, over, padded_next, entries_next, entries_stop, entries_over}
+use Rattle.fields.proofs.ReadLaws.{SoFar}
 use Rattle.network_files.proofs.draft.stations.Given as goal
 
 abbrev pub left_at : List ℕ → ℕ → ℕ → ℕ → Outcome (List StationRow)

@@ -1,5 +1,4 @@
 -- `network_files::draft::with_stations` meets its contract: all else of the network is blank. Assumes nothing.
-use borrow.Author.Rules.{rules}
 use Rattle.fields.specs.between.Answers.{padded}
 use Rattle.timetable.specs.NetworkFile.{blank_network, network_with}
 use Rattle.network_files.specs.Answers.{before_lines}

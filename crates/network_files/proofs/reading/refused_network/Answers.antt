@@ -1,5 +1,4 @@
 -- `network_files::reading::refused_network` meets its contract: the network is blank. Assumes nothing.
-use borrow.Author.Rules.{rules}
 use Rattle.timetable.specs.Formats.{number, place_of, value_or}
 use Rattle.network_files.specs.Answers.{network_answer}
 use Rattle.network_files.proofs.reading.refused_network.Goals as goal

@@ -4,7 +4,6 @@ use native.Mathlib.Omega.{arith}
 use Rattle.timetable.specs.NetworkFile.{station_numbers}
 use Rattle.fields.specs.between.Answers.{in_use}
 use Rattle.fields.proofs.NumbersPut.{near}
-use borrow.Author.Rules.{rules}
 use Rattle.network_writing.proofs.writing.put_station.Goals as goal
 
 pub returns : goal.returns

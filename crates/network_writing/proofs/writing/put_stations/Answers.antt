@@ -1,12 +1,11 @@
 -- `network_writing::writing::put_stations` meets its contract: what all rows in use would write is what the rows from i
 -- on still write, from the place reached. Assumes nothing.
-use Prim.Native.Nat.{◌+◌, ◌-◌, ◌*◌, ◌≤◌}
 use mathlib.Core.Path.{◌≡◌, refl, ◌∙◌}
 use native.Mathlib.Omega.{arith}
-use lib.ListN.{length, length-map}
+use lib.ListN.{length}
 use Rattle.network.specs.Networks.{blank_station, station_rows}
 use Rattle.timetable.specs.NetworkFile.{station_numbers}
-use Rattle.fields.proofs.NumbersPut.{Left, row_put, rows_put}
+use Rattle.fields.proofs.NumbersPut.{row_put, rows_put}
 use borrow.Author.Rules.{rules}
 use Rattle.network_writing.proofs.writing.put_stations.Goals as goal
 

@@ -1,7 +1,6 @@
 -- `page::entries::entry_record` meets its contract: the test decides where the record is cut out. Assumes nothing.
 use mathlib.Core.Path.{◌∙◌}
 use Rattle.page.proofs.EntryLaws.{entry_cut, entry_left}
-use borrow.Author.Rules.{rules}
 use Rattle.page.proofs.entries.entry_record.Goals as goal
 
 pub returns-then-i-visit_count : goal.returns-then-i-visit_count

@@ -1,7 +1,6 @@
 -- `page::entries::relation_record` meets its contract: the test decides where the record is cut out. Assumes nothing.
 use mathlib.Core.Path.{◌∙◌}
 use Rattle.page.proofs.EntryLaws.{relation_cut, relation_left}
-use borrow.Author.Rules.{rules}
 use Rattle.page.proofs.entries.relation_record.Goals as goal
 
 pub returns-then-i-relation_count : goal.returns-then-i-relation_count

@@ -4,7 +4,6 @@ use Rattle.page.specs.between.Changes.{table_in}
 use Rattle.page.proofs.FoundLaws.{found_some, found_none}
 use Rattle.rules.specs.between.Parts.{entry}
 use Rattle.page_rules.proofs.RuleLaws.{arrival_none, arrival_some}
-use borrow.Author.Rules.{rules}
 use Rattle.page_rules.proofs.lines.arrival_of.Goals as goal
 
 pub returns-in-Is : goal.returns-in-Is

@@ -2,7 +2,6 @@
 -- nothing.
 use Rattle.timetable.specs.Rules.{breaks_10, single}
 use Rattle.rules.specs.between.Parts.{kind_three}
-use borrow.Author.Rules.{rules}
 use Rattle.page_rules.proofs.lines.breaks_10.Goals as goal
 
 pub returns-then-v : goal.returns-then-v

@@ -4,7 +4,6 @@ use Prim.Native.Nat.{ℕ}
 use mathlib.Core.Path.{ap, ◌∙◌}
 use Rattle.rules.specs.between.Parts.{meets}
 use Rattle.page_rules.specs.between.Parts.{towards}
-use borrow.Author.Rules.{rules}
 use Rattle.page_rules.proofs.lines.comes_towards.Goals as goal
 
 pub returns-then-is_towards : goal.returns-then-is_towards

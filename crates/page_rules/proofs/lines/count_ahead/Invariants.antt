@@ -1,19 +1,10 @@
 -- `page_rules::lines::count_ahead` meets its contract. The loop's invariant: those counted and those ahead among the
 -- entries from i on are all. Assumes nothing.
-use native.Mathlib.Omega.{arith}
-use borrow.Author.Rules.{rules}
 use Prim.Native.Nat.{◌+◌, ◌-◌, ◌≤◌}
-use mathlib.Core.Path.{◌≡◌, ap, ◌∙◌}
-use mathlib.Core.List.{List}
+use mathlib.Core.Path.{◌≡◌}
 use lib.ListN.{length, drop}
-use Rattle.timetable.specs.Tables.{Entry}
 use Rattle.page.specs.between.Changes.{table_in}
-use Rattle.rules.specs.between.Parts.{entry, leads}
-use Rattle.page.specs.between.Entries.{entry_at}
 use Rattle.page_rules.specs.between.Parts.{leaders}
-use Rattle.page.proofs.EntryLaws.{entries_next, entries_over, entry_of, entry_parts}
-use Rattle.page_rules.proofs.RuleLaws.{leaders_many, leaders_none}
-use Rattle.base.specs.Choice.{◌if◌else◌}
 use Rattle.page_rules.proofs.lines.count_ahead.Given as goal
 
 abbrev pub invariant-loop-i : goal.invariant-loop-i

@@ -5,7 +5,6 @@ use Rattle.visits.proofs.LinkLaws.{leaves_at, leaves_none}
 use Rattle.timetable.specs.Rules.{opposes}
 use Rattle.rules.specs.between.Parts.{is_towards, meets}
 use Rattle.page_rules.specs.between.Parts.{towards}
-use borrow.Author.Rules.{rules}
 use Rattle.page_rules.proofs.lines.does_oppose.Goals as goal
 
 pub returns-then-t-u : goal.returns-then-t-u

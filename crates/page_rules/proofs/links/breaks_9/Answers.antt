@@ -3,7 +3,6 @@ use Rattle.timetable.specs.Tables.{visit_of}
 use Rattle.timetable.specs.Rules.{out_answered, breaks_9}
 use Rattle.page.specs.between.Changes.{table_in}
 use Rattle.page.proofs.FoundLaws.{found_some, found_none}
-use borrow.Author.Rules.{rules}
 use Rattle.page_rules.proofs.links.breaks_9.Goals as goal
 
 pub returns-then-is_from : goal.returns-then-is_from

@@ -4,7 +4,6 @@ use Rattle.timetable.specs.Tables.{visit_of}
 use Rattle.timetable.specs.Rules.{out_answered}
 use Rattle.page.specs.between.Changes.{table_in}
 use Rattle.page.proofs.FoundLaws.{found_some, found_none}
-use borrow.Author.Rules.{rules}
 use Rattle.page_rules.proofs.links.is_out_answered.Goals as goal
 
 pub returns-in-Is : goal.returns-in-Is

@@ -3,7 +3,6 @@ use Rattle.timetable.specs.Tables.{visit_of}
 use Rattle.timetable.specs.Rules.{both_visit}
 use Rattle.page.specs.between.Changes.{table_in}
 use Rattle.page.proofs.FoundLaws.{found_some, found_none}
-use borrow.Author.Rules.{rules}
 use Rattle.page_rules.proofs.relations.are_apart.Goals as goal
 
 pub returns-in-Is-other : goal.returns-in-Is-other

@@ -5,7 +5,6 @@ use Rattle.page.proofs.FoundLaws.{found_some, found_none}
 use Rattle.page_rules.proofs.RuleLaws.{so_some, so_none}
 use mathlib.Core.Path.{◌∙◌}
 use mathlib.Core.Bool.{true, false}
-use borrow.Author.Rules.{rules}
 use Rattle.page_rules.proofs.relations.does_visit.Goals as goal
 
 pub returns-then-connection : goal.returns-then-connection

@@ -1,7 +1,6 @@
 -- `page_rules::relations::each_met` meets its contract: each return rewrites with the tests that led there. Assumes
 -- nothing.
 use Rattle.page_rules.specs.between.Parts.{each_met}
-use borrow.Author.Rules.{rules}
 use Rattle.page_rules.proofs.relations.each_met.Goals as goal
 
 pub returns-then-one_met-3 : goal.returns-then-one_met-3

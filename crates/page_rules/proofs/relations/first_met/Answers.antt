@@ -1,7 +1,6 @@
 -- `page_rules::relations::first_met` meets its contract: each return rewrites with the tests that led there. Assumes
 -- nothing.
 use Rattle.page_rules.specs.between.Parts.{first_met}
-use borrow.Author.Rules.{rules}
 use Rattle.page_rules.proofs.relations.first_met.Goals as goal
 
 pub returns-then-two_met-2 : goal.returns-then-two_met-2

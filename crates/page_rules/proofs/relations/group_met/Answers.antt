@@ -1,7 +1,6 @@
 -- `page_rules::relations::group_met` meets its contract: each return rewrites with the test that led there. Assumes
 -- nothing.
 use Rattle.page_rules.specs.between.Parts.{group_met}
-use borrow.Author.Rules.{rules}
 use Rattle.page_rules.proofs.relations.group_met.Goals as goal
 
 pub returns-then-each_met : goal.returns-then-each_met

@@ -2,7 +2,6 @@
 use Rattle.timetable.specs.Rules.{met}
 use Rattle.page.specs.between.Changes.{table_in}
 use Rattle.page_rules.proofs.RuleLaws.{connection_met, disconnection_met}
-use borrow.Author.Rules.{rules}
 use Rattle.page_rules.proofs.relations.is_met.Goals as goal
 
 pub returns-in-Connection : goal.returns-in-Connection

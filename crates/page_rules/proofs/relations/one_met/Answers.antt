@@ -1,7 +1,6 @@
 -- `page_rules::relations::one_met` meets its contract: the place holds a train, or none. Assumes nothing.
 use borrow.Author.Tests.{lt-ltb, le-ltb}
 use Rattle.page_rules.specs.between.Parts.{one_met}
-use borrow.Author.Rules.{rules}
 use Rattle.page_rules.proofs.relations.one_met.Goals as goal
 
 pub returns-then-t-gt0 : goal.returns-then-t-gt0

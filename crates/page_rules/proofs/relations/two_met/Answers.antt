@@ -1,7 +1,6 @@
 -- `page_rules::relations::two_met` meets its contract: each place holds a train, or none. Assumes nothing.
 use borrow.Author.Tests.{lt-ltb, le-ltb}
 use Rattle.page_rules.specs.between.Parts.{two_met}
-use borrow.Author.Rules.{rules}
 use Rattle.page_rules.proofs.relations.two_met.Goals as goal
 
 pub returns-then-u-gt0 : goal.returns-then-u-gt0

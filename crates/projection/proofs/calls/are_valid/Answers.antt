@@ -1,6 +1,5 @@
 -- `projection::calls::are_valid` meets its contract: the tests that led to each return decide it. Assumes nothing.
 use Rattle.projection.specs.Calls.{values_fit}
-use borrow.Author.Rules.{rules}
 use Rattle.projection.proofs.calls.are_valid.Goals as goal
 
 pub returns-then-valid-2 : goal.returns-then-valid-2

@@ -1,7 +1,6 @@
 -- `projection::calls::early_refusal` meets its contract: the tests that led to each return decide it. Assumes nothing.
 use mathlib.Core.Path.{sym, ◌∙◌}
 use Rattle.projection.proofs.ProjectionCall.{early_values, early_network, early_unknown, early_none}
-use borrow.Author.Rules.{rules}
 use Rattle.projection.proofs.calls.early_refusal.Goals as goal
 
 pub returns-then-listed : goal.returns-then-listed

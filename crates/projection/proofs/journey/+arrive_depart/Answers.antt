@@ -7,13 +7,12 @@ use mathlib.Core.List.{List}
 use native.Mathlib.Omega.{arith}
 use lib.IntN.{ℤ}
 use lib.ListN.{length}
-use borrow.Author.Rules.{rules}
 use Rattle.timetable.specs.Outputs.{put}
 use Rattle.projection.specs.Numbers.{arrival_numbers}
 use Rattle.page.proofs.FoundLaws.{found_some, found_none}
 use Rattle.projection.proofs.JourneyLaws.{arrival_none, arrival_missing, arrival_known}
 use Rattle.projection.proofs.JourneyLaws.{departure_last, departure_on, departure_ends, none_put, row_put}
-use Prim.Native.Nat.{ℕ, ◌+◌, ◌<◌}
+use Prim.Native.Nat.{ℕ, ◌+◌}
 use Rattle.projection.proofs.journey.+arrive_depart.Goals as goal
 
 pub arrive-returns-then-left-eq0 : goal.arrive-returns-then-left-eq0

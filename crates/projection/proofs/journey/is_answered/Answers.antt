@@ -3,7 +3,6 @@ use mathlib.Core.Path.{◌∙◌}
 use Rattle.sheet.specs.Sheets.{decode_sheet}
 use Rattle.page.proofs.FoundLaws.{found_some, found_none}
 use Rattle.projection.proofs.JourneyLaws.{answered_by, answered_not}
-use borrow.Author.Rules.{rules}
 use Rattle.projection.proofs.journey.is_answered.Goals as goal
 
 pub returns-in-Is : goal.returns-in-Is

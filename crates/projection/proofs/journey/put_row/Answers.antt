@@ -3,7 +3,6 @@ use native.Mathlib.Omega.{arith}
 use mir.Syntax.{w32}
 use mir.Facts.{to_z_pos, to_z-of_z}
 use Rattle.projection.proofs.FourNumbers.{put_four}
-use borrow.Author.Rules.{rules}
 use Rattle.projection.proofs.journey.put_row.Goals as goal
 
 pub returns : goal.returns

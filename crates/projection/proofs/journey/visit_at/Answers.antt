@@ -5,7 +5,6 @@ use mathlib.Core.List.{List}
 use Rattle.timetable.specs.Tables.{Table, visit_of}
 use Rattle.page.specs.between.Changes.{table_in, visit_answer}
 use Rattle.sheet.proofs.StationLaws.{station_table}
-use borrow.Author.Rules.{rules}
 use Rattle.projection.proofs.journey.visit_at.Goals as goal
 
 pub returns : goal.returns

@@ -1,7 +1,6 @@
 -- `projection::times::expected_arrival` meets its contract: the visit's status decides. Assumes nothing.
 use native.Mathlib.Omega.{arith}
 use Rattle.timetable.specs.Projection.{expected_arrival}
-use borrow.Author.Rules.{rules}
 use Rattle.projection.proofs.times.expected_arrival.Goals as goal
 
 pub returns-then-v : goal.returns-then-v

@@ -8,7 +8,6 @@ use Rattle.std.specs.Prelude.{if◌then◌else◌}
 use Rattle.timetable.specs.Visits.{dep, stops_anyway}
 use Rattle.timetable.specs.Projection.{expected_departure}
 use Rattle.projection.specs.Types.{Visit}
-use borrow.Author.Rules.{rules}
 use Rattle.projection.proofs.times.expected_departure.Goals as goal
 
 marked-only : (v : Visit) (a : ℕ) → v.departed ≡ false → stops_anyway v ≡ false → v.marked ≡ true → max (dep v) a ≡ expected_departure v a

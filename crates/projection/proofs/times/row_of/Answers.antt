@@ -6,7 +6,6 @@ use mir.Syntax.{w32}
 use mir.Val.{to_z, of_z}
 use Rattle.timetable.specs.Projection.{row}
 use Rattle.projection.proofs.LateLaws.{late_kept}
-use borrow.Author.Rules.{rules}
 use Rattle.projection.proofs.times.row_of.Goals as goal
 
 pub returns : goal.returns

@@ -1,6 +1,5 @@
 -- `railway::relation::further` meets its contract: each return rewrites with the tests that led there. Assumes nothing.
 use borrow.Author.Tests.{eq-eqb, le-ltb, lt-ltb, ne_eqb}
-use borrow.Author.Rules.{rules}
 use Rattle.railway.specs.Relations.{further_ok}
 use Rattle.railway.proofs.relation.further.Goals as goal
 

@@ -1,11 +1,9 @@
 -- `railway::relation::is_below` meets its contract. The loop's invariant: the lists compare as what is left of them.
 -- Assumes nothing.
 use Prim.Native.Nat.{◌≤◌, ◌-◌}
-use mathlib.Core.Path.{◌≡◌, refl, sym, ◌∙◌}
-use native.Mathlib.Omega.{arith}
+use mathlib.Core.Path.{◌≡◌}
 use lib.ListN.{drop}
 use Rattle.base.specs.Lists.{below}
-use Rattle.base.proofs.Lengths.{below_yes, below_no, below_on, below_end}
 use Rattle.railway.proofs.relation.is_below.Given as goal
 
 abbrev pub invariant-loop-i : goal.invariant-loop-i

@@ -1,11 +1,9 @@
 -- `railway::relation::is_same` meets its contract. The loop's invariant: the lists compare as what is left of them.
 -- Assumes nothing.
 use Prim.Native.Nat.{◌≤◌, ◌-◌}
-use mathlib.Core.Path.{◌≡◌, refl, sym, ◌∙◌}
-use native.Mathlib.Omega.{arith}
+use mathlib.Core.Path.{◌≡◌}
 use lib.ListN.{drop}
 use Rattle.base.specs.Lists.{same}
-use Rattle.base.proofs.Lengths.{same_no, same_on, same_end}
 use Rattle.railway.proofs.relation.is_same.Given as goal
 
 abbrev pub invariant-loop-i : goal.invariant-loop-i

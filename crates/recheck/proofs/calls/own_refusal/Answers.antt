@@ -1,6 +1,5 @@
 -- `recheck::calls::own_refusal` meets its contract: each return by the test of the area. Assumes nothing.
 use mathlib.Core.Path.{sym, ◌∙◌}
-use borrow.Author.Rules.{rules}
 use Rattle.recheck.proofs.CallLaws.{own_edit, own_area}
 use Rattle.recheck.proofs.calls.own_refusal.Goals as goal
 

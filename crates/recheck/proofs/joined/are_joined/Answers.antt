@@ -1,9 +1,8 @@
 -- `recheck::joined::are_joined` meets its contract. The loop's invariant: some line joins the two if one from i on
 -- does. Assumes nothing.
-use Prim.Native.Nat.{◌≤◌, ◌-◌}
 use mathlib.Core.Path.{◌≡◌, refl, sym, ◌∙◌, ap}
 use native.Mathlib.Omega.{arith}
-use lib.ListN.{length, length-map, take, drop}
+use lib.ListN.{length}
 use borrow.Author.Rules.{rules}
 use Rattle.base.specs.Lists.{any}
 use Rattle.network.specs.Networks.{blank_line, line_rows}

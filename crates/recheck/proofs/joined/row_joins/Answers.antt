@@ -1,6 +1,5 @@
 -- `recheck::joined::row_joins` meets its contract: the two ways are what its two calls answer. Assumes nothing.
 use Rattle.timetable.specs.Recheck.{row_joins}
-use borrow.Author.Rules.{rules}
 use Rattle.recheck.proofs.joined.row_joins.Goals as goal
 
 pub returns-then-are_two : goal.returns-then-are_two

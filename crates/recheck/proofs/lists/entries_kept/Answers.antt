@@ -1,13 +1,10 @@
 -- `recheck::lists::entries_kept` meets its contract. The loop's invariant: what stays from the start on is what was
 -- counted and what stays from i on. Assumes nothing.
-use Prim.Native.Nat.{◌+◌, ◌-◌, ◌%◌, ◌≤◌}
+use Prim.Native.Nat.{◌+◌, ◌≤◌}
 use mathlib.Core.Path.{◌≡◌, sym, ◌∙◌}
-use mathlib.Core.Logic.{⊎_elim}
 use native.Mathlib.Omega.{arith}
 use lib.ListN.{length}
 use borrow.Author.Rules.{rules}
-use borrow.Author.Tests.{not-true, not-false}
-use Rattle.recheck.specs.between.Kept.{Stay}
 use Rattle.recheck.proofs.FourLaws.{length_skip, length_stay}
 use Rattle.recheck.proofs.lists.entries_kept.Goals as goal
 use Rattle.recheck.proofs.lists.entries_kept.Goals.{then-not-is_redone, else-not-is_redone}

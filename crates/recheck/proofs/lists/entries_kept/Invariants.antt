@@ -1,14 +1,9 @@
 -- `recheck::lists::entries_kept` meets its contract. The loop's invariant: what stays from the start on is what was
 -- counted and what stays from i on. Assumes nothing.
-use Prim.Native.Nat.{◌+◌, ◌-◌, ◌%◌, ◌≤◌}
-use mathlib.Core.Path.{◌≡◌, sym, ◌∙◌}
-use mathlib.Core.Logic.{⊎_elim}
-use native.Mathlib.Omega.{arith}
+use Prim.Native.Nat.{◌-◌, ◌%◌, ◌≤◌}
+use mathlib.Core.Path.{◌≡◌}
 use lib.ListN.{length}
-use borrow.Author.Rules.{rules}
-use borrow.Author.Tests.{not-true, not-false}
 use Rattle.recheck.specs.between.Kept.{Stay}
-use Rattle.recheck.proofs.FourLaws.{length_skip, length_stay}
 use Rattle.recheck.proofs.lists.entries_kept.Given as goal
 
 abbrev pub invariant-loop-i : goal.invariant-loop-i

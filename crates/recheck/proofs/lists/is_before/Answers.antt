@@ -2,7 +2,6 @@
 use mathlib.Core.Path.{sym, ◌∙◌}
 use Rattle.recheck.specs.between.Kept.{four_at, before_at}
 use Rattle.recheck.proofs.RisingLaws.{below_apart, below_on, below_last}
-use borrow.Author.Rules.{rules}
 use Rattle.recheck.proofs.lists.is_before.Goals as goal
 
 pub returns-then-station-other_station : goal.returns-then-station-other_station

@@ -1,10 +1,7 @@
 -- `recheck::lists::kept_length` meets its contract. The loop's invariant: what stays of the list is what was counted
 -- and what stays from i on. Assumes nothing.
-use Prim.Native.Nat.{◌+◌, ◌-◌, ◌%◌, ◌≤◌}
-use mathlib.Core.Path.{◌≡◌, refl}
+use mathlib.Core.Path.{refl}
 use native.Mathlib.Omega.{arith}
-use lib.ListN.{length, drop}
-use Rattle.recheck.specs.between.Kept.{kept_numbers}
 use Rattle.recheck.proofs.FourLaws.{none_over}
 use Rattle.recheck.proofs.lists.kept_length.Goals as goal
 

@@ -1,13 +1,11 @@
 -- `recheck::lists::rises` meets its contract. The loop's invariant: the list rises if it rises from the finding before
 -- i on; each turn compares that finding with the one at i. Assumes nothing.
-use Prim.Native.Nat.{◌+◌, ◌-◌, ◌%◌, ◌≤◌}
-use mathlib.Core.Path.{◌≡◌, refl, sym, ◌∙◌}
+use Prim.Native.Nat.{◌+◌, ◌-◌, ◌%◌}
+use mathlib.Core.Path.{◌≡◌, sym, ◌∙◌}
 use native.Mathlib.Omega.{arith}
-use lib.ListN.{length, drop}
-use borrow.Author.Tests.{eq-eqb, ne_eqb, not-true, not-false}
-use Rattle.base.specs.Lists.{each_two}
-use Rattle.timetable.specs.Findings.{findings_in}
-use Rattle.timetable.specs.Recheck.{before, list_rises}
+use lib.ListN.{length}
+use borrow.Author.Tests.{eq-eqb, ne_eqb}
+use Rattle.timetable.specs.Recheck.{list_rises}
 use Rattle.recheck.proofs.RisingLaws.{rises_next, rises_over}
 use Rattle.recheck.proofs.lists.rises.Goals as goal
 

@@ -1,11 +1,10 @@
 -- `recheck::lists::run_end` meets its contract. The loop's invariant: at least `low` findings from i on are of the
 -- station of the first, and the list has `high` of them. Assumes nothing.
-use Prim.Native.Nat.{ℕ, ◌+◌, ◌*◌, ◌-◌, ◌/◌, ◌≤◌}
+use Prim.Native.Nat.{ℕ, ◌+◌, ◌*◌, ◌-◌, ◌/◌}
 use mathlib.Core.Path.{◌≡◌, refl, ap}
 use native.Mathlib.Omega.{arith}
-use lib.ListN.{length, get_or}
+use lib.ListN.{get_or}
 use borrow.Author.Rules.{rules}
-use Rattle.recheck.specs.between.Kept.{Alike}
 use Rattle.recheck.proofs.RunLaws.{alike_up_to}
 use Rattle.recheck.proofs.lists.run_end.Goals as goal
 

@@ -1,12 +1,10 @@
 -- `recheck::marks::levels_of` meets its contract. The loop's invariant: the first i levels are those of the first i
 -- stations, and k is the number of the next. Assumes nothing.
-use Prim.Native.Nat.{ℕ, ◌+◌, ◌-◌, ◌≤◌}
-use mathlib.Core.Path.{◌≡◌, refl, ◌∙◌, ap}
-use mathlib.Core.List.{map}
+use Prim.Native.Nat.{ℕ}
+use mathlib.Core.Path.{refl, ◌∙◌, ap}
 use native.Mathlib.Omega.{arith}
-use lib.ListN.{length, take, length-set}
+use lib.ListN.{length-set}
 use borrow.Author.Rules.{rules}
-use Rattle.sheet.specs.Sheets.{sixteen}
 use Rattle.recheck.specs.between.Marks.{level_at, levels_of}
 use Rattle.recheck.proofs.MarkLaws.{levels_next, levels_whole}
 use Rattle.recheck.proofs.marks.levels_of.Goals as goal

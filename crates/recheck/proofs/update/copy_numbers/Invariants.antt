@@ -1,13 +1,9 @@
 -- `recheck::update::copy_numbers` meets its contract. The loop's invariant: the first i numbers are the draft's, the
 -- rest is as it was; at the end there is no rest. Assumes nothing.
 use Prim.Native.Nat.{◌-◌, ◌≤◌}
-use mathlib.Core.Path.{◌≡◌, refl, ◌∙◌}
-use native.Mathlib.Omega.{arith}
+use mathlib.Core.Path.{◌≡◌}
 use lib.ListN.{length}
-use lib.Seq.{paste, paste-zero}
-use borrow.Author.Rules.{rules}
-use Rattle.timetable.proofs.DraftsHandedOver.{copied_on}
-use Rattle.recheck.proofs.UpdateLaws.{copied_whole}
+use lib.Seq.{paste}
 use Rattle.recheck.proofs.update.copy_numbers.Given as goal
 
 abbrev pub invariant-loop-i : goal.invariant-loop-i

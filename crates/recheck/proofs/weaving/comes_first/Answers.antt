@@ -1,7 +1,6 @@
 -- `recheck::weaving::comes_first` meets its contract: each return rewrites with its test. Assumes nothing.
 use borrow.Author.Tests.{le-leb, lt-leb}
 use Rattle.recheck.specs.between.Kept.{comes_first}
-use borrow.Author.Rules.{rules}
 use Rattle.recheck.proofs.weaving.comes_first.Goals as goal
 
 pub returns-then-end-from : goal.returns-then-end-from

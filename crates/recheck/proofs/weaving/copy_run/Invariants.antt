@@ -1,14 +1,9 @@
 -- `recheck::weaving::copy_run` meets its contract. The loop's invariant: the first j numbers are written. Assumes
 -- nothing.
-use Prim.Native.Nat.{ℕ, ◌+◌, ◌-◌, ◌≤◌}
-use mathlib.Core.Path.{◌≡◌, refl, ◌∙◌, ap}
-use mathlib.Core.List.{List}
-use native.Mathlib.Omega.{arith}
-use lib.ListN.{length, take, drop, get_or, set}
-use borrow.Author.Rules.{rules}
+use Prim.Native.Nat.{◌-◌, ◌≤◌}
+use mathlib.Core.Path.{◌≡◌}
+use lib.ListN.{length, take, drop}
 use Rattle.timetable.specs.Outputs.{put}
-use Rattle.timetable.proofs.BuffersFilled.{put_length}
-use Rattle.recheck.proofs.WeaveLaws.{put_more}
 use Rattle.recheck.proofs.weaving.copy_run.Given as goal
 
 abbrev pub invariant-loop-j : goal.invariant-loop-j

@@ -1,6 +1,5 @@
 -- `recheck::weaving::move_four` meets its contract: its call writes the four numbers read. Assumes nothing.
 use Rattle.recheck.specs.between.Kept.{four_at}
-use borrow.Author.Rules.{rules}
 use Rattle.recheck.proofs.weaving.move_four.Goals as goal
 
 pub returns : goal.returns

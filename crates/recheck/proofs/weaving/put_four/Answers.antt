@@ -1,6 +1,5 @@
 -- `recheck::weaving::put_four` meets its contract: its call writes the four numbers of the list. Assumes nothing.
 use Rattle.recheck.specs.between.Kept.{four_at}
-use borrow.Author.Rules.{rules}
 use Rattle.recheck.proofs.weaving.put_four.Goals as goal
 
 pub returns : goal.returns

@@ -1,5 +1,4 @@
 -- `recheck::weaving::run_first` meets its contract: each return rewrites with its tests. Assumes nothing.
-use borrow.Author.Rules.{rules}
 use borrow.Author.Tests.{lt-ltb, le-ltb, eq-eqb, ne_eqb}
 use Rattle.recheck.specs.between.Kept.{run_first}
 use Rattle.recheck.proofs.weaving.run_first.Goals as goal

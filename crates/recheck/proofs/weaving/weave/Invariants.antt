@@ -1,15 +1,10 @@
 -- `recheck::weaving::weave` meets its contract. The loop's invariant: what is written and what is still to be woven
 -- make up the goal, and the rest is as it was (`Weaves`); each turn is one of its laws. Assumes nothing.
 use Prim.Native.Nat.{◌+◌, ◌-◌, ◌%◌, ◌≤◌}
-use mathlib.Core.Path.{◌≡◌, refl, sym, ◌∙◌, ap}
-use native.Mathlib.Omega.{arith}
+use mathlib.Core.Path.{◌≡◌}
 use lib.ListN.{length, drop}
-use borrow.Author.Rules.{rules}
-use Rattle.timetable.specs.Outputs.{put}
-use Rattle.timetable.proofs.BuffersFilled.{put_length}
-use Rattle.recheck.specs.between.Kept.{four_at, part, list_with, woven}
-use Rattle.recheck.proofs.WeaveLaws.{Weaves, first_left, room-left, weaves_begin, weaves_skip, weaves-move, weaves-put, weaves_end}
-use Rattle.recheck.proofs.RunsWoven.{weaves_skip_run, weaves_copy_run}
+use Rattle.recheck.specs.between.Kept.{part, list_with}
+use Rattle.recheck.proofs.WeaveLaws.{Weaves}
 use Rattle.recheck.proofs.weaving.weave.Given as goal
 
 abbrev pub invariant-loop-i : goal.invariant-loop-i

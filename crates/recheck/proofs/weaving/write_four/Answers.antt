@@ -2,9 +2,7 @@
 use Prim.Native.Nat.{◌+◌}
 use mathlib.Core.Path.{◌≡◌}
 use native.Mathlib.Omega.{arith}
-use lib.ListN.{length-set}
 use Rattle.timetable.specs.Outputs.{put}
-use borrow.Author.Rules.{rules}
 use Rattle.recheck.proofs.weaving.write_four.Goals as goal
 
 pub returns : goal.returns

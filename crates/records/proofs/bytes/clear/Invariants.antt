@@ -1,13 +1,10 @@
 -- `records::bytes::clear` meets its contract. The loop's invariant: the first i bytes are zeros, the rest is as it was.
 -- Assumes nothing.
-use borrow.Author.Rules.{rules}
-use native.Mathlib.Omega.{arith}
-use Prim.Native.Nat.{ℕ, ◌≤◌, ◌-◌}
-use mathlib.Core.Path.{◌≡◌, refl, sym, ◌∙◌}
-use lib.ListN.{length, length-set, length-replicate}
-use lib.Seq.{paste, paste-zero}
+use Prim.Native.Nat.{◌≤◌, ◌-◌}
+use mathlib.Core.Path.{◌≡◌}
+use lib.ListN.{length}
+use lib.Seq.{paste}
 use Rattle.records.specs.Bytes.{zeros}
-use Rattle.records.proofs.ByteLaws.{clear_step, copy_end}
 use Rattle.records.proofs.bytes.clear.Given as goal
 
 abbrev pub invariant-loop-i : goal.invariant-loop-i

@@ -1,14 +1,9 @@
 -- `records::bytes::close_up` meets its contract. The loop's invariant: the first i bytes are those 16 places on, the
 -- rest is as it was. Assumes nothing.
-use borrow.Author.Rules.{rules}
-use native.Mathlib.Omega.{arith}
-use Prim.Native.Nat.{ℕ, ◌+◌, ◌≤◌, ◌-◌}
-use mathlib.Core.Path.{◌≡◌, refl, sym, ap, ◌∙◌}
-use lib.ListN.{length, length-set, length-drop, take, drop}
-use lib.Seq.{paste, paste-zero}
-use borrow.Author.Tests.{le-leb, lt-leb}
-use Rattle.records.specs.Bytes.{closed}
-use Rattle.records.proofs.ByteLaws.{copy_step, later_byte, close_front, close_end}
+use Prim.Native.Nat.{◌+◌, ◌≤◌, ◌-◌}
+use mathlib.Core.Path.{◌≡◌}
+use lib.ListN.{length, drop}
+use lib.Seq.{paste}
 use Rattle.records.proofs.bytes.close_up.Given as goal
 
 abbrev pub invariant-loop-i : goal.invariant-loop-i

@@ -1,13 +1,8 @@
 -- `records::bytes::is_blank` meets its contract. The loop's invariant: all bytes are zero if those before i are, and
 -- those from i on. Assumes nothing.
 use native.Mathlib.Omega.{arith}
-use Prim.Native.Nat.{◌≤◌, ◌-◌}
-use mathlib.Core.Path.{◌≡◌, refl, sym, ◌∙◌}
-use mathlib.Core.Bool.{◌&&◌}
-use lib.Dec.{eqb}
-use lib.ListN.{length, drop}
+use mathlib.Core.Path.{refl, sym, ◌∙◌}
 use borrow.Author.Rules.{rules}
-use Rattle.base.specs.Lists.{every}
 use Rattle.records.specs.Bytes.{blank}
 use Rattle.records.proofs.ByteLaws.{blank_on, blank_over}
 use Rattle.records.proofs.bytes.is_blank.Goals as goal

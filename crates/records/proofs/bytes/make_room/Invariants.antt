@@ -1,13 +1,9 @@
 -- `records::bytes::make_room` meets its contract. The loop's invariant: the bytes from i on have moved, those before i
 -- are as they were. Assumes nothing.
-use borrow.Author.Rules.{rules}
-use native.Mathlib.Omega.{arith}
-use Prim.Native.Nat.{◌≤◌, ◌-◌}
-use mathlib.Core.Path.{◌≡◌, refl, sym, ap, ◌∙◌}
-use lib.ListN.{length, length-set}
-use borrow.Author.Tests.{le-leb, lt-leb}
-use Rattle.records.specs.Bytes.{roomed}
-use Rattle.records.proofs.ByteLaws.{moved, moved_at, moved_step, moved_start}
+use Prim.Native.Nat.{◌≤◌}
+use mathlib.Core.Path.{◌≡◌}
+use lib.ListN.{length}
+use Rattle.records.proofs.ByteLaws.{moved}
 use Rattle.records.proofs.bytes.make_room.Given as goal
 
 abbrev pub invariant-loop-i : goal.invariant-loop-i

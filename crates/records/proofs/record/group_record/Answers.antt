@@ -1,5 +1,4 @@
 -- `records::record::group_record` meets its contract: each byte is what its callee ensures. Assumes nothing.
-use borrow.Author.Rules.{rules}
 use Rattle.records.specs.Records.{relation_bytes}
 use Rattle.records.proofs.record.group_record.Goals as goal
 

@@ -1,6 +1,5 @@
 -- `records::record::relation_in` meets its contract: each return rewrites with the tests of the first byte that led
 -- there. Assumes nothing.
-use borrow.Author.Rules.{rules}
 use borrow.Author.Tests.{eq-eqb, ne_eqb}
 use Rattle.records.specs.Records.{decode_relation}
 use Rattle.records.proofs.record.relation_in.Goals as goal

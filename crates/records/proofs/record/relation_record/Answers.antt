@@ -1,5 +1,4 @@
 -- `records::record::relation_record` meets its contract, case by case. Assumes nothing.
-use borrow.Author.Rules.{rules}
 use Rattle.records.specs.Records.{encode_relation}
 use Rattle.records.proofs.record.relation_record.Goals as goal
 

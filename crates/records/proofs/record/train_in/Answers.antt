@@ -1,5 +1,4 @@
 -- `records::record::train_in` meets its contract: the number is the record's first word. Assumes nothing.
-use borrow.Author.Rules.{rules}
 use Rattle.records.specs.Records.{decode_train}
 use Rattle.records.proofs.record.train_in.Goals as goal
 

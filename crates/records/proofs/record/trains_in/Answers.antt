@@ -1,5 +1,4 @@
 -- `records::record::trains_in` meets its contract: each train is a word of the record. Assumes nothing.
-use borrow.Author.Rules.{rules}
 use Rattle.records.specs.Records.{decode_trains}
 use Rattle.records.proofs.record.trains_in.Goals as goal
 

@@ -1,6 +1,5 @@
 -- `records::record::visit_in_any` meets its contract: each field is what the callee reads at its place. Assumes
 -- nothing.
-use borrow.Author.Rules.{rules}
 use mathlib.Core.Path.{ap, ap₂, ◌∙◌}
 use Rattle.records.specs.Bytes.{occurred}
 use Rattle.records.specs.Records.{in_link, out_link, decode_visit}

@@ -1,7 +1,6 @@
 -- `records::record::visit_in_whole` meets its contract: each field is read at its place. Assumes nothing.
 use lib.ListN.{get_or}
 use Rattle.records.specs.Records.{decode_visit}
-use borrow.Author.Rules.{rules}
 use Rattle.records.proofs.record.visit_in_whole.Goals as goal
 
 pub returns : goal.returns

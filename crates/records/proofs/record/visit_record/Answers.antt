@@ -1,5 +1,4 @@
 -- `records::record::visit_record` meets its contract: each byte is what its callee ensures. Assumes nothing.
-use borrow.Author.Rules.{rules}
 use Rattle.records.specs.Records.{visit_bytes}
 use Rattle.records.proofs.record.visit_record.Goals as goal
 

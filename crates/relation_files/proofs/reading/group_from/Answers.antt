@@ -1,7 +1,6 @@
 -- `relation_files::reading::group_from` meets its contract: four places. Assumes nothing.
 use mathlib.Core.Path.{sym}
 use Rattle.relation_files.proofs.ReadingLaws.{group_places}
-use borrow.Author.Rules.{rules}
 use Rattle.relation_files.proofs.reading.group_from.Goals as goal
 
 pub returns : goal.returns

@@ -5,7 +5,6 @@ use mathlib.Core.Path.{sym, ◌∙◌, ap}
 use mathlib.Core.List.{List}
 use native.Mathlib.Omega.{arith}
 use Rattle.timetable.specs.Formats.{read, field_at, least, floor_after}
-use Rattle.timetable.specs.EditsFile.{most_trains}
 use Rattle.fields.proofs.EntryLaws.{field_bounded}
 use Rattle.fields.specs.between.Answers.{in_use, number_read}
 use Rattle.relation_files.specs.between.Answers.{relation_trains, relation_outcome}

@@ -4,7 +4,6 @@ use mathlib.Core.Path.{◌≡◌}
 use native.Mathlib.Omega.{arith}
 use borrow.Author.Tests.{eq-eqb, ne_eqb}
 use Rattle.timetable.specs.EditsFile.{pair_of, relation_of}
-use borrow.Author.Rules.{rules}
 use Rattle.relation_files.proofs.reading.relation_from.Goals as goal
 
 pub returns-then-kind-eq1 : goal.returns-then-kind-eq1

@@ -7,11 +7,10 @@ use mathlib.Core.List.{List, [], ◌∷◌}
 use native.Mathlib.Omega.{arith}
 use lib.ListN.{set}
 use borrow.Author.Rules.{rules}
-use Rattle.timetable.specs.Formats.{Outcome, accepted, refused, field_at, least, floor_after, read}
-use Rattle.timetable.specs.EditsFile.{trains_format}
+use Rattle.timetable.specs.Formats.{accepted, refused, field_at, least, floor_after}
 use Rattle.fields.specs.declared.field.RowRead.{RowRead}
 use Rattle.fields.specs.between.Answers.{padded, row_read}
-use Rattle.fields.proofs.ReadLaws.{prefixed, SoFar, start, turn, stop, over, padded_next}
+use Rattle.fields.proofs.ReadLaws.{prefixed, start, turn, stop, over, padded_next}
 use Rattle.fields.specs.between.Answers.{in_use, number_read}
 use Rattle.fields.proofs.FloorLaws.{number_value, number_refusal}
 use Rattle.fields.proofs.RowHolds.{row_held}

@@ -1,21 +1,14 @@
 -- `relation_files::reading::trains` meets its contract. The loop's invariant: the trains read stand in the first
 -- places, and the list is those and then what is left to read. Assumes nothing.
-use Prim.Native.Nat.{ℕ, suc, ◌+◌, ◌-◌, ◌<◌, ◌≤◌}
-use mathlib.Core.Path.{◌≡◌, refl, sym, ◌∙◌, ap}
-use mathlib.Core.Bool.{Bool, true}
-use mathlib.Core.List.{List, [], ◌∷◌}
-use native.Mathlib.Omega.{arith}
-use lib.ListN.{set}
-use borrow.Author.Rules.{rules}
-use Rattle.timetable.specs.Formats.{Outcome, accepted, refused, field_at, least, floor_after, read}
+use Prim.Native.Nat.{ℕ, ◌-◌, ◌≤◌}
+use mathlib.Core.Path.{◌≡◌}
+use mathlib.Core.Bool.{Bool}
+use mathlib.Core.List.{List}
+use Rattle.timetable.specs.Formats.{Outcome, read}
 use Rattle.timetable.specs.EditsFile.{trains_format}
-use Rattle.fields.specs.declared.field.RowRead.{RowRead}
-use Rattle.fields.specs.between.Answers.{padded, row_read}
-use Rattle.fields.proofs.ReadLaws.{prefixed, SoFar, start, turn, stop, over, padded_next}
-use Rattle.fields.specs.between.Answers.{in_use, number_read}
-use Rattle.fields.proofs.FloorLaws.{number_value, number_refusal}
-use Rattle.fields.proofs.RowHolds.{row_held}
-use Rattle.relation_files.proofs.ReadingLaws.{least_train, train_taken, train_refused, trains_over}
+use Rattle.fields.specs.between.Answers.{padded}
+use Rattle.fields.proofs.ReadLaws.{SoFar}
+use Rattle.fields.specs.between.Answers.{in_use}
 use Rattle.relation_files.proofs.reading.trains.Given as goal
 
 abbrev pub left_at : List ℕ → Bool → ℕ → ℕ → List ℕ → ℕ → Outcome (List ℕ)

@@ -8,7 +8,6 @@ use Rattle.railway.specs.Relations.{used}
 use Rattle.timetable.specs.EditsFile.{group_numbers}
 use Rattle.fields.specs.between.Answers.{padded, row_of}
 use Rattle.relation_files.proofs.TrainNumbers.{one, one_more, four_places}
-use borrow.Author.Rules.{rules}
 use Rattle.relation_files.proofs.row.group_fields.Goals as goal
 
 pub returns : goal.returns

@@ -1,6 +1,5 @@
 -- `relation_files::row::led_numbers` meets its contract by the case of the relation. Assumes nothing.
 use mathlib.Core.Path.{sym, ◌∙◌}
-use borrow.Author.Rules.{rules}
 use Rattle.timetable.specs.EditsFile.{relation_numbers, station_relation_numbers}
 use Rattle.fields.specs.between.Answers.{padded, row_of}
 use Rattle.relation_files.proofs.row.led_numbers.Goals as goal

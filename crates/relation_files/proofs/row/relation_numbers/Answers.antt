@@ -4,7 +4,6 @@ use Prim.Native.Nat.{ℕ}
 use mathlib.Core.Path.{◌∙◌, ap}
 use mathlib.Core.List.{List}
 use lib.ListN.{drop}
-use borrow.Author.Rules.{rules}
 use Rattle.fields.specs.between.Answers.{row_of}
 use Rattle.fields.proofs.RowHolds.{row_held}
 use Rattle.relation_files.proofs.row.relation_numbers.Goals as goal

@@ -2,7 +2,6 @@
 -- nothing. Assumes nothing.
 use native.Mathlib.Omega.{arith}
 use Rattle.relation_files.proofs.TrainNumbers.{train_more, train_none, train_count}
-use borrow.Author.Rules.{rules}
 use Rattle.relation_files.proofs.row.with_train.Goals as goal
 
 pub returns-then-to-lt13 : goal.returns-then-to-lt13

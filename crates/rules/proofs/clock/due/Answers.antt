@@ -1,7 +1,6 @@
 -- `rules::clock::due` meets its contract: it is the sum as it is defined. Assumes nothing.
 use native.Mathlib.Omega.{arith}
 use Rattle.timetable.specs.Rules.{due}
-use borrow.Author.Rules.{rules}
 use Rattle.rules.proofs.clock.due.Goals as goal
 
 pub returns : goal.returns

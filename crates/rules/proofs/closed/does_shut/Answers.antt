@@ -1,6 +1,4 @@
 -- `rules::closed::does_shut` meets its contract: each return rewrites with the tests that led there. Assumes nothing.
-use mathlib.Core.Path.{◌≡◌}
-use borrow.Author.Rules.{rules}
 use borrow.Author.Tests.{eq-eqb, ne_eqb, lt-ltb, le-ltb}
 use Rattle.timetable.specs.Rules.{shuts}
 use Rattle.rules.proofs.closed.does_shut.Goals as goal

@@ -1,13 +1,9 @@
 -- `rules::closed::is_shut` meets its contract. The loop's invariant: some closure shuts the run if one from i on does.
 -- Assumes nothing.
 use Prim.Native.Nat.{◌≤◌, ◌-◌}
-use mathlib.Core.Path.{◌≡◌, refl, sym, ◌∙◌, ap}
-use native.Mathlib.Omega.{arith}
-use lib.ListN.{length, length-map, take, drop}
-use borrow.Author.Rules.{rules}
+use mathlib.Core.Path.{◌≡◌}
+use lib.ListN.{take, drop}
 use Rattle.base.specs.Lists.{any}
-use Rattle.network.specs.Networks.{blank_closure, closure_rows}
-use Rattle.network.proofs.RowsInUse.{used_rows, any_here, any_later, any_nowhere}
 use Rattle.timetable.specs.Rules.{shuts}
 use Rattle.rules.proofs.closed.is_shut.Given as goal
 

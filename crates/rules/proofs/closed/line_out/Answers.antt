@@ -1,6 +1,5 @@
 -- `rules::closed::line_out` meets its contract: the link is none, or is known. Assumes nothing.
 use mathlib.Core.Path.{sym, ap}
-use borrow.Author.Rules.{rules}
 use Rattle.timetable.specs.Rules.{out_line}
 use Rattle.rules.proofs.closed.line_out.Goals as goal
 

@@ -1,6 +1,5 @@
 -- `rules::stays::both_too_soon` meets its contract: each return rewrites with the test that led there. Assumes nothing.
 use Rattle.timetable.specs.Rules.{both_too_soon}
-use borrow.Author.Rules.{rules}
 use Rattle.rules.proofs.stays.both_too_soon.Goals as goal
 
 pub returns-then-comes_too_soon : goal.returns-then-comes_too_soon

@@ -1,7 +1,6 @@
 -- `rules::stays::breaks_2` meets its contract: each return rewrites with the tests that led there. Assumes nothing.
 use borrow.Author.Tests.{eq-eqb, ne_eqb}
 use Rattle.timetable.specs.Rules.{breaks_2}
-use borrow.Author.Rules.{rules}
 use Rattle.rules.proofs.stays.breaks_2.Goals as goal
 
 pub returns-then-both_too_soon : goal.returns-then-both_too_soon

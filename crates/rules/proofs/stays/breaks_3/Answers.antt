@@ -1,6 +1,5 @@
 -- `rules::stays::breaks_3` meets its contract: each return rewrites with the tests that led there. Assumes nothing.
 use Rattle.timetable.specs.Rules.{breaks_3}
-use borrow.Author.Rules.{rules}
 use Rattle.rules.proofs.stays.breaks_3.Goals as goal
 
 pub returns-then-both_departed : goal.returns-then-both_departed

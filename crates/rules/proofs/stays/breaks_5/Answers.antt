@@ -2,7 +2,6 @@
 use Rattle.visits.proofs.LinkLaws.{leaves_at, leaves_none}
 use Rattle.timetable.specs.Rules.{breaks_5}
 use Rattle.rules.specs.between.Parts.{runs_below}
-use borrow.Author.Rules.{rules}
 use Rattle.rules.proofs.stays.breaks_5.Goals as goal
 
 pub returns-in-Nothing : goal.returns-in-Nothing

@@ -1,7 +1,6 @@
 -- `rules::stays::comes_too_soon` meets its contract: each return rewrites with the test that led there. Assumes
 -- nothing.
 use Rattle.timetable.specs.Rules.{comes_too_soon}
-use borrow.Author.Rules.{rules}
 use Rattle.rules.proofs.stays.comes_too_soon.Goals as goal
 
 pub returns-then-w : goal.returns-then-w

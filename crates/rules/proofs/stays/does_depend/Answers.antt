@@ -1,6 +1,5 @@
 -- `rules::stays::does_depend` meets its contract: each return rewrites with the tests that led there. Assumes nothing.
 use Rattle.timetable.specs.Rules.{depends}
-use borrow.Author.Rules.{rules}
 use Rattle.rules.proofs.stays.does_depend.Goals as goal
 
 pub returns-then-w : goal.returns-then-w

@@ -1,6 +1,5 @@
 -- `rules::stays::is_apart` meets its contract: the test decides which. Assumes nothing.
 use Rattle.rules.specs.between.Parts.{apart}
-use borrow.Author.Rules.{rules}
 use Rattle.rules.proofs.stays.is_apart.Goals as goal
 
 pub returns-then-connection : goal.returns-then-connection

@@ -1,6 +1,5 @@
 -- `rules::stays::is_connected` meets its contract: each return rewrites with the test that led there. Assumes nothing.
 use Rattle.timetable.specs.Rules.{connected}
-use borrow.Author.Rules.{rules}
 use Rattle.rules.proofs.stays.is_connected.Goals as goal
 
 pub returns-then-both_departed : goal.returns-then-both_departed

@@ -7,7 +7,6 @@ use Prim.Native.Nat.{◌+◌}
 use mathlib.Core.Path.{◌≡◌}
 use mathlib.Core.Bool.{true, false}
 use lib.Dec.{leb}
-use borrow.Author.Rules.{rules}
 use Rattle.rules.proofs.stays.is_disconnected.Goals as goal
 
 pub returns-then-wide-long : goal.returns-then-wide-long

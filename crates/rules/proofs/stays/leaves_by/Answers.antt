@@ -1,7 +1,6 @@
 -- `rules::stays::leaves_by` meets its contract: the link is none, or is known. Assumes nothing.
 use Rattle.visits.proofs.LinkLaws.{leaves_at, leaves_none}
 use Rattle.rules.specs.between.Parts.{leaves_by}
-use borrow.Author.Rules.{rules}
 use Rattle.rules.proofs.stays.leaves_by.Goals as goal
 
 pub returns-in-Nothing : goal.returns-in-Nothing

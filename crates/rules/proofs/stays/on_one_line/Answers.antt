@@ -2,7 +2,6 @@
 use Rattle.visits.proofs.LinkLaws.{leaves_at, leaves_none}
 use Rattle.timetable.specs.Rules.{on_one_line}
 use Rattle.rules.specs.between.Parts.{leaves_by}
-use borrow.Author.Rules.{rules}
 use Rattle.rules.proofs.stays.on_one_line.Goals as goal
 
 pub returns-in-Nothing : goal.returns-in-Nothing

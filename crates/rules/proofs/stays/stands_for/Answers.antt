@@ -1,6 +1,5 @@
 -- `rules::stays::stands_for` meets its contract: each return rewrites with the tests that led there. Assumes nothing.
 use Rattle.timetable.specs.Rules.{stands_for}
-use borrow.Author.Rules.{rules}
 use Rattle.rules.proofs.stays.stands_for.Goals as goal
 
 pub returns-then-v-2 : goal.returns-then-v-2

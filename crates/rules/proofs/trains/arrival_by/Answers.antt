@@ -1,6 +1,5 @@
 -- `rules::trains::arrival_by` meets its contract: the test decides. Assumes nothing.
 use Rattle.rules.specs.between.Parts.{arrival_by}
-use borrow.Author.Rules.{rules}
 use Rattle.rules.proofs.trains.arrival_by.Goals as goal
 
 pub returns-then-is_from : goal.returns-then-is_from

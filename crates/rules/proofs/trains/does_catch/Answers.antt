@@ -1,6 +1,5 @@
 -- `rules::trains::does_catch` meets its contract: each return rewrites with the test that led there. Assumes nothing.
 use Rattle.rules.specs.between.Parts.{catches}
-use borrow.Author.Rules.{rules}
 use Rattle.rules.proofs.trains.does_catch.Goals as goal
 
 pub returns-then-does_lead : goal.returns-then-does_lead

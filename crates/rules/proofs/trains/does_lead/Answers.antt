@@ -1,7 +1,6 @@
 -- `rules::trains::does_lead` meets its contract: each return rewrites with the test that led there. Assumes nothing.
 use borrow.Author.Tests.{eq-eqb, ne_eqb}
 use Rattle.rules.specs.between.Parts.{leads}
-use borrow.Author.Rules.{rules}
 use Rattle.rules.proofs.trains.does_lead.Goals as goal
 
 pub returns-then-u-t : goal.returns-then-u-t

@@ -1,7 +1,6 @@
 -- `rules::trains::does_meet` meets its contract: each return rewrites with the tests that led there. Assumes nothing.
 use borrow.Author.Tests.{lt-ltb, le-ltb}
 use Rattle.rules.specs.between.Parts.{meets}
-use borrow.Author.Rules.{rules}
 use Rattle.rules.proofs.trains.does_meet.Goals as goal
 
 pub returns-then-a-wide : goal.returns-then-a-wide

@@ -1,6 +1,5 @@
 -- `rules::trains::does_miss` meets its contract: each return rewrites with the test that led there. Assumes nothing.
 use Rattle.timetable.specs.Rules.{misses}
-use borrow.Author.Rules.{rules}
 use Rattle.rules.proofs.trains.does_miss.Goals as goal
 
 pub returns-then-w : goal.returns-then-w

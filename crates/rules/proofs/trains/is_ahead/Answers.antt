@@ -3,7 +3,6 @@
 use borrow.Author.Tests.{eq-eqb, ne_eqb, lt-ltb, le-ltb}
 use Rattle.visits.proofs.LinkLaws.{leaves_at, leaves_none}
 use Rattle.timetable.specs.Rules.{ahead}
-use borrow.Author.Rules.{rules}
 use Rattle.rules.proofs.trains.is_ahead.Goals as goal
 
 pub returns-then-w-v : goal.returns-then-w-v

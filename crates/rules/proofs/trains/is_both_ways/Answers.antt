@@ -3,7 +3,6 @@ use mathlib.Core.Path.{sym, ◌∙◌}
 use Rattle.network.specs.Networks.{line_row}
 use Rattle.network.proofs.RowsInUse.{line_some, line_none}
 use Rattle.rules.specs.between.Parts.{kind_three}
-use borrow.Author.Rules.{rules}
 use Rattle.rules.proofs.trains.is_both_ways.Goals as goal
 
 pub returns-in-Row : goal.returns-in-Row

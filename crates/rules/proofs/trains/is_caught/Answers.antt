@@ -1,7 +1,6 @@
 -- `rules::trains::is_caught` meets its contract: the link is none, or is known. Assumes nothing.
 use Rattle.visits.proofs.LinkLaws.{leaves_at, leaves_none}
 use Rattle.timetable.specs.Rules.{caught}
-use borrow.Author.Rules.{rules}
 use Rattle.rules.proofs.trains.is_caught.Goals as goal
 
 pub returns-in-Nothing : goal.returns-in-Nothing

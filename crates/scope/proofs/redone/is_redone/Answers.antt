@@ -1,5 +1,4 @@
 -- `scope::redone::is_redone` meets its contract: each return rewrites with the tests that led there. Assumes nothing.
-use borrow.Author.Rules.{rules}
 use borrow.Author.Tests.{eq-eqb, ne_eqb}
 use Rattle.scope.specs.Redone.{is_redone}
 use Rattle.scope.proofs.redone.is_redone.Goals as goal

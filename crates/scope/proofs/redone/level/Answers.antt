@@ -1,5 +1,4 @@
 -- `scope::redone::level` meets its contract: each return rewrites with the tests that led there. Assumes nothing.
-use borrow.Author.Rules.{rules}
 use borrow.Author.Tests.{le-leb, lt-leb}
 use Rattle.scope.specs.Redone.{level}
 use Rattle.scope.proofs.redone.level.Goals as goal

@@ -1,9 +1,7 @@
 -- `sheet::station_page::page_of` meets its contract: the tests that led to each return decide the part. Assumes
 -- nothing.
 use mathlib.Core.Path.{sym, ◌∙◌}
-use native.Mathlib.Omega.{arith}
-use Rattle.sheet.proofs.StationLaws.{station_bounds, station_is, station_none, station_short}
-use borrow.Author.Rules.{rules}
+use Rattle.sheet.proofs.StationLaws.{station_is, station_none, station_short}
 use Rattle.sheet.proofs.station_page.page_of.Goals as goal
 
 pub returns-then-valid : goal.returns-then-valid

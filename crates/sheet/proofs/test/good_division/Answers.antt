@@ -1,12 +1,10 @@
 -- `sheet::test::good_division` meets its contract. The loop's invariant: what is asked of all sheets is asked of those
 -- from i on. Assumes nothing.
-use Prim.Native.Nat.{◌+◌, ◌-◌, ◌≤◌}
-use mathlib.Core.Path.{◌≡◌, refl, sym, ◌∙◌}
+use mathlib.Core.Path.{refl, sym, ◌∙◌}
 use native.Mathlib.Omega.{arith}
 use borrow.Author.Rules.{rules}
 use borrow.Author.Tests.{eqb-true}
-use Rattle.sheet.specs.between.Passes.{division_passes}
-use Rattle.sheet.proofs.PassLaws.{division_short, sheets_from, sheets_start, sheets_not, sheets_on, sheets_end}
+use Rattle.sheet.proofs.PassLaws.{division_short, sheets_start, sheets_not, sheets_on, sheets_end}
 use Rattle.sheet.proofs.test.good_division.Goals as goal
 
 pub returns-then-division-ne49152 : goal.returns-then-division-ne49152

@@ -1,5 +1,4 @@
 -- `sheet::test::good_values` meets its contract: each return rewrites with the tests that led there. Assumes nothing.
-use borrow.Author.Rules.{rules}
 use borrow.Author.Tests.{le-leb, lt-leb}
 use Rattle.sheet.specs.between.Passes.{values_pass}
 use Rattle.sheet.proofs.test.good_values.Goals as goal

@@ -1,6 +1,5 @@
 -- `sheet::test::in_good` meets its contract: each return rewrites with the link and the tests that led there. Assumes
 -- nothing.
-use borrow.Author.Rules.{rules}
 use Rattle.timetable.specs.Good.{in_good}
 use Rattle.sheet.specs.between.Passes.{in_passes}
 use Rattle.sheet.proofs.test.in_good.Goals as goal

@@ -1,6 +1,5 @@
 -- `sheet::test::in_runs` meets its contract: in a good network a link passes where its line runs. Assumes nothing.
 use mathlib.Core.Path.{◌∙◌}
-use borrow.Author.Rules.{rules}
 use Rattle.sheet.specs.between.Passes.{in_passes}
 use Rattle.sheet.proofs.LinkRows.{in_good_runs}
 use Rattle.sheet.proofs.test.in_runs.Goals as goal

@@ -1,5 +1,4 @@
 -- `sheet::test::is_over` meets its contract: by the extent, and by the tests that led to each return. Assumes nothing.
-use borrow.Author.Rules.{rules}
 use Rattle.sheet.specs.between.Passes.{covers}
 use Rattle.sheet.proofs.test.is_over.Goals as goal
 

@@ -1,10 +1,7 @@
 -- `sheet::test::is_same` meets its contract. The loop's invariant: the bytes compare as what is left of them. Assumes
 -- nothing.
-use Prim.Native.Nat.{◌≤◌, ◌-◌}
-use mathlib.Core.Path.{◌≡◌, refl, sym, ◌∙◌}
+use mathlib.Core.Path.{refl, sym, ◌∙◌}
 use native.Mathlib.Omega.{arith}
-use lib.ListN.{length, drop}
-use Rattle.base.specs.Lists.{same}
 use Rattle.base.proofs.Lengths.{same_no, same_on, same_end}
 use Rattle.sheet.proofs.PassLaws.{same_not}
 use Rattle.sheet.proofs.test.is_same.Goals as goal

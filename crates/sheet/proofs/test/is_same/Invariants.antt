@@ -1,12 +1,9 @@
 -- `sheet::test::is_same` meets its contract. The loop's invariant: the bytes compare as what is left of them. Assumes
 -- nothing.
 use Prim.Native.Nat.{◌≤◌, ◌-◌}
-use mathlib.Core.Path.{◌≡◌, refl, sym, ◌∙◌}
-use native.Mathlib.Omega.{arith}
+use mathlib.Core.Path.{◌≡◌}
 use lib.ListN.{length, drop}
 use Rattle.base.specs.Lists.{same}
-use Rattle.base.proofs.Lengths.{same_no, same_on, same_end}
-use Rattle.sheet.proofs.PassLaws.{same_not}
 use Rattle.sheet.proofs.test.is_same.Given as goal
 
 abbrev pub invariant-loop-i : goal.invariant-loop-i

@@ -3,7 +3,6 @@ use mathlib.Core.Path.{refl, ◌∙◌}
 use Rattle.sheet.specs.between.Passes.{in_passes, out_passes}
 use Rattle.sheet.proofs.PassLaws.{visit_tests}
 use Rattle.sheet.proofs.LinkRows.{values_known}
-use borrow.Author.Rules.{rules}
 use Rattle.sheet.proofs.test.known_visit.Goals as goal
 
 pub returns-then-in_runs : goal.returns-then-in_runs

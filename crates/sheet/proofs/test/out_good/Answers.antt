@@ -1,6 +1,5 @@
 -- `sheet::test::out_good` meets its contract: each return rewrites with the link and the tests that led there. Assumes
 -- nothing.
-use borrow.Author.Rules.{rules}
 use Rattle.timetable.specs.Good.{out_good}
 use Rattle.sheet.specs.between.Passes.{out_passes}
 use Rattle.sheet.proofs.test.out_good.Goals as goal

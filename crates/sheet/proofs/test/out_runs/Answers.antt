@@ -1,6 +1,5 @@
 -- `sheet::test::out_runs` meets its contract: in a good network a link passes where its run is in range and its line
 -- runs. Assumes nothing.
-use borrow.Author.Rules.{rules}
 use Rattle.sheet.specs.between.Passes.{out_passes}
 use Rattle.sheet.proofs.LinkRows.{out_good_runs}
 use Rattle.sheet.proofs.test.out_runs.Goals as goal

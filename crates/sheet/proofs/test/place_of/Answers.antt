@@ -1,9 +1,5 @@
 -- `sheet::test::place_of` meets its contract: a line in range has a number of 1 or more. Assumes nothing.
 use mathlib.Core.Path.{sym, ◌∙◌}
-use native.Mathlib.Omega.{arith}
-use lib.Dec.{leb, leb→le}
-use borrow.Author.Rules.{rules}
-use Rattle.base.proofs.Tests.{true_T, and_l}
 use Rattle.sheet.specs.between.Passes.{row_place}
 use Rattle.sheet.proofs.test.place_of.Goals as goal
 

@@ -1,13 +1,11 @@
 -- `sheet::test::relation_run` meets its contract. The loop's invariant: what is asked of all records is asked of those
 -- from i on, and the relation that is kept is that of the record before i. Assumes nothing.
 use Prim.Native.Nat.{◌≤◌, ◌-◌}
-use mathlib.Core.Path.{◌≡◌, sym, ◌∙◌, ap}
-use native.Mathlib.Omega.{arith}
-use borrow.Author.Rules.{rules}
+use mathlib.Core.Path.{◌≡◌}
 use Rattle.records.specs.Bytes.{chunk}
 use Rattle.records.specs.Records.{decode_relation}
 use Rattle.sheet.specs.between.Passes.{relation_passes, relation_after, relation_run}
-use Rattle.sheet.proofs.PassLaws.{cut_chunk, all_from, from_first_not, from_second_not, from_on, from_end, relation_run_start, relation_next, kept_next}
+use Rattle.sheet.proofs.PassLaws.{all_from}
 use Rattle.sheet.proofs.test.relation_run.Given as goal
 
 abbrev pub invariant-loop-i : goal.invariant-loop-i

@@ -1,7 +1,7 @@
 -- `sheet::test::runs_by` meets its contract: a row in use that has the line's number decides, and else the search does.
 -- Assumes nothing.
 use mathlib.Core.Path.{◌≡◌, ◌∙◌}
-use lib.ListN.{length, length-map}
+use lib.ListN.{length}
 use borrow.Author.Rules.{rules}
 use Rattle.sheet.proofs.LinkRows.{row_decides}
 use Rattle.sheet.proofs.test.runs_by.Goals as goal

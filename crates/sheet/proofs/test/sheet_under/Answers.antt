@@ -1,11 +1,9 @@
 -- `sheet::test::sheet_under` meets its contract. The loop's invariant: what is asked of all pages is asked of those
 -- from i on. Assumes nothing.
-use Prim.Native.Nat.{◌+◌, ◌-◌, ◌≤◌}
-use mathlib.Core.Path.{◌≡◌, refl, sym, ◌∙◌}
+use mathlib.Core.Path.{refl, sym, ◌∙◌}
 use native.Mathlib.Omega.{arith}
 use borrow.Author.Rules.{rules}
-use Rattle.sheet.specs.between.Passes.{sheet_passes}
-use Rattle.sheet.proofs.PassLaws.{sheet_short, places_from, places_start, places_not, places_on, places_end}
+use Rattle.sheet.proofs.PassLaws.{sheet_short, places_start, places_not, places_on, places_end}
 use Rattle.sheet.proofs.test.sheet_under.Goals as goal
 
 pub returns-then-sheet-ne8192 : goal.returns-then-sheet-ne8192

@@ -1,6 +1,5 @@
 -- `sheet::test::tracks_of` meets its contract: the row that was found says it. Assumes nothing.
 use mathlib.Core.Path.{sym, ◌∙◌}
-use borrow.Author.Rules.{rules}
 use Rattle.network.specs.Networks.{station_row}
 use Rattle.network.proofs.RowsInUse.{station_some, station_none}
 use Rattle.sheet.specs.between.Passes.{tracks_at}

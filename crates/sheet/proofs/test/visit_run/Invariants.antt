@@ -1,20 +1,10 @@
 -- `sheet::test::visit_run` meets its contract. The loop's invariant: what is asked of all records is asked of those
 -- from i on, and the train that is kept is that of the record before i. Assumes nothing.
-use Prim.Native.Nat.{ℕ, ◌+◌, ◌*◌, ◌≤◌, ◌-◌}
-use mathlib.Core.Bool.{Bool, true, false, ◌&&◌}
-use mathlib.Core.List.{List}
-use lib.ListN.{take, drop}
-use mathlib.Core.Logic.{⊎_elim}
-use mathlib.Core.Path.{◌≡◌, refl, sym, ◌∙◌, ap}
-use native.Mathlib.Omega.{arith}
-use lib.Dec.{ltb}
-use borrow.Author.Rules.{rules}
-use borrow.Author.Tests.{lt-ltb, le-ltb}
+use Prim.Native.Nat.{◌≤◌, ◌-◌}
+use mathlib.Core.Path.{◌≡◌}
 use Rattle.records.specs.Bytes.{chunk}
-use Rattle.sheet.specs.Types.{Station, Network}
-use Rattle.sheet.specs.between.Passes.{visit_passes, passing_train, train_after, visit_run}
-use Rattle.sheet.proofs.PassLaws.{all_from, from_not, from_both, from_end, visit_run_start, train_before, train_kept, train_next}
-use Rattle.sheet.proofs.LinkRows.{place_low, row_read}
+use Rattle.sheet.specs.between.Passes.{visit_passes, train_after, visit_run}
+use Rattle.sheet.proofs.PassLaws.{all_from, train_before}
 use Rattle.sheet.proofs.test.visit_run.Given as goal
 
 abbrev pub invariant-loop-i : goal.invariant-loop-i

@@ -1,7 +1,6 @@
 -- `sheet_lines::totals::put_totals` meets its contract: the line of the two counts and the number given. Assumes
 -- nothing.
 use mathlib.Core.Path.{ap}
-use borrow.Author.Rules.{rules}
 use Rattle.timetable_writing.specs.declared.calls.Totals.{Totals}
 use Rattle.sheet_lines.specs.between.Sheets.{totals_at}
 use Rattle.sheet_lines.proofs.totals.put_totals.Goals as goal

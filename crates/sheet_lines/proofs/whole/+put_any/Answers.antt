@@ -1,9 +1,7 @@
 -- The proof of the cycle of calls {put_any}: the array has room for any list, so the call of itself is never reached.
 -- Assumes nothing.
-use Prim.Native.Nat.{ℕ, ◌<◌}
-use mathlib.Core.Path.{sym}
+use Prim.Native.Nat.{ℕ}
 use lib.ListN.{length-replicate}
-use borrow.Author.Rules.{rules}
 use Rattle.builder.specs.between.Builder.{list_most}
 use Rattle.sheet_lines.proofs.FindingLines.{lines_put, none_put, room_for_any}
 use Rattle.sheet_lines.proofs.whole.+put_any.Goals as goal

@@ -2,7 +2,6 @@
 -- Assumes nothing.
 use mathlib.Core.List.{[], flat_map}
 use native.Mathlib.Omega.{arith}
-use borrow.Author.Rules.{rules}
 use Rattle.text.specs.between.Lines.{of_areas}
 use Rattle.text.proofs.PutParts.{puts_as}
 use Rattle.text.proofs.WithinBounds.{findings_there}

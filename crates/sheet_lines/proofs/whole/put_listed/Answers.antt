@@ -6,7 +6,6 @@ use Rattle.timetable.specs.Outputs.{put}
 use Rattle.text.proofs.PutParts.{puts_as}
 use Rattle.sheet_lines.specs.between.Sheets.{Lists}
 use Rattle.sheet_lines.proofs.FindingLines.{refused_none, short_left, counted, few_found, found-fit, found-text}
-use borrow.Author.Rules.{rules}
 use Rattle.sheet_lines.proofs.whole.put_listed.Goals as goal
 
 pub put_lines-next-requires : goal.put_lines-next-requires

@@ -1,7 +1,6 @@
 -- `sheet_lines::whole::put_near` meets its contract: the lines are put; or nothing is, and then they are put from an
 -- array with room for any list. Assumes nothing.
 use Rattle.sheet_lines.proofs.FindingLines.{lines_put, none_put}
-use borrow.Author.Rules.{rules}
 use Rattle.sheet_lines.proofs.whole.put_near.Goals as goal
 
 pub returns-in-Lines : goal.returns-in-Lines

@@ -5,7 +5,6 @@ use borrow.Author.Tests.{lt-leb}
 use Rattle.timetable.specs.Outputs.{put}
 use Rattle.text.specs.between.Lines.{far}
 use Rattle.sheet_lines.specs.between.Sheets.{is_listed, whole_at, whole_count}
-use borrow.Author.Rules.{rules}
 use Rattle.sheet_lines.proofs.whole.put_whole.Goals as goal
 
 pub returns-then-at-gt-FAR : goal.returns-then-at-gt-FAR

@@ -1,6 +1,5 @@
 -- `shift_lines::answers::count_next` meets its contract: the edit is read and counted, or neither. Assumes nothing.
 use mathlib.Core.Path.{refl, sym, ◌∙◌, ap}
-use borrow.Author.Rules.{rules}
 use Rattle.edit_files.specs.Answers.{next_outcome}
 use Rattle.shift_lines.specs.between.Listing.{next_tally, next_place}
 use Rattle.shift_lines.proofs.answers.count_next.Goals as goal

@@ -1,6 +1,5 @@
 -- `shift_lines::answers::put_answer` meets its contract: one line of three numbers. Assumes nothing.
 use native.Mathlib.Omega.{arith}
-use borrow.Author.Rules.{rules}
 use Rattle.text.proofs.PutParts.{puts_as}
 use Rattle.text.proofs.WithinBounds.{line_there}
 use Rattle.shift_lines.proofs.answers.put_answer.Goals as goal

@@ -1,16 +1,11 @@
 -- `shift_lines::answers::put_answers` meets its contract: what all edits and answers would print and count is what
 -- those from i on still do. Assumes nothing.
-use Prim.Native.Nat.{ℕ, suc, ◌+◌, ◌-◌, ◌*◌, ◌≤◌}
+use Prim.Native.Nat.{ℕ, suc, ◌+◌, ◌-◌, ◌*◌}
 use mathlib.Core.Path.{◌≡◌, refl, sym, ◌∙◌}
-use mathlib.Core.Bool.{true}
 use native.Mathlib.Omega.{arith}
 use borrow.Author.Rules.{rules}
-use lib.ListN.{length}
-use Rattle.timetable.specs.FileForms.{newest_form}
-use Rattle.timetable.specs.Count.{zero_tally, raise_all}
-use Rattle.builder.proofs.FindingsPut.{Left, left_start, left_on, left_end}
-use Rattle.edit_calls.specs.between.Taken.{edits_at, can_be_read}
-use Rattle.shift_lines.specs.between.Listing.{answers_from, answers_text}
+use Rattle.timetable.specs.Count.{zero_tally}
+use Rattle.builder.proofs.FindingsPut.{left_start, left_on, left_end}
 use Rattle.shift_lines.proofs.AnswerLines.{lines_next, next_taken, lines_none, tally_none}
 use Rattle.shift_lines.proofs.answers.put_answers.Goals as goal
 

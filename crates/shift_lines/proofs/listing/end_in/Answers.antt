@@ -1,7 +1,6 @@
 -- `shift_lines::listing::end_in` meets its contract: the division merges, and its sheet is good, so its findings are
 -- listed. Assumes nothing.
 use mathlib.Core.Path.{◌∙◌, ap}
-use borrow.Author.Rules.{rules}
 use Rattle.sheet.specs.Sheets.{merged}
 use Rattle.findings.specs.Lists.{sheet_list_refusal}
 use Rattle.edit_calls.proofs.KnownGood.{network_good}

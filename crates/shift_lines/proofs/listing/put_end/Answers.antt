@@ -2,7 +2,6 @@
 use Prim.Native.Nat.{ℕ}
 use mathlib.Core.Path.{sym}
 use lib.ListN.{length-replicate}
-use borrow.Author.Rules.{rules}
 use Rattle.shift_lines.proofs.listing.put_end.Goals as goal
 
 pub slice_bounds-end_in-end : goal.slice_bounds-end_in-end

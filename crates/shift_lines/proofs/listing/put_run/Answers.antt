@@ -3,7 +3,6 @@
 use Prim.Native.Nat.{ℕ}
 use mathlib.Core.Path.{refl, sym}
 use lib.ListN.{length-replicate}
-use borrow.Author.Rules.{rules}
 use Rattle.shift_lines.proofs.listing.put_run.Goals as goal
 
 pub slice_bounds-run_in-end : goal.slice_bounds-run_in-end

@@ -1,6 +1,5 @@
 -- `shift_lines::listing::put_tally` meets its contract: one line of four numbers. Assumes nothing.
 use native.Mathlib.Omega.{arith}
-use borrow.Author.Rules.{rules}
 use Rattle.timetable.specs.Listing.{tally_line}
 use Rattle.listings.specs.Shift.{line_text}
 use Rattle.text.proofs.PutParts.{puts_as}

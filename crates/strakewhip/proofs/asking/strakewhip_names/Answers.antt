@@ -1,7 +1,6 @@
 -- `strakewhip::asking::strakewhip_names` meets its contract: the network is refused, or what the edit names. Assumes
 -- nothing.
 use mathlib.Core.Path.{◌∙◌}
-use borrow.Author.Rules.{rules}
 use Rattle.strakewhip.specs.Calls.{names_reply}
 use Rattle.strakewhip.proofs.FileLaws.{network_refused, network_read}
 use Rattle.strakewhip.proofs.asking.strakewhip_names.Goals as goal

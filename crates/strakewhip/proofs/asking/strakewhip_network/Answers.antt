@@ -1,6 +1,5 @@
 -- `strakewhip::asking::strakewhip_network` meets its contract: the file is refused, or read. Assumes nothing.
 use mathlib.Core.Path.{◌∙◌}
-use borrow.Author.Rules.{rules}
 use Rattle.strakewhip.specs.Calls.{network_reply}
 use Rattle.strakewhip.proofs.FileLaws.{network_stopped, network_ended}
 use Rattle.strakewhip.proofs.asking.strakewhip_network.Goals as goal

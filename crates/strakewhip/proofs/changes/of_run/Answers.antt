@@ -1,6 +1,5 @@
 -- `strakewhip::changes::of_run` meets its contract: each case by itself. Assumes nothing.
 use mathlib.Core.Path.{sym, ◌∙◌, ap}
-use borrow.Author.Rules.{rules}
 use Rattle.edit_calls.specs.Lists.{reply}
 use Rattle.replies.specs.Replies.{file_of, or_nought, of_reply_in, of_reply}
 use Rattle.strakewhip.proofs.changes.of_run.Goals as goal

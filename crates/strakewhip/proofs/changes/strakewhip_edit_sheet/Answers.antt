@@ -1,7 +1,6 @@
 -- `strakewhip::changes::strakewhip_edit_sheet` meets its contract: the buffers do not fit, the network is refused, or
 -- the call is reached. Assumes nothing.
 use lib.ListN.{length}
-use borrow.Author.Rules.{rules}
 use borrow.Author.Tests.{eq-eqb, ne_eqb}
 use Rattle.strakewhip.specs.Calls.{sheet_edit_reply, sheet_edit_left}
 use Rattle.strakewhip.proofs.FileLaws.{unfit, stopped, reached, so}

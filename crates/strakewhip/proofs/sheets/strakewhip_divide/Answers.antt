@@ -2,7 +2,6 @@
 -- call is reached. Assumes nothing.
 use mathlib.Core.Path.{◌∙◌, ap}
 use lib.ListN.{length}
-use borrow.Author.Rules.{rules}
 use Rattle.replies.specs.Replies.{plain}
 use Rattle.strakewhip.specs.Calls.{divide_reply, divide_left}
 use Rattle.strakewhip.proofs.FileLaws.{unfit, stopped, reached, so, first_unfit, second_unfit, both_fit}

@@ -1,6 +1,5 @@
 -- `strakewhip::tables::of_read` meets its contract: each case by itself. Assumes nothing.
 use mathlib.Core.Path.{sym, ◌∙◌, ap}
-use borrow.Author.Rules.{rules}
 use Rattle.timetable_entries.specs.Answers.{timetable_outcome}
 use Rattle.replies.specs.Replies.{of_outcome}
 use Rattle.strakewhip.proofs.tables.of_read.Goals as goal

@@ -2,7 +2,6 @@
 -- call is reached. Assumes nothing.
 use mathlib.Core.Path.{◌∙◌, ap}
 use lib.ListN.{length}
-use borrow.Author.Rules.{rules}
 use borrow.Author.Tests.{eq-eqb, ne_eqb}
 use Rattle.replies.specs.Replies.{of_reply}
 use Rattle.strakewhip.specs.Calls.{write_reply, write_left}

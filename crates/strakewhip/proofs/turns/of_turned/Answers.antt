@@ -1,6 +1,5 @@
 -- `strakewhip::turns::of_turned` meets its contract: each case by itself. Assumes nothing.
 use mathlib.Core.Path.{sym, ◌∙◌, ap}
-use borrow.Author.Rules.{rules}
 use Rattle.turning.specs.Answers.{reply}
 use Rattle.replies.specs.Replies.{file_of, or_nought, of_reply_in}
 use Rattle.strakewhip.proofs.turns.of_turned.Goals as goal

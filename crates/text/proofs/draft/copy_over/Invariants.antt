@@ -1,12 +1,9 @@
 -- `text::draft::copy_over` meets its contract. The loop's invariant: the first i bytes are the draft's, the rest is
 -- as it was. Assumes nothing.
-use borrow.Author.Rules.{rules}
-use native.Mathlib.Omega.{arith}
 use Prim.Native.Nat.{◌≤◌, ◌-◌}
-use mathlib.Core.Path.{◌≡◌, refl}
+use mathlib.Core.Path.{◌≡◌}
 use lib.ListN.{length}
-use lib.Seq.{paste, paste-zero}
-use Rattle.timetable.proofs.DraftsHandedOver.{copied_on, draft_too_long, draft_copied}
+use lib.Seq.{paste}
 use Rattle.text.proofs.draft.copy_over.Given as goal
 
 abbrev pub invariant-loop-i : goal.invariant-loop-i

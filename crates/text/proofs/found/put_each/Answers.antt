@@ -1,10 +1,10 @@
 -- `text::found::put_each` meets its contract: what all findings would write is what those from i on still write, from
 -- the place reached. Assumes nothing.
-use Prim.Native.Nat.{ℕ, ◌+◌, ◌-◌, ◌*◌, ◌≤◌}
-use mathlib.Core.Path.{◌≡◌, refl, sym, ◌∙◌, ap}
+use Prim.Native.Nat.{ℕ}
+use mathlib.Core.Path.{refl, sym, ◌∙◌, ap}
 use native.Mathlib.Omega.{arith}
 use mathlib.Core.List.{List}
-use lib.ListN.{length, take, drop}
+use lib.ListN.{length}
 use Rattle.timetable.specs.Outputs.{put}
 use Rattle.text.specs.between.Lines.{of_areas, findings_text}
 use Rattle.text.proofs.FourByFour.{found_on, found_length, found_over}

@@ -1,7 +1,5 @@
 -- `text::found::put_finding` meets its contract: numbers of two bytes are numbers of four, and the line has as many of
 -- them as its list names areas. Assumes nothing.
-use Prim.Native.Nat.{◌+◌}
-use native.Mathlib.Omega.{arith}
 use Rattle.text.specs.between.Lines.{four_at}
 use Rattle.text.proofs.FourByFour.{of_none, of_one, of_two}
 use borrow.Author.Rules.{rules}

@@ -1,5 +1,4 @@
 -- `text::pairs::pair_at` meets its contract: the areas at the index are those of the pair. Assumes nothing.
-use borrow.Author.Rules.{rules}
 use Rattle.text.proofs.PairAreas.{pair_there, no_pair}
 use Rattle.text.proofs.pairs.pair_at.Goals as goal
 

@@ -1,12 +1,11 @@
 -- `text::rows::put_each` meets its contract: what all rows would write is what those from i on still write, from the
 -- place reached. Assumes nothing.
-use Prim.Native.Nat.{ℕ, ◌+◌, ◌-◌, ◌*◌, ◌≤◌}
-use mathlib.Core.Path.{◌≡◌, refl, sym, ◌∙◌, ap}
+use Prim.Native.Nat.{ℕ}
+use mathlib.Core.Path.{refl, sym, ◌∙◌, ap}
 use mathlib.Core.List.{List}
 use native.Mathlib.Omega.{arith}
-use lib.ListN.{length, take, drop}
+use lib.ListN.{length}
 use Rattle.timetable.specs.Outputs.{put}
-use Rattle.text.specs.between.Rows.{rows_text}
 use Rattle.text.proofs.RowLines.{rows_on, rows_length, rows_over}
 use Rattle.text.proofs.rows.put_each.Goals as goal
 

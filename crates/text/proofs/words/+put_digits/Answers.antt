@@ -1,9 +1,8 @@
 -- The proof of the cycle of calls {put_digits}. The measure is the number of digits still permitted; each return is one
 -- law of `digits`. Assumes nothing.
-use Prim.Native.Nat.{ℕ, ◌<◌, ◌+◌, ◌-◌, ◌/◌, ◌%◌}
+use Prim.Native.Nat.{◌+◌, ◌-◌, ◌/◌, ◌%◌}
 use mathlib.Core.List.{[], ◌∷◌}
 use native.Mathlib.Omega.{arith}
-use borrow.Author.Rules.{rules}
 use Rattle.timetable.specs.Outputs.{put}
 use Rattle.listings.specs.Text.{digits}
 use Rattle.text.proofs.DigitLaws.{digits_none, digits_last, digits_more}

@@ -1,7 +1,6 @@
 -- `text::words::put_byte` meets its contract: past the end nothing is set. Assumes nothing.
 use mathlib.Core.Path.{refl, sym}
 use lib.Seq.{set_out}
-use borrow.Author.Rules.{rules}
 use Rattle.timetable.specs.Outputs.{put}
 use Rattle.text.proofs.words.put_byte.Goals as goal
 

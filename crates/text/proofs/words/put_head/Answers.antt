@@ -1,11 +1,9 @@
 -- `text::words::put_head` meets its contract: what the whole head would write is what the words from i on still write,
 -- from the place reached. Assumes nothing.
 use borrow.Author.Rules.{rules}
-use Prim.Native.Nat.{◌+◌, ◌-◌, ◌*◌, ◌≤◌}
 use mathlib.Core.Path.{◌≡◌, refl, sym, ◌∙◌}
-use mathlib.Core.List.{flat_map}
 use native.Mathlib.Omega.{arith}
-use lib.ListN.{length, take, drop}
+use lib.ListN.{length}
 use Rattle.timetable.specs.Outputs.{put}
 use Rattle.timetable.proofs.BuffersFilled.{each_on, each_length, each_over}
 use Rattle.listings.specs.Text.{word, head}

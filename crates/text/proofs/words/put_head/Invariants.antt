@@ -1,13 +1,11 @@
 -- `text::words::put_head` meets its contract: what the whole head would write is what the words from i on still write,
 -- from the place reached. Assumes nothing.
 use Prim.Native.Nat.{◌+◌, ◌-◌, ◌*◌, ◌≤◌}
-use mathlib.Core.Path.{◌≡◌, refl, sym, ◌∙◌}
+use mathlib.Core.Path.{◌≡◌}
 use mathlib.Core.List.{flat_map}
-use native.Mathlib.Omega.{arith}
 use lib.ListN.{length, take, drop}
 use Rattle.timetable.specs.Outputs.{put}
-use Rattle.timetable.proofs.BuffersFilled.{each_on, each_length, each_over}
-use Rattle.listings.specs.Text.{word, head}
+use Rattle.listings.specs.Text.{word}
 use Rattle.text.proofs.words.put_head.Given as goal
 
 abbrev pub invariant-loop-i : goal.invariant-loop-i

@@ -1,10 +1,7 @@
 -- `timetable_entries::enter::enter_visit` meets its contract: an earlier fault stays, a refused entry is the first, any
 -- other changes its station's page. Assumes nothing.
 use mathlib.Core.Path.{refl}
-use native.Mathlib.Omega.{arith}
-use Rattle.sheet.proofs.SheetLaws.{station_low}
-use Rattle.timetable_entries.proofs.EnterLaws.{room, visit_kept, visit-stopped, visit-taken}
-use borrow.Author.Rules.{rules}
+use Rattle.timetable_entries.proofs.EnterLaws.{visit_kept, visit-stopped, visit-taken}
 use Rattle.timetable_entries.proofs.enter.enter_visit.Goals as goal
 
 pub returns-then-r-eq0 : goal.returns-then-r-eq0

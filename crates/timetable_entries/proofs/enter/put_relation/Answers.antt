@@ -1,7 +1,6 @@
 -- `timetable_entries::enter::put_relation` meets its contract by the test. Assumes nothing.
 use mathlib.Core.Path.{sym, ◌∙◌}
 use Rattle.timetable_entries.specs.between.Entering.{page_with_relation}
-use borrow.Author.Rules.{rules}
 use Rattle.timetable_entries.proofs.enter.put_relation.Goals as goal
 
 pub returns-then-has_relation : goal.returns-then-has_relation

@@ -1,7 +1,6 @@
 -- `timetable_entries::enter::relation_refusal` meets its contract by the two tests. Assumes nothing.
 use Rattle.page.specs.between.Changes.{table_in}
 use Rattle.timetable_entries.proofs.EnterLaws.{relation_unknown, relation_room, relation_full}
-use borrow.Author.Rules.{rules}
 use Rattle.timetable_entries.proofs.enter.relation_refusal.Goals as goal
 
 pub returns-then-relation_count-lt6 : goal.returns-then-relation_count-lt6

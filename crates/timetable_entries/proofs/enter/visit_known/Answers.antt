@@ -1,9 +1,8 @@
 -- `timetable_entries::enter::visit_known` meets its contract: the tests that led to each return decide. Assumes
 -- nothing.
 use mathlib.Core.Path.{refl}
-use Rattle.sheet.specs.between.Passes.{in_passes, out_passes}
+use Rattle.sheet.specs.between.Passes.{out_passes}
 use Rattle.timetable_entries.proofs.EnterLaws.{known_tests}
-use borrow.Author.Rules.{rules}
 use Rattle.timetable_entries.proofs.enter.visit_known.Goals as goal
 
 pub returns-then-in_good : goal.returns-then-in_good

@@ -1,7 +1,6 @@
 -- `timetable_entries::enter::visit_refusal` meets its contract by the two tests. Assumes nothing.
 use Rattle.page.specs.between.Changes.{table_in}
 use Rattle.timetable_entries.proofs.EnterLaws.{visit_unknown, visit_room, visit_full}
-use borrow.Author.Rules.{rules}
 use Rattle.timetable_entries.proofs.enter.visit_refusal.Goals as goal
 
 pub returns-then-visit_count-lt24 : goal.returns-then-visit_count-lt24

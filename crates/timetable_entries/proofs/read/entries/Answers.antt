@@ -7,7 +7,7 @@ use mathlib.Core.List.{List}
 use Rattle.timetable.specs.Formats.{read}
 use Rattle.timetable.specs.declared.Fault.{Fault}
 use Rattle.timetable_entries.specs.declared.read.EntriesRead.{EntriesRead}
-use Rattle.timetable_entries.specs.between.Entering.{no_fault, through, visit_step, unanswered, entries_sheet, timetable_entries, visit_part, relation_part}
+use Rattle.timetable_entries.specs.between.Entering.{no_fault, through, visit_step, unanswered, entries_sheet, timetable_entries, visit_part}
 use Rattle.timetable_entries.proofs.SheetEntries.{progress}
 use Rattle.timetable_entries.proofs.PartLaws.{entries_took, entries_refusal, visits_refused, joined}
 use borrow.Author.Rules.{rules}

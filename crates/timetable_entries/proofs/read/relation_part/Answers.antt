@@ -3,7 +3,6 @@
 use mathlib.Core.Path.{sym, ◌∙◌, ap}
 use mathlib.Core.Bool.{false≢true}
 use native.Mathlib.Omega.{arith}
-use Rattle.timetable.specs.Formats.{read, accepted}
 use Rattle.fields.proofs.EntryLaws.{field_bounded}
 use Rattle.fields.specs.between.Answers.{field_outcome}
 use Rattle.timetable_entries.specs.declared.read.EntriesRead.{EntriesRead}

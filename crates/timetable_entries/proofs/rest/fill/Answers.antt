@@ -3,7 +3,6 @@ use Prim.Native.Nat.{ℕ}
 use mathlib.Core.Path.{◌∙◌, ap}
 use mathlib.Core.List.{List}
 use lib.ListN.{length, length-replicate}
-use borrow.Author.Rules.{rules}
 use Rattle.timetable.specs.Formats.{read}
 use Rattle.timetable.specs.TimetableFile.{timetable_format}
 use Rattle.timetable_entries.specs.Answers.{timetable_outcome}

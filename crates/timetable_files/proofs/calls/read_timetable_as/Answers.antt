@@ -1,6 +1,5 @@
 -- `timetable_files::calls::read_timetable_as` meets its contract: 5, 3 of the network, or the file as a whole. Assumes
 -- nothing.
-use borrow.Author.Rules.{rules}
 use Rattle.timetable_entries.specs.Answers.{timetable_outcome}
 use Rattle.timetable_files.proofs.CallLaws.{wrong_length, network_odd, as-rest}
 use Rattle.timetable_files.proofs.calls.read_timetable_as.Goals as goal

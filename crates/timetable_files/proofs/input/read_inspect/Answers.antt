@@ -1,7 +1,6 @@
 -- `timetable_files::input::read_inspect` meets its contract: 5, a faulty number of the network, or the timetable behind
 -- it as a whole. Assumes nothing.
 use mathlib.Core.Path.{sym, ◌∙◌, ap}
-use borrow.Author.Rules.{rules}
 use Rattle.timetable_entries.specs.Answers.{timetable_outcome}
 use Rattle.timetable_files.proofs.InspectLaws.{wrong_length, network_faulty, rest_refused, rest_taken}
 use Rattle.timetable_files.proofs.input.read_inspect.Goals as goal

@@ -1,5 +1,4 @@
 -- `timetable_files::input::refused_inspect` meets its contract: the network is blank. Assumes nothing.
-use borrow.Author.Rules.{rules}
 use Rattle.timetable.specs.Formats.{number, place_of, value_or}
 use Rattle.timetable_files.specs.Inspect.{inspect_read}
 use Rattle.timetable_files.proofs.input.refused_inspect.Goals as goal

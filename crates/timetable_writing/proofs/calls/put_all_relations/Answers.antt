@@ -1,16 +1,15 @@
 -- `timetable_writing::calls::put_all_relations` meets its contract: what the relations of all stations would write is
 -- what those of the rows from i on still write, from the place reached. Assumes nothing.
-use Prim.Native.Nat.{◌+◌, ◌-◌, ◌*◌, ◌≤◌}
 use mathlib.Core.Path.{◌≡◌, refl, ◌∙◌, ap}
 use native.Mathlib.Omega.{arith}
-use lib.ListN.{length, length-map}
+use lib.ListN.{length}
 use borrow.Author.Rules.{rules}
 use Rattle.network.specs.Networks.{blank_station, station_rows}
 use Rattle.page.specs.between.Changes.{table_in}
 use Rattle.sheet.specs.Sheets.{decode_sheet}
 use Rattle.sheet.proofs.StationLaws.{station_table}
 use Rattle.timetable_writing.specs.between.Parts.{relations_here, relation_part}
-use Rattle.fields.proofs.NumbersPut.{Left, rows_put}
+use Rattle.fields.proofs.NumbersPut.{rows_put}
 use Rattle.timetable_writing.proofs.TimetableLaws.{row_on}
 use Rattle.timetable_writing.proofs.calls.put_all_relations.Goals as goal
 

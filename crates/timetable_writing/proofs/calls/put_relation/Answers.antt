@@ -5,7 +5,6 @@ use Rattle.fields.proofs.NumbersPut.{near}
 use Rattle.timetable_writing.specs.between.Parts.{relation_row}
 use Rattle.fields.proofs.RowHolds.{row_held}
 use Rattle.timetable_writing.proofs.TimetableLaws.{writes_as}
-use borrow.Author.Rules.{rules}
 use Rattle.timetable_writing.proofs.calls.put_relation.Goals as goal
 
 pub returns : goal.returns

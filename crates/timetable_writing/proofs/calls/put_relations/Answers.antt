@@ -1,17 +1,14 @@
 -- `timetable_writing::calls::put_relations` meets its contract: what all relations would write is what those from i on
 -- still write, from the place reached. Assumes nothing.
-use Prim.Native.Nat.{◌+◌, ◌-◌, ◌*◌, ◌≤◌}
-use mathlib.Core.Path.{◌≡◌, refl, ◌∙◌, ap}
+use mathlib.Core.Path.{refl, ◌∙◌, ap}
 use mathlib.Core.List.{[]}
 use native.Mathlib.Omega.{arith}
-use lib.ListN.{length}
 use borrow.Author.Rules.{rules}
 use Rattle.records.specs.Records.{decode_relation}
 use Rattle.page.specs.between.Changes.{table_in}
 use Rattle.page.specs.between.Entries.{relation_at}
 use Rattle.page.proofs.EntryLaws.{relation_of}
 use Rattle.timetable_writing.specs.between.Parts.{relation_row, relations_here}
-use Rattle.fields.proofs.NumbersPut.{Left}
 use Rattle.timetable_writing.proofs.TimetableLaws.{row_on, rows_all}
 use Rattle.timetable_writing.proofs.calls.put_relations.Goals as goal
 

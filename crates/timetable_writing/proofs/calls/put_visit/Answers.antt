@@ -3,7 +3,6 @@ use native.Mathlib.Omega.{arith}
 use Rattle.fields.proofs.NumbersPut.{near}
 use Rattle.fields.proofs.RowHolds.{row_held}
 use Rattle.timetable_writing.proofs.TimetableLaws.{writes_as}
-use borrow.Author.Rules.{rules}
 use Rattle.timetable_writing.proofs.calls.put_visit.Goals as goal
 
 pub returns : goal.returns

@@ -1,18 +1,11 @@
 -- `timetable_writing::calls::put_visits` meets its contract: what all entries would write is what those from i on still
 -- write, from the place reached. Assumes nothing.
 use Prim.Native.Nat.{◌+◌, ◌-◌, ◌*◌, ◌≤◌}
-use mathlib.Core.Path.{◌≡◌, refl, ◌∙◌, ap}
-use mathlib.Core.List.{[]}
-use native.Mathlib.Omega.{arith}
+use mathlib.Core.Path.{◌≡◌}
 use lib.ListN.{length}
-use borrow.Author.Rules.{rules}
-use Rattle.records.specs.Records.{decode_entry}
 use Rattle.page.specs.between.Changes.{table_in}
-use Rattle.page.specs.between.Entries.{entry_at}
-use Rattle.page.proofs.EntryLaws.{entry_of, entry_parts}
-use Rattle.timetable_writing.specs.between.Parts.{entry_numbers, visits_here}
+use Rattle.timetable_writing.specs.between.Parts.{entry_numbers}
 use Rattle.fields.proofs.NumbersPut.{Left}
-use Rattle.timetable_writing.proofs.TimetableLaws.{row_on, rows_all}
 use Rattle.timetable_writing.proofs.calls.put_visits.Given as goal
 
 abbrev pub invariant-loop-i : goal.invariant-loop-i

@@ -1,6 +1,5 @@
 -- `visit_files::row::visit_numbers` meets its contract by the cases of the two links. Assumes nothing.
 use mathlib.Core.Path.{ap}
-use borrow.Author.Rules.{rules}
 use Rattle.timetable.specs.TimetableFile.{in_link_numbers, out_link_numbers}
 use Rattle.fields.specs.between.Answers.{padded, row_of}
 use Rattle.visit_files.specs.Types.{InLink, OutLink}

@@ -1,6 +1,5 @@
 -- `visit_files::visit::arrival_at` meets its contract, form by form. Assumes nothing.
 use Rattle.visit_files.specs.between.Answers.{arrival_at}
-use borrow.Author.Rules.{rules}
 use Rattle.visit_files.proofs.visit.arrival_at.Goals as goal
 
 pub returns-in-Earlier : goal.returns-in-Earlier

@@ -8,7 +8,6 @@ use Rattle.fields.specs.between.Answers.{field_outcome}
 use Rattle.timetable.specs.Formats.{accepted}
 use Rattle.visit_files.specs.between.Answers.{in_outcome}
 use Rattle.visit_files.proofs.VisitLaws.{inward, in_stop, in_none, in-line-stop, in_some}
-use borrow.Author.Rules.{rules}
 use Rattle.visit_files.proofs.visit.in_link.Goals as goal
 
 pub returns-then-s-eq0 : goal.returns-then-s-eq0

@@ -1,6 +1,5 @@
 -- `visit_files::visit::mark_in` meets its contract, form by form. Assumes nothing.
 use Rattle.visit_files.specs.between.Answers.{mark_in}
-use borrow.Author.Rules.{rules}
 use Rattle.visit_files.proofs.visit.mark_in.Goals as goal
 
 pub returns-in-Earlier : goal.returns-in-Earlier

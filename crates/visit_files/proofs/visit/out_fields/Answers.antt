@@ -7,7 +7,6 @@ use Rattle.fields.specs.between.Answers.{field_outcome}
 use Rattle.timetable.specs.Formats.{accepted}
 use Rattle.visit_files.specs.between.Answers.{out_outcome}
 use Rattle.visit_files.proofs.VisitLaws.{outward, line_stop, run-stop, run-some}
-use borrow.Author.Rules.{rules}
 use Rattle.visit_files.proofs.visit.out_fields.Goals as goal
 
 pub returns-in-Refused : goal.returns-in-Refused

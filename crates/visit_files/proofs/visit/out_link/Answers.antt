@@ -5,7 +5,6 @@ use Rattle.fields.proofs.EntryLaws.{field_bounded}
 use Rattle.fields.specs.between.Answers.{field_outcome}
 use Rattle.visit_files.specs.between.Answers.{out_outcome}
 use Rattle.visit_files.proofs.VisitLaws.{out_stop, out_none, out-more}
-use borrow.Author.Rules.{rules}
 use Rattle.visit_files.proofs.visit.out_link.Goals as goal
 
 pub returns-then-s-eq0 : goal.returns-then-s-eq0

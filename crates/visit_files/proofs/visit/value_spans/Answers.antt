@@ -1,9 +1,7 @@
 -- `visit_files::visit::value_spans` meets its contract by computation, form by form. Assumes nothing.
-use mathlib.Core.Path.{refl}
 use Rattle.timetable.specs.FileForms.{mark_range}
 use Rattle.fields.specs.between.Answers.{ranges_of}
 use Rattle.visit_files.specs.between.Answers.{value_ranges}
-use borrow.Author.Rules.{rules}
 use Rattle.visit_files.proofs.visit.value_spans.Goals as goal
 
 pub returns-in-Earlier : goal.returns-in-Earlier

@@ -10,7 +10,6 @@ use Rattle.visit_files.specs.between.Answers.{visit_outcome}
 use Rattle.fields.proofs.FloorLaws.{number_value, number_refusal}
 use Rattle.fields.proofs.RowHolds.{row_held}
 use Rattle.visit_files.proofs.VisitLaws.{station_stop, train_stop, train_then}
-use borrow.Author.Rules.{rules}
 use Rattle.visit_files.proofs.visit.visit_entry.Goals as goal
 
 pub returns-then-t : goal.returns-then-t

@@ -1,7 +1,6 @@
 -- `visit_files::visit::visit_floor` meets its contract by computation. Assumes nothing.
 use mathlib.Core.Path.{refl}
 use Rattle.fields.specs.between.Answers.{padded, row_of}
-use borrow.Author.Rules.{rules}
 use Rattle.visit_files.proofs.visit.visit_floor.Goals as goal
 
 pub returns : goal.returns

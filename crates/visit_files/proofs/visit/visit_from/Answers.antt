@@ -6,7 +6,6 @@ use native.Mathlib.Omega.{arith}
 use Rattle.timetable.specs.declared.FileForm.{FileForm}
 use Rattle.visit_files.specs.between.Answers.{arrival_at}
 use Rattle.visit_files.proofs.VisitLaws.{visit_by, arrival_most}
-use borrow.Author.Rules.{rules}
 use Rattle.visit_files.proofs.visit.visit_from.Goals as goal
 
 most : (form : FileForm) (k : ℕ) → k ≡ arrival_at form → k ≤ 2

@@ -2,7 +2,7 @@
 -- order. Assumes nothing.
 use Prim.Native.Nat.{ℕ, ◌%◌}
 use mathlib.Core.Path.{◌≡◌, sym, ◌∙◌, ap}
-use mathlib.Core.List.{List, []}
+use mathlib.Core.List.{List}
 use native.Mathlib.Omega.{arith}
 use Rattle.timetable.specs.Formats.{accepted}
 use Rattle.timetable.specs.TimetableFile.{StationVisit}
@@ -10,7 +10,6 @@ use Rattle.fields.proofs.EntryLaws.{row_took, row_refusal}
 use Rattle.visit_files.specs.Types.{Visit}
 use Rattle.visit_files.specs.between.Answers.{value_ranges, visit_in, visit_outcome, in_outcome, out_outcome}
 use Rattle.visit_files.proofs.VisitLaws.{values_stop, inward_stop, outward-stop, outward-some, visit_padded, station_visit, visit_made}
-use borrow.Author.Rules.{rules}
 use Rattle.visit_files.proofs.visit.visit_values.Goals as goal
 
 pub returns-in-Refused : goal.returns-in-Refused

@@ -1,6 +1,5 @@
 -- `railway::edit::Deletion::valid` meets its contract: each return rewrites with the tests that led there. Assumes
 -- nothing.
-use borrow.Author.Rules.{rules}
 use Rattle.railway.specs.Edits.{deletion_ok}
 use Rattle.railway.proofs.edit.Deletion.valid.Goals as goal
 

@@ -1,5 +1,4 @@
 -- `railway::edit::Edit::valid` meets its contract: each arm is the range of its fields. Assumes nothing.
-use borrow.Author.Rules.{rules}
 use Rattle.railway.specs.Edits.{edit_ok}
 use Rattle.railway.proofs.edit.Edit.valid.Goals as goal
 

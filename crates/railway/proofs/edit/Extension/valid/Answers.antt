@@ -1,6 +1,5 @@
 -- `railway::edit::Extension::valid` meets its contract: each return rewrites with the tests that led there. Assumes
 -- nothing.
-use borrow.Author.Rules.{rules}
 use Rattle.railway.specs.Edits.{extension_ok}
 use Rattle.railway.proofs.edit.Extension.valid.Goals as goal
 

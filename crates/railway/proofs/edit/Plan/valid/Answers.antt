@@ -1,5 +1,4 @@
 -- `railway::edit::Plan::valid` meets its contract: each return rewrites with the tests that led there. Assumes nothing.
-use borrow.Author.Rules.{rules}
 use Rattle.railway.specs.Edits.{plan_ok}
 use Rattle.railway.proofs.edit.Plan.valid.Goals as goal
 

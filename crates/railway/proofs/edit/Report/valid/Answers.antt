@@ -1,6 +1,5 @@
 -- `railway::edit::Report::valid` meets its contract: each return rewrites with the tests that led there. Assumes
 -- nothing.
-use borrow.Author.Rules.{rules}
 use Rattle.railway.specs.Edits.{report_ok}
 use Rattle.railway.proofs.edit.Report.valid.Goals as goal
 

@@ -1,6 +1,5 @@
 -- `railway::edit::StationRelation::valid` meets its contract: each return rewrites with the tests that led there.
 -- Assumes nothing.
-use borrow.Author.Rules.{rules}
 use Rattle.railway.specs.Edits.{station_relation_ok}
 use Rattle.railway.proofs.edit.StationRelation.valid.Goals as goal
 

@@ -1,6 +1,5 @@
 -- `railway::relation::Pair::valid` meets its contract: each return rewrites with the tests that led there. Assumes
 -- nothing.
-use borrow.Author.Rules.{rules}
 use Rattle.railway.specs.Relations.{pair_ok}
 use Rattle.railway.proofs.relation.Pair.valid.Goals as goal
 

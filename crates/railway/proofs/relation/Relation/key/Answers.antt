@@ -1,5 +1,4 @@
 -- `railway::relation::Relation::key` meets its contract: each arm is the key of its case. Assumes nothing.
-use borrow.Author.Rules.{rules}
 use Rattle.railway.specs.Relations.{key}
 use Rattle.railway.proofs.relation.Relation.key.Goals as goal
 

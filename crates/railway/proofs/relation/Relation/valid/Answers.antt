@@ -1,6 +1,5 @@
 -- `railway::relation::Relation::valid` meets its contract: each return rewrites with the tests that led there. Assumes
 -- nothing.
-use borrow.Author.Rules.{rules}
 use Rattle.railway.specs.Relations.{relation_ok}
 use Rattle.railway.proofs.relation.Relation.valid.Goals as goal
 

@@ -1,5 +1,4 @@
 -- `railway::relation::Trains::key` meets its contract: the numbers stand in their order. Assumes nothing.
-use borrow.Author.Rules.{rules}
 use Rattle.railway.specs.Relations.{group_key}
 use Rattle.railway.proofs.relation.Trains.key.Goals as goal
 

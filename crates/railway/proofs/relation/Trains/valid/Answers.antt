@@ -1,7 +1,6 @@
 -- `railway::relation::Trains::valid` meets its contract: each return rewrites with the tests that led there. Assumes
 -- nothing.
 use borrow.Author.Tests.{le-ltb, lt-ltb}
-use borrow.Author.Rules.{rules}
 use Rattle.railway.specs.Relations.{trains_ok}
 use Rattle.railway.proofs.relation.Trains.valid.Goals as goal
 
