@@ -24,7 +24,7 @@ prove() {
             at=$((at + 1))
             echo "crate $at of $all: ${line%% *}" >&2
             ;;
-        *error*) printf '%s\n' "$line" >&2 ;;
+        *': error'*) printf '%s\n' "$line" >&2 ;;
         esac
     done
 }
