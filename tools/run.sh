@@ -15,15 +15,20 @@ built="$tools/../crates/$1/out/$1"
 
 # Proves the program and the crates that it rests on, and says which of how many is done.
 prove() {
-    local all at=0
+    local all at=0 name=
     all=$(python3 "$tools/closure.py" "$1" crates.txt)
     echo "proving $1 and the crates that it rests on, $all in all; this takes some minutes" >&2
     (cd "crates/$1" && rt run 2>&1 >/dev/null </dev/null) | while IFS= read -r line; do
         case $line in
-        'logic=proved '* | 'logic=not-proved'*)
-            at=$((at + 1))
-            echo "crate $at of $all: ${line%% *}" >&2
+        'crate '*': modules '*)
+            name=${line#crate }
+            name=${name%%:*}
             ;;
+        'logic=proved '*)
+            at=$((at + 1))
+            echo "crate $at of $all: $name proved" >&2
+            ;;
+        'logic=not-proved'*) echo "$name NOT PROVED" >&2 ;;
         *': error'*) printf '%s\n' "$line" >&2 ;;
         esac
     done
