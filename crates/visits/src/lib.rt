@@ -1,6 +1,6 @@
 // Visits by value: their links, whether they stop, and visits with another link or time, as the definitions of
 // timetable/specs/Visits.antt say.
-#![tactic(auto)]
+#![tactic(auto, unfolding(timetable::specs::Visits::opened, crate::specs::between::Changes::opened))]
 
 ghost use Rattle.std.specs.Prelude.{◌≡◌};
 ghost use Rattle.timetable.specs.Visits.{lacks_in, lacks_out, comes_from, leaves_to, stops_anyway, stops, with_in, with_out, planned, amended, arrived_at, departed_at};
@@ -18,36 +18,22 @@ use railway::visit::{InLink, Inward, OutLink, Outward, Visit};
 pub fn has_no_in(v: Visit) -> bool
     ensures { result ≡ lacks_in v }
 {
-    let link = v.inward;
-    match link {
-        InLink::Nothing => true,
-        InLink::From(_) => false,
-    }
+    matches!(v.inward, InLink::Nothing)
 }
 
 pub fn has_no_out(v: Visit) -> bool
     ensures { result ≡ lacks_out v }
 {
-    let link = v.outward;
-    match link {
-        OutLink::Nothing => true,
-        OutLink::To(_) => false,
-    }
+    matches!(v.outward, OutLink::Nothing)
 }
 
 // The in-link is this station and line.
 pub fn is_from(v: Visit, s: Station, l: Line) -> bool
     ensures { result ≡ comes_from s l v }
 {
-    let link = v.inward;
-    match link {
+    match v.inward {
         InLink::Nothing => false,
-        InLink::From(i) => {
-            if i.station.0 == s.0 {
-                return i.line.0 == l.0;
-            }
-            false
-        }
+        InLink::From(i) => i.station.0 == s.0 && i.line.0 == l.0,
     }
 }
 
@@ -55,15 +41,9 @@ pub fn is_from(v: Visit, s: Station, l: Line) -> bool
 pub fn is_to(v: Visit, s: Station, l: Line) -> bool
     ensures { result ≡ leaves_to s l v }
 {
-    let link = v.outward;
-    match link {
+    match v.outward {
         OutLink::Nothing => false,
-        OutLink::To(o) => {
-            if o.station.0 == s.0 {
-                return o.line.0 == l.0;
-            }
-            false
-        }
+        OutLink::To(o) => o.station.0 == s.0 && o.line.0 == l.0,
     }
 }
 
@@ -71,23 +51,14 @@ pub fn is_to(v: Visit, s: Station, l: Line) -> bool
 pub fn stops_anyway(v: Visit) -> bool
     ensures { result ≡ stops_anyway v }
 {
-    if v.arrival.0 < v.departure.0 {
-        return true;
-    }
-    if has_no_in(v) {
-        return true;
-    }
-    has_no_out(v)
+    v.arrival.0 < v.departure.0 || has_no_in(v) || has_no_out(v)
 }
 
 // "A marked visit stops even if the old condition doesn't hold."
 pub fn does_stop(v: Visit) -> bool
     ensures { result ≡ stops v }
 {
-    if v.marked {
-        return true;
-    }
-    stops_anyway(v)
+    v.marked || stops_anyway(v)
 }
 
 pub fn link_from(s: Station, l: Line) -> InLink
@@ -114,54 +85,25 @@ pub fn link_to(s: Station, l: Line, run: u8) -> OutLink
 pub fn linked_in(link: InLink, v: Visit) -> Visit
     ensures { result ≡ with_in link v }
 {
-    let track = v.track;
-    let arrival = v.arrival;
-    let departure = v.departure;
-    let outward = v.outward;
-    Visit {
-        track,
-        marked: v.marked,
-        arrival,
-        arrived: v.arrived,
-        departure,
-        departed: v.departed,
-        inward: link,
-        outward,
-    }
+    Visit { inward: link, ..v }
 }
 
 pub fn linked_out(link: OutLink, v: Visit) -> Visit
     ensures { result ≡ with_out link v }
 {
-    let track = v.track;
-    let arrival = v.arrival;
-    let departure = v.departure;
-    let inward = v.inward;
-    Visit {
-        track,
-        marked: v.marked,
-        arrival,
-        arrived: v.arrived,
-        departure,
-        departed: v.departed,
-        inward,
-        outward: link,
-    }
+    Visit { outward: link, ..v }
 }
 
 // Edit 1: both times pending, no links.
 pub fn plan_visit(p: Plan) -> Visit
     ensures { result ≡ planned p }
 {
-    let track = p.track;
-    let arrival = p.arrival;
-    let departure = p.departure;
     Visit {
-        track,
+        track: p.track,
         marked: p.marked,
-        arrival,
+        arrival: p.arrival,
         arrived: false,
-        departure,
+        departure: p.departure,
         departed: false,
         inward: InLink::Nothing,
         outward: OutLink::Nothing,
@@ -172,20 +114,12 @@ pub fn plan_visit(p: Plan) -> Visit
 pub fn amend_visit(p: Plan, v: Visit) -> Visit
     ensures { result ≡ amended p v }
 {
-    let track = p.track;
-    let arrival = p.arrival;
-    let departure = p.departure;
-    let inward = v.inward;
-    let outward = v.outward;
     Visit {
-        track,
+        track: p.track,
         marked: p.marked,
-        arrival,
-        arrived: v.arrived,
-        departure,
-        departed: v.departed,
-        inward,
-        outward,
+        arrival: p.arrival,
+        departure: p.departure,
+        ..v
     }
 }
 
@@ -193,38 +127,20 @@ pub fn amend_visit(p: Plan, v: Visit) -> Visit
 pub fn arrive(time: Minute, v: Visit) -> Visit
     ensures { result ≡ arrived_at time v }
 {
-    let track = v.track;
-    let departure = v.departure;
-    let inward = v.inward;
-    let outward = v.outward;
     Visit {
-        track,
-        marked: v.marked,
         arrival: time,
         arrived: true,
-        departure,
-        departed: v.departed,
-        inward,
-        outward,
+        ..v
     }
 }
 
 pub fn depart(time: Minute, v: Visit) -> Visit
     ensures { result ≡ departed_at time v }
 {
-    let track = v.track;
-    let arrival = v.arrival;
-    let inward = v.inward;
-    let outward = v.outward;
     Visit {
-        track,
-        marked: v.marked,
-        arrival,
-        arrived: v.arrived,
         departure: time,
         departed: true,
-        inward,
-        outward,
+        ..v
     }
 }
 
@@ -256,73 +172,45 @@ pub fn changed(c: Change, v: Visit) -> Visit
 pub fn stands_first(s: Station, p: Station, v: Visit, w: Visit) -> bool
     ensures { result ≡ first_stands s p v w }
 {
-    if has_no_in(v) {
-        let link = v.outward;
-        match link {
-            OutLink::Nothing => {
-                return false;
-            }
-            OutLink::To(o) => {
-                if o.station.0 == p.0 {
-                    return is_from(w, s, o.line);
-                }
-                return false;
-            }
-        }
+    if !has_no_in(v) {
+        return false;
     }
-    false
+    match v.outward {
+        OutLink::Nothing => false,
+        OutLink::To(o) => o.station.0 == p.0 && is_from(w, s, o.line),
+    }
 }
 
 // Edit 5, the mirror.
 pub fn stands_last(s: Station, p: Station, v: Visit, w: Visit) -> bool
     ensures { result ≡ last_stands s p v w }
 {
-    if has_no_out(v) {
-        let link = v.inward;
-        match link {
-            InLink::Nothing => {
-                return false;
-            }
-            InLink::From(i) => {
-                if i.station.0 == p.0 {
-                    return is_to(w, s, i.line);
-                }
-                return false;
-            }
-        }
+    if !has_no_out(v) {
+        return false;
     }
-    false
+    match v.inward {
+        InLink::Nothing => false,
+        InLink::From(i) => i.station.0 == p.0 && is_to(w, s, i.line),
+    }
 }
 
 // The plan keeps arrival and track.
 fn keeps_arrival(p: Plan, v: Visit) -> bool
     ensures { result ≡ keeps_arrival p v }
 {
-    if p.arrival.0 == v.arrival.0 {
-        return p.track.0 == v.track.0;
-    }
-    false
+    p.arrival.0 == v.arrival.0 && p.track.0 == v.track.0
 }
 
 // The departure has occurred and the plan has another.
 fn alters_departure(p: Plan, v: Visit) -> bool
     ensures { result ≡ alters_departure p v }
 {
-    if v.departed {
-        return p.departure.0 != v.departure.0;
-    }
-    false
+    v.departed && p.departure.0 != v.departure.0
 }
 
 // "11 an amendment alters an occurred time, or the track after an occurred arrival"
 pub fn does_alter(p: Plan, v: Visit) -> bool
     ensures { result ≡ alters p v }
 {
-    if v.arrived {
-        if keeps_arrival(p, v) {
-            return alters_departure(p, v);
-        }
-        return true;
-    }
-    alters_departure(p, v)
+    (v.arrived && !keeps_arrival(p, v)) || alters_departure(p, v)
 }
