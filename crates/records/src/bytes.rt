@@ -1,42 +1,27 @@
 // Bytes, numbers of two bytes, and what is done to a part of a page whatever its bytes mean.
-ghost use Rattle.std.specs.Prelude.{◌≡◌, ◌&&◌, ◌<◌, eqb, length, get_or, take, drop};
-ghost use Rattle.records.specs.Bytes.{zeros, low, high, word, flag, occurred, overwritten, roomed, fronted, records_behind, closed, blank};
-
-fn wide(x: u8) -> u16
-    ensures { (result ≡ x) × (result < 256) }
-{
-    x as u16
-}
+ghost use Rattle.std.specs.Prelude.{◌≡◌, ◌<◌, length, get_or, take, drop};
+ghost use Rattle.records.specs.Bytes.{zeros, word, overwritten, roomed, fronted, records_behind, closed, blank};
 
 // A byte as a count.
 pub fn size(x: u8) -> usize
     ensures { (result ≡ x) × (result < 256) }
 {
-    x as usize
+    usize::from(x)
 }
 
 // The byte at a place, 0 past the end.
 pub fn byte_at(b: &[u8], at: usize) -> u8
     ensures { result ≡ get_or b.now at 0 }
 {
-    if at < b.len() {
-        return b[at];
-    }
-    0
+    b.get(at).copied().unwrap_or(0)
 }
 
 // The record from a place on, shorter or empty where the bytes end.
 pub fn record_at(b: &[u8], at: usize) -> &[u8]
     ensures { result.now ≡ take 16 (drop at b.now) }
 {
-    let n = b.len();
-    if n <= at {
-        return &b[0..0];
-    }
-    if n - at < 16 {
-        return &b[at..n];
-    }
-    &b[at..at + 16]
+    let rest = b.get(at..).unwrap_or(&[]);
+    &rest[..rest.len().min(16)]
 }
 
 // The number in the two bytes from a place on, low byte first.
@@ -44,73 +29,35 @@ pub fn word_at(b: &[u8], at: usize) -> u16
     ensures { result ≡ word b.now at }
 {
     if at < b.len() {
-        return wide(b[at]) + 256 * wide(byte_at(b, at + 1));
+        return u16::from_le_bytes([b[at], byte_at(b, at + 1)]);
     }
     0
 }
 
-pub fn low_byte(x: u16) -> u8
-    ensures { result ≡ low x }
-{
-    (x % 256) as u8
-}
-
-pub fn high_byte(x: u16) -> u8
-    ensures { result ≡ high x }
-{
-    (x / 256) as u8
-}
-
-pub fn status_byte(done: bool) -> u8
-    ensures { result ≡ flag done }
-{
-    if done { 1 } else { 0 }
-}
-
-pub fn status_in(x: u8) -> bool
-    ensures { result ≡ occurred x }
-{
-    x == 1
-}
-
-// No early end: so a compiler takes many bytes at a time.
-fn still_blank(before: bool, x: u8) -> bool
-    ensures { result ≡ (before && eqb 0 x) }
-{
-    if x == 0 {
-        return before;
-    }
-    false
-}
-
-// Whether all bytes are zero.
+// Whether all bytes are zero. No early end: so a compiler takes many bytes at a time.
+#[tactic(auto, unfolding(crate::specs::Bytes::blank))]
 pub fn is_blank(b: &[u8]) -> bool
     ensures { result ≡ blank b.now }
 {
     let mut clean = true;
-    let mut i = 0;
-    while i < b.len() {
-        clean = still_blank(clean, b[i]);
-        i += 1;
+    for &x in b {
+        clean &= x == 0;
     }
     clean
 }
 
 // Writes all of one part over another that is as long.
+#[tactic(auto, unfolding(crate::specs::Bytes::overwritten))]
 pub fn copy(dst: &mut [u8], src: &[u8])
     ensures { dst.new ≡ overwritten dst.old src.now }
 {
-    if dst.len() != src.len() {
-        return;
-    }
-    let mut i = 0;
-    while i < src.len() {
-        dst[i] = src[i];
-        i += 1;
+    if dst.len() == src.len() {
+        dst.copy_from_slice(src);
     }
 }
 
 // Makes room for one record at the front of a part, and answers how many records it moved.
+#[tactic(auto, unfolding(crate::specs::Bytes::roomed))]
 pub fn make_room(part: &mut [u8]) -> usize
     ensures { (result ≡ records_behind part.old) × (part.new ≡ roomed part.old) }
 {
@@ -118,16 +65,12 @@ pub fn make_room(part: &mut [u8]) -> usize
     if n < 16 {
         return 0;
     }
-    let mut i = n;
-    while 16 < i {
-        let b = part[i - 17];
-        part[i - 1] = b;
-        i -= 1;
-    }
+    part.copy_within(..n - 16, 16);
     (n - 16) / 16
 }
 
 // Puts a record in at the front of a part, and answers how many records it moved.
+#[tactic(auto, unfolding(crate::specs::Bytes::fronted))]
 pub fn put_front(part: &mut [u8], new: [u8; 16]) -> usize
     ensures { (result ≡ records_behind part.old) × (part.new ≡ fronted new part.old) }
 {
@@ -135,7 +78,7 @@ pub fn put_front(part: &mut [u8], new: [u8; 16]) -> usize
         return 0;
     }
     let moved = make_room(part);
-    copy(&mut part[0..16], &new);
+    part[..16].copy_from_slice(&new);
     moved
 }
 
@@ -143,14 +86,11 @@ pub fn put_front(part: &mut [u8], new: [u8; 16]) -> usize
 pub fn clear(part: &mut [u8])
     ensures { part.new ≡ zeros (length part.old) }
 {
-    let mut i = 0;
-    while i < part.len() {
-        part[i] = 0;
-        i += 1;
-    }
+    part.fill(0);
 }
 
 // Takes the front record out of a part: those behind it move up, zeros come last.
+#[tactic(auto, unfolding(crate::specs::Bytes::closed))]
 pub fn close_up(part: &mut [u8])
     ensures { part.new ≡ closed part.old }
 {
@@ -158,12 +98,6 @@ pub fn close_up(part: &mut [u8])
     if n < 16 {
         return;
     }
-    let end = n - 16;
-    let mut i = 0;
-    while i < end {
-        let b = part[i + 16];
-        part[i] = b;
-        i += 1;
-    }
-    clear(&mut part[end..n]);
+    part.copy_within(16.., 0);
+    clear(&mut part[n - 16..]);
 }

@@ -1,15 +1,8 @@
--- `records::bytes::is_blank` meets its contract. The loop's invariant: all bytes are zero if those before i are, and
--- those from i on. Assumes nothing.
-use Prim.Native.Nat.{◌≤◌, ◌-◌}
-use mathlib.Core.Path.{◌≡◌}
-use mathlib.Core.Bool.{◌&&◌}
-use lib.Dec.{eqb}
-use lib.ListN.{length, drop}
+-- `records::bytes::is_blank` meets its contract. The loop's invariant: all bytes are zero if those so far are, and
+-- those from its place on. Assumes nothing.
+use Rattle.std.proofs.Common.{◌≡◌, ◌&&◌, ◌≤◌, eqb, length, drop}
 use Rattle.base.specs.Lists.{every}
 use Rattle.records.proofs.bytes.is_blank.Given as goal
 
-abbrev pub invariant-loop-i : goal.invariant-loop-i
-invariant-loop-i l = (l.i ≤ length l.b) × (every (eqb 0) l.b ≡ (l.clean && every (eqb 0) (drop l.i l.b)))
-
-abbrev pub decreases-loop-i : goal.decreases-loop-i
-decreases-loop-i l = length l.b - l.i
+abbrev pub invariant-loop-x : goal.invariant-loop-x
+invariant-loop-x l = (l.x-index ≤ length l.b) × (every (eqb 0) l.b ≡ (l.clean && every (eqb 0) (drop l.x-index l.b)))
