@@ -4,7 +4,7 @@ ghost use Rattle.std.specs.Prelude.{◌≡◌, length};
 ghost use Rattle.timetable.specs.Outputs.{reply, output, output_after};
 ghost use Rattle.projection.specs.Calls.{values_fit, early_refusal, visit_refusal, projected, project_answer, project_after};
 
-use crate::{journey, times};
+use crate::journey;
 use network::Network;
 use page::VisitFound;
 use railway::minute::Minute;
@@ -13,15 +13,11 @@ use sheet::test;
 use sheet::test::Extent;
 use timetable::Output;
 
+#[tactic(auto, unfolding(crate::specs::Calls::values_fit))]
 fn are_valid(s: Station, t: Train, a: Minute) -> bool
     ensures { result ≡ values_fit s t a }
 {
-    if s.valid() {
-        if t.valid() {
-            return a.valid();
-        }
-    }
-    false
+    s.valid() && t.valid() && a.valid()
 }
 
 // 3, 14, 4, 7, or 0: what refuses before the sheet is looked at.
@@ -47,7 +43,7 @@ fn write_rows(sheet: &[u8], s: Station, t: Train, a: Minute, out: &mut [i32]) ->
     ensures { (reply result ≡ output 0 (projected s t a sheet.now) out.old)
         × (out.new ≡ output_after 0 (projected s t a sheet.now) out.old) }
 {
-    let first = times::minutes(a);
+    let first = u32::from(a.0);
     // What does not fit is dropped, so a pass over one spare number counts.
     let mut spare = [0i32; 1];
     let needed = journey::arrive(sheet, t, s, first, 16, &mut spare, 0);

@@ -108,7 +108,7 @@ fn depart(
         OutLink::Nothing => 0,
         OutLink::To(o) => {
             if is_answered(sheet, s, t, o) {
-                return arrive(sheet, t, o.station, d + times::run_of(o), left, out, at);
+                return arrive(sheet, t, o.station, d + u32::from(o.run), left, out, at);
             }
             0
         }

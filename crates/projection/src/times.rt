@@ -8,52 +8,29 @@ ghost use Rattle.timetable.specs.Projection.{expected_arrival, expected_departur
 
 use railway::minute::Minute;
 use railway::sorts::Station;
-use railway::visit::{Outward, Visit};
+use railway::visit::Visit;
 use timetable::Row;
 
-pub fn minutes(m: Minute) -> u32
-    ensures { (result ≡ m.0) × (result ≤ 65535) }
-{
-    m.0 as u32
-}
-
-// The running time.
-pub fn run_of(o: Outward) -> u32
-    ensures { (result ≡ o.run) × (result ≤ 255) }
-{
-    o.run as u32
-}
-
+#[tactic(auto, unfolding(timetable::specs::Projection::expected_arrival))]
 pub fn expected_arrival(v: Visit, a: u32) -> u32
     ensures { (result ≡ expected_arrival v a) × (result ≤ max a 65535) }
 {
-    if v.arrived {
-        return minutes(v.arrival);
-    }
-    a
+    if v.arrived { u32::from(v.arrival.0) } else { a }
 }
 
-fn larger(a: u32, b: u32) -> u32
-    ensures { result ≡ max a b }
-{
-    if a < b {
-        return b;
-    }
-    a
-}
-
+#[tactic(auto, unfolding(timetable::specs::Projection::expected_departure))]
 fn expected_departure(v: Visit, a: u32) -> u32
     requires { a ≤ 70000 }
     ensures { (result ≡ expected_departure v a) × (result ≤ max (a + 1) 65535) }
 {
     if v.departed {
-        return minutes(v.departure);
+        return u32::from(v.departure.0);
     }
     if visits::stops_anyway(v) {
-        return larger(minutes(v.departure), a + 1);
+        return u32::from(v.departure.0).max(a + 1);
     }
     if v.marked {
-        return larger(minutes(v.departure), a);
+        return u32::from(v.departure.0).max(a);
     }
     a
 }

@@ -11,21 +11,12 @@ returns-then-sheet-ne8192 c =
     let s = c.args in
     call_refused s.n s.s s.t s.a s.sheet.now s.out.now 5 (call_short s.n s.s s.t s.a s.sheet.now s.out.now c.if-sheet-ne8192.true) (λ z. omega arith)
 
-pub early_refusal-early-requires : goal.early_refusal-early-requires
-early_refusal-early-requires c = search rules
-
 pub returns-then-early-ne0 : goal.returns-then-early-ne0
 returns-then-early-ne0 c =
     let s = c.args in
     let r = c.early_refusal-early in
     call_refused s.n s.s s.t s.a s.sheet.now s.out.now r.result
     (call_early s.n s.s s.t s.a s.sheet.now s.out.now c.if-sheet-ne8192.false r.result r.ensures c.if-early-ne0.true) c.if-early-ne0.true
-
-pub good_sheet-requires : goal.good_sheet-requires
-good_sheet-requires c = search rules
-
-pub project_visit-requires : goal.project_visit-requires
-project_visit-requires c = search rules
 
 pub returns-then-good_sheet : goal.returns-then-good_sheet
 returns-then-good_sheet c =

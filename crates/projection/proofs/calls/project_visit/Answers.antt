@@ -7,12 +7,6 @@ use Rattle.projection.proofs.ProjectionCall.{visit_missing, visit_there}
 use borrow.Author.Rules.{rules}
 use Rattle.projection.proofs.calls.project_visit.Goals as goal
 
-pub visit_at-found-requires : goal.visit_at-found-requires
-visit_at-found-requires c = search rules
-
-pub write_rows-requires : goal.write_rows-requires
-write_rows-requires c = search rules
-
 pub returns-in-Nothing : goal.returns-in-Nothing
 returns-in-Nothing c =
     let s = c.args in

@@ -11,29 +11,17 @@ use Rattle.projection.proofs.ProjectionCall.{from_first}
 use borrow.Author.Rules.{rules}
 use Rattle.projection.proofs.calls.write_rows.Goals as goal
 
-pub minutes-first-requires : goal.minutes-first-requires
-minutes-first-requires c = search rules
-
-pub slice_bounds-arrive-end : goal.slice_bounds-arrive-end
-slice_bounds-arrive-end c = search rules
-
-pub arrive-needed-requires : goal.arrive-needed-requires
-arrive-needed-requires c = search rules
-
 pub returns-then-out-needed : goal.returns-then-out-needed
 returns-then-out-needed c =
     let s = c.args in
     let r = c.arrive-needed in
     too_short (projected s.s s.t s.a s.sheet.now) s.out.now r.result
-    (r.ensures.0 ∙ ap length (from_first s.s s.t s.a s.sheet.now _ c.minutes-first.ensures.0)) c.if-out-needed.true
-
-pub arrive-requires : goal.arrive-requires
-arrive-requires c = search rules
+    (r.ensures.0 ∙ ap length (from_first s.s s.t s.a s.sheet.now _ c.from-first.ensures)) c.if-out-needed.true
 
 pub returns : goal.returns
 returns c =
     let s = c.args in
     let r = c.arrive-needed in
-    let first = from_first s.s s.t s.a s.sheet.now _ c.minutes-first.ensures.0 in
+    let first = from_first s.s s.t s.a s.sheet.now _ c.from-first.ensures in
     let x = fits_in (projected s.s s.t s.a s.sheet.now) s.out.now r.result (r.ensures.0 ∙ ap length first) c.if-out-needed.false in
     (x.0, c.arrive.ensures.1 ∙ ap (λ (xs : List ℤ). put 0 xs s.out.now) first ∙ x.1)

@@ -43,7 +43,7 @@ depart-returns-then-is_answered t c =
     let a = c.arrive in
     let on =
     departure_on s.left s.sheet.now s.t s.s s.v s.d o c.in-To.is (sym c.is_answered.ensures ∙ c.if-is_answered.true)
-    ∙ ap (λ (j : ℕ). arrival_numbers s.left s.sheet.now s.t o.station (s.d + j)) (sym c.run_of.ensures.0) in
+    ∙ ap (λ (j : ℕ). arrival_numbers s.left s.sheet.now s.t o.station (s.d + j)) (sym c.from.ensures) in
     (a.ensures.0 ∙ sym (ap length on), a.ensures.1 ∙ sym (ap (λ (xs : List ℤ). put s.at xs s.out.now) on), a.ensures.2)
 
 pub depart-returns-in-Nothing : goal.depart-returns-in-Nothing
