@@ -1,78 +1,35 @@
 -- A timetable's numbers as bytes, part by part: the entries of a page row by row, the stations row by row, the four
 -- parts of the file one behind the other; and the parts are the numbers of the timetable. Assumes nothing.
-use Prim.Native.Nat.{ℕ, ◌+◌, ◌≤◌, ◌<◌, min}
+use Prim.Native.Nat.{ℕ, ◌+◌, ◌*◌, ◌≤◌, ◌<◌}
+use Rattle.std.proofs.Common.{add-one}
+use Rattle.std.proofs.Math.Nat.{mul-suc}
 use mathlib.Core.Path.{◌≡◌, refl, sym, ◌∙◌, ap}
-use mathlib.Core.List.{List, [], ◌∷◌, ◌++◌, map, flat_map, append_assoc}
+use mathlib.Core.List.{List, [], ◌∷◌, ◌++◌, map, flat_map, append-nil, append_assoc}
 use native.Mathlib.Omega.{arith}
-use lib.ListN.{length, get_or, take, drop, length-map, length-append}
+use lib.ListN.{length, get_or, take, length-map, length-append}
 use lib.Seq.{take_all}
 use Rattle.network.specs.Networks.{station_rows, stations_of}
-use Rattle.network.proofs.RowsInUse.{used_rows}
 use Rattle.timetable.specs.Tables.{Entry}
 use Rattle.timetable.specs.Machine.{Timetable}
+use Rattle.timetable.specs.Count.{visit_count, relation_count}
+use Rattle.base.specs.Lists.{sum}
+use Rattle.std.proofs.lemmas.List.{take_more}
 use Rattle.timetable.specs.Formats.{bytes_of}
 use Rattle.timetable.specs.EditsFile.{station_relation_numbers}
 use Rattle.timetable.specs.FileForms.{newest_form}
 use Rattle.timetable.specs.TimetableFile.{StationVisit, visit_numbers, visits_at, relations_at, timetable_numbers_as, timetable_numbers}
 use Rattle.timetable.specs.Outputs.{put}
-use Rattle.timetable.proofs.BuffersFilled.{put_two, each_length, each_over}
 use Rattle.fields.specs.between.Putting.{Places}
 use Rattle.timetable_writing.specs.Types.{Station, Relation, StationRelation, StationRow, Network}
-use Rattle.timetable_writing.specs.between.Parts.{entry_numbers, relation_row, visits_here, relations_here, visit_total, relation_total, visit_part, relation_part, file_rows}
-use Rattle.fields.proofs.NumbersPut.{bytes_two, Left, row_put, rows_put}
+use Rattle.timetable_writing.specs.between.Parts.{entry_numbers, relation_row, visits_here, relations_here, of_rows, visit_part, relation_part, file_rows}
+use Rattle.fields.proofs.NumbersPut.{places_two}
 
 -- an entry
-
--- numbers one behind the other; and the same numbers
-writes_two : (at r s : ℕ) (xs ys b c d : List ℕ) (j k : ℕ) → Places at xs b r c j → Places r ys c s d k → Places at (xs ++ ys) b s d (j + k)
-writes_two at r s xs ys b c d j k x y =
-    let w = put_two at r s (bytes_of xs) (bytes_of ys) b c d x.0 x.1 y.0 y.1 in
-    rw (bytes_two xs ys) (w.0, w.1, omega (arith, x.2, y.2))
 
 pub writes_as : (at r : ℕ) (xs ys b c : List ℕ) (k : ℕ) → xs ≡ ys → Places at xs b r c k → Places at ys b r c k
 writes_as at r xs ys b c k e w = rw e at w
 
--- rows, each written as the numbers f
-module _ {A : Type 0} (f : A → List ℕ) (rows : List A) (k at : ℕ) (b₀ : List ℕ) (fits : k ≤ length rows) (i : ℕ) (y : A) (next : ℕ) (b : List ℕ)
-    (left : Left f rows k at b₀ i next b) where
-  pub row_on : i < k → (xs : List ℕ) → xs ≡ f (get_or rows i y) → (later : ℕ) (c : List ℕ) (j : ℕ) → Places next xs b later c j → Left f rows k at b₀ (i + 1) later c
-  row_on h xs e later c j w =
-      let v = writes_as next later xs (f (get_or rows i y)) b c j e w in
-      row_put f rows k at b₀ fits i y next b left h later c v.0 v.1
-
-  -- all of them
-  pub rows_all : k ≤ i → k ≡ length rows → (j : ℕ) → next ≤ at + j → Places at (flat_map f rows) b₀ next b j
-  rows_all h many j few =
-      let x = rows_put f rows k at b₀ fits i y next b left h k k (sym many) (omega arith) in
-      writes_as at next (flat_map f (take k rows)) (flat_map f rows) b₀ b j (ap (flat_map f) (take_all k rows (omega (arith, many)))) (x.0, x.1, few)
-
--- how many elements the first k rows have, those from i on still to be counted
-module _ {A B : Type 0} (g : A → List B) (rows : List A) (k : ℕ) where
-  abbrev pub Uncounted : ℕ → ℕ → Type 0
-  Uncounted i total = length (flat_map g (take k rows)) ≡ total + length (flat_map g (drop i (take k rows)))
-
-  module _ (fits : k ≤ length rows) (i : ℕ) (y : A) (total : ℕ) (left : Uncounted i total) where
-    pub count_on : i < k → (w : ℕ) → w ≡ length (g (get_or rows i y)) → Uncounted (i + 1) (total + w)
-    count_on h w e = left ∙ omega (arith, e, each_length g rows k fits i y h)
-
-    pub count_all : k ≤ i → (count many : ℕ) → length rows ≡ many → k ≡ min count many → total ≡ length (flat_map g (take count rows))
-    count_all h count many m e =
-        let none = each_over g rows k fits i y h in
-        sym (rw (used_rows rows count many k m e) (omega (arith, rw none at left)))
-
--- the whole file: the places behind its four parts, and the buffer after each
-module _ (n : Network) (m : Timetable) (b b₁ b₂ b₃ b₄ : List ℕ) (p₁ p₂ p₃ p₄ : ℕ) where
-  pub file_put : Places 0 (visit_total n m ∷ []) b p₁ b₁ 3 → Places p₁ (visit_part n m) b₁ p₂ b₂ 41472
-      → Places p₂ (relation_total n m ∷ []) b₂ p₃ b₃ 3 → Places p₃ (relation_part n m) b₃ p₄ b₄ 3744
-      → (p₄ ≡ length (bytes_of (file_rows n m))) × (b₄ ≡ put 0 (bytes_of (file_rows n m)) b)
-  unfolding file_rows
-  file_put v vs r rs =
-      let x = writes_two p₂ p₃ p₄ (relation_total n m ∷ []) (relation_part n m) b₂ b₃ b₄ 3 3744 r rs in
-      let y = writes_two p₁ p₂ p₄ (visit_part n m) (relation_total n m ∷ relation_part n m) b₁ b₂ b₄ 41472 (3 + 3744) vs x in
-      let z = writes_two 0 p₁ p₄ (visit_total n m ∷ []) (visit_part n m ++ (relation_total n m ∷ relation_part n m)) b b₁ b₄ 3 (41472 + (3 + 3744)) v y in
-      (omega (arith, z.0), z.1)
-
--- the parts are the numbers of the timetable
+-- lists of elements, one behind the other
 
 pub flat_append : {A B : Type 0} (f : A → List B) (xs ys : List A) → flat_map f (xs ++ ys) ≡ flat_map f xs ++ flat_map f ys
 unfolding flat_map
@@ -84,19 +41,67 @@ unfolding flat_map
 flat_map_lem f g [] = refl
 flat_map_lem f g (x ∷ xs) = ap (λ (l : List _). f (g x) ++ l) (flat_map_lem f g xs)
 
+sum_append : {A : Type 0} (f : A → ℕ) (xs ys : List A) → sum f (xs ++ ys) ≡ sum f xs + sum f ys
+unfolding sum
+sum_append f [] ys = omega arith
+sum_append f (x ∷ xs) ys = omega (arith, sum_append f xs ys)
+
+-- at most so much at each turn, and one turn more
+pub one_turn : (most i total k : ℕ) → total ≤ most * i → k ≤ most → total + k ≤ most * (i + 1)
+one_turn most i total k a b = rw (add-one i, mul-suc most i) (omega (arith, a, b))
+
+-- the elements before i, and one more
+module _ {A : Type 0} (xs : List A) (i : ℕ) (d : A) (h : i < length xs) where
+  pub sum_more : (f : A → ℕ) (k : ℕ) → k ≡ f (get_or xs i d) → sum f (take (i + 1) xs) ≡ sum f (take i xs) + k
+  unfolding sum
+  sum_more f k e = ap (sum f) (take_more xs i d h) ∙ sum_append f (take i xs) (get_or xs i d ∷ []) ∙ omega (arith, e)
+
+  flat_more : (f : A → List ℕ) → flat_map f (take (i + 1) xs) ≡ flat_map f (take i xs) ++ f (get_or xs i d)
+  unfolding flat_map
+  flat_more f =
+      ap (flat_map f) (take_more xs i d h) ∙ flat_append f (take i xs) (get_or xs i d ∷ []) ∙ ap (λ (l : List ℕ). flat_map f (take i xs) ++ l) (append-nil (f (get_or xs i d)))
+
+  -- what f makes of the elements before i was put from a place on, and what it makes of one more from there on
+  pub puts_more : (f : A → List ℕ) (at next later : ℕ) (ys b₀ b c : List ℕ) (most : ℕ) → Places at (flat_map f (take i xs)) b₀ next b (most * i)
+      → ys ≡ f (get_or xs i d) → Places next ys b later c most → Places at (flat_map f (take (i + 1) xs)) b₀ later c (most * (i + 1))
+  puts_more f at next later ys b₀ b c most before e one =
+      let w = places_two at next later _ _ b₀ b c (most * i) most before (writes_as next later ys _ b c most e one) in
+      let x = writes_as at later _ _ b₀ c (most * i + most) (sym (flat_more f)) w in
+      (x.0, x.1, rw (add-one i, mul-suc most i) x.2)
+
+-- all of them
+pub puts_all : {A : Type 0} (f : A → List ℕ) (xs : List A) (i at r j k : ℕ) (b c : List ℕ) → length xs ≤ i → j ≤ k
+    → Places at (flat_map f (take i xs)) b r c j → Places at (flat_map f xs) b r c k
+puts_all f xs i at r j k b c many less w =
+    let x = writes_as at r _ _ b c j (ap (flat_map f) (take_all i xs many)) w in
+    (x.0, x.1, omega (arith, x.2))
+
+-- the whole file: the places behind its four parts, and the buffer after each
+module _ (n : Network) (m : Timetable) (b b₁ b₂ b₃ b₄ : List ℕ) (p₁ p₂ p₃ p₄ : ℕ) where
+  pub file_put : Places 0 (visit_count n m ∷ []) b p₁ b₁ 3 → Places p₁ (visit_part n m) b₁ p₂ b₂ 41472
+      → Places p₂ (relation_count n m ∷ []) b₂ p₃ b₃ 3 → Places p₃ (relation_part n m) b₃ p₄ b₄ 3744
+      → (p₄ ≡ length (bytes_of (file_rows n m))) × (b₄ ≡ put 0 (bytes_of (file_rows n m)) b)
+  unfolding file_rows
+  file_put v vs r rs =
+      let x = places_two p₂ p₃ p₄ (relation_count n m ∷ []) (relation_part n m) b₂ b₃ b₄ 3 3744 r rs in
+      let y = places_two p₁ p₂ p₄ (visit_part n m) (relation_count n m ∷ relation_part n m) b₁ b₂ b₄ 41472 (3 + 3744) vs x in
+      let z = places_two 0 p₁ p₄ (visit_count n m ∷ []) (visit_part n m ++ (relation_count n m ∷ relation_part n m)) b b₁ b₄ 3 (41472 + (3 + 3744)) v y in
+      (omega (arith, z.0), z.1)
+
+-- the parts are the numbers of the timetable
+
 -- each row's elements q, listed as g of its station
 module _ {E L : Type 0} (q : Station → List E) (g : Station → E → L) where
   abbrev all : List StationRow → List L
   all rows = flat_map (λ s. map (g s) (q s)) (map (λ r. r.station) rows)
 
-  many_rows : (rows : List StationRow) → length (all rows) ≡ length (flat_map (λ r. q r.station) rows)
-  unfolding flat_map
+  many_rows : (rows : List StationRow) → length (all rows) ≡ sum (λ s. length (q s)) (map (λ r. r.station) rows)
+  unfolding flat_map sum
   many_rows [] = refl
   many_rows (r ∷ rows) =
       omega (
         arith,
         length-append (map (g r.station) (q r.station)) (all rows),
-        length-append (q r.station) (flat_map (λ r. q r.station) rows),
         length-map (q r.station) (g r.station),
         many_rows rows,
       )
@@ -114,7 +119,7 @@ module _ {E L : Type 0} (q : Station → List E) (g : Station → E → L) where
 
 module _ (n : Network) (m : Timetable) where
   pub rows_numbers : file_rows n m ≡ timetable_numbers n m
-  unfolding file_rows timetable_numbers_as visit_total relation_total visit_part relation_part visits_here relations_here entry_numbers relation_row visits_at relations_at stations_of
+  unfolding file_rows timetable_numbers_as visit_count relation_count of_rows visit_part relation_part visits_here relations_here entry_numbers relation_row visits_at relations_at stations_of
   rows_numbers =
       let rows = station_rows n in
       let visit : Station → Entry → StationVisit = λ s e. record { station = s; train = e.train; visit = e.visit } in
@@ -126,3 +131,9 @@ module _ (n : Network) (m : Timetable) where
         all_rows (λ s. (m s).visits) visit (visit_numbers newest_form) entry_numbers (λ s. refl) rows,
         all_rows (λ s. (m s).relations) relation station_relation_numbers relation_row (λ s. refl) rows,
       ))
+
+-- a number for each station
+pub sum_stations : (f : Station → ℕ) (rows : List StationRow) → sum (λ r. f r.station) rows ≡ sum f (map (λ r. r.station) rows)
+unfolding sum
+sum_stations f [] = refl
+sum_stations f (r ∷ rows) = ap (λ (k : ℕ). f r.station + k) (sum_stations f rows)

@@ -1,7 +1,11 @@
 // The timetable that a sheet holds, as it stands in a timetable file: the stations rise, and so do the entries of each.
 // Each function puts its numbers into the lent buffer from a place on and answers the place behind them; on a buffer
 // that is too short it only counts.
-ghost use Rattle.std.specs.Prelude.{◌≡◌, ◌≤◌, length};
+ghost use Rattle.std.specs.Prelude.{List, ℕ, ◌≡◌, ◌+◌, ◌*◌, ◌≤◌, length};
+ghost use Rattle.base.specs.Lists.{sum};
+ghost use Rattle.std.specs.Borrow.{Bor, MutBor};
+ghost use Rattle.timetable.specs.Tables.{Table};
+ghost use Rattle.timetable.specs.Count.{visit_count, relation_count};
 ghost use Rattle.timetable.specs.Formats.{bytes_of};
 ghost use Rattle.timetable.specs.Outputs.{reply, put};
 ghost use Rattle.timetable.specs.FileForms.{newest_form};
@@ -9,11 +13,11 @@ ghost use Rattle.timetable.specs.TimetableFile.{visit_numbers};
 ghost use Rattle.page.specs.between.Changes.{table_in};
 ghost use Rattle.sheet.specs.Sheets.{decode_sheet};
 ghost use Rattle.fields.specs.between.Putting.{Places};
-ghost use Rattle.timetable_writing.specs.between.Parts.{relation_row, visits_here, relations_here, visit_total, relation_total, visit_part, relation_part, file_rows};
+ghost use Rattle.timetable_writing.specs.between.Parts.{relation_row, visits_here, relations_here, of_rows, visit_part, relation_part, file_rows};
 ghost use Rattle.timetable_writing.specs.Writing.{write_timetable, timetable_written, sheet_totals};
 
 use fields::put;
-use network::{Network, in_use};
+use network::{Network, StationRow, in_use};
 use page::entries;
 use railway::edit::StationRelation;
 use railway::relation::Relation;
@@ -60,15 +64,10 @@ fn put_visits(out: &mut [u8], at: usize, part: &[u8], s: Station) -> usize
     requires { at ≤ 700000000 }
     ensures { Places at (visits_here s (table_in part.now)) out.old result out.new 2592 }
 {
-    let k = page::visit_count(part);
     let mut next = at;
-    let mut i: usize = 0;
-    while i < k {
+    for i in 0..page::visit_count(part) {
         let r = entries::entry_record(part, i);
-        let t = record::train_in(r);
-        let v = record::visit_in(r);
-        next = put_visit(out, next, s, t, v);
-        i += 1;
+        next = put_visit(out, next, s, record::train_in(r), record::visit_in(r));
     }
     next
 }
@@ -77,49 +76,52 @@ fn put_relations(out: &mut [u8], at: usize, part: &[u8], s: Station) -> usize
     requires { at ≤ 700000000 }
     ensures { Places at (relations_here s (table_in part.now)) out.old result out.new 234 }
 {
-    let k = page::relation_count(part);
     let mut next = at;
-    let mut i: usize = 0;
-    while i < k {
-        let r = record::relation_in(entries::relation_record(part, i));
-        next = put_relation(out, next, s, r);
-        i += 1;
+    for i in 0..page::relation_count(part) {
+        let r = entries::relation_record(part, i);
+        next = put_relation(out, next, s, record::relation_in(r));
     }
     next
 }
 
 // The file
 
-fn visit_total(sheet: &[u8], n: Network) -> usize
-    requires { length sheet.now ≡ 8192 }
-    ensures { (result ≡ visit_total n (decode_sheet sheet.now)) × (result ≤ 384) }
+// What is counted on the pages of the rows' stations, in all.
+fn total<F: Fn(&[u8]) -> usize>(sheet: &[u8], rows: &[StationRow], count: F) -> usize
+    requires sheet { length sheet.now ≡ 8192 }
+    requires few { length rows.now ≤ 16 }
+    requires callable { F.IsAlwaysCallable count }
+    requires small { (x : Bor (List ℕ)) (k : ℕ) → F.post count x k → k ≤ 24 }
+    ensures sum { (f : Table → ℕ) → ((x : Bor (List ℕ)) (k : ℕ) → F.post count x k → k ≡ f (table_in x.now)) → result ≡ sum (λ r. f (decode_sheet sheet.now r.station)) rows.now }
+    ensures bound { (most : ℕ) → ((x : Bor (List ℕ)) (k : ℕ) → F.post count x k → k ≤ most) → result ≤ most * length rows.now }
 {
-    let rows = n.stations;
-    let k = in_use(n.stationcount, 16);
-    let mut total: usize = 0;
-    let mut i: usize = 0;
-    while i < k {
-        let row = rows[i];
-        total += page::visit_count(station_page::page_of(sheet, row.station));
-        i += 1;
+    let mut total = 0;
+    for row in rows {
+        total += count(station_page::page_of(sheet, row.station));
     }
     total
 }
 
+fn visit_total(sheet: &[u8], n: Network) -> usize
+    requires { length sheet.now ≡ 8192 }
+    ensures { (result ≡ visit_count n (decode_sheet sheet.now)) × (result ≤ 384) }
+{
+    total(
+        sheet,
+        &n.stations[..in_use(n.stationcount, 16)],
+        |part| page::visit_count(part),
+    )
+}
+
 fn relation_total(sheet: &[u8], n: Network) -> usize
     requires { length sheet.now ≡ 8192 }
-    ensures { (result ≡ relation_total n (decode_sheet sheet.now)) × (result ≤ 96) }
+    ensures { (result ≡ relation_count n (decode_sheet sheet.now)) × (result ≤ 96) }
 {
-    let rows = n.stations;
-    let k = in_use(n.stationcount, 16);
-    let mut total: usize = 0;
-    let mut i: usize = 0;
-    while i < k {
-        let row = rows[i];
-        total += page::relation_count(station_page::page_of(sheet, row.station));
-        i += 1;
-    }
-    total
+    total(
+        sheet,
+        &n.stations[..in_use(n.stationcount, 16)],
+        |part| page::relation_count(part),
+    )
 }
 
 // What the sheet's pages say, whatever else they hold; 5 for what is no sheet.
@@ -140,46 +142,48 @@ pub fn sheet_totals(sheet: &[u8], n: Network) -> Totals
     }
 }
 
-fn put_all_visits(out: &mut [u8], at: usize, sheet: &[u8], n: Network) -> usize
-    requires { (length sheet.now ≡ 8192) × (at ≤ 600000000) }
-    ensures { Places at (visit_part n (decode_sheet sheet.now)) out.old result out.new 41472 }
+// What is put of the pages of the rows' stations, one behind the other.
+fn put_all<F: Fn(&mut [u8], usize, &[u8], Station) -> usize>(
+    out: &mut [u8],
+    at: usize,
+    sheet: &[u8],
+    rows: &[StationRow],
+    put: F,
+) -> usize
+    requires sheet { length sheet.now ≡ 8192 }
+    requires few { length rows.now ≤ 16 }
+    requires near { at ≤ 600000000 }
+    requires callable { (b : MutBor (List ℕ)) (k : ℕ) (x : Bor (List ℕ)) (s : Station) → k ≤ 700000000 → F.pre put b k x s }
+    requires small { (b : MutBor (List ℕ)) (k : ℕ) (x : Bor (List ℕ)) (s : Station) (r : ℕ) (c : MutBor (List ℕ)) → F.post put b k x s r c → r ≤ k + 2592 }
+    ensures put { (f : Station → Table → List ℕ) (most : ℕ) → ((b : MutBor (List ℕ)) (k : ℕ) (x : Bor (List ℕ)) (s : Station) (r : ℕ) (c : MutBor (List ℕ)) → F.post put b k x s r c → Places k (f s (table_in x.now)) b.now r c.now most)
+        → Places at (of_rows (decode_sheet sheet.now) f rows.now) out.old result out.new (most * length rows.now) }
 {
-    let rows = n.stations;
-    let k = in_use(n.stationcount, 16);
     let mut next = at;
-    let mut i: usize = 0;
-    while i < k {
-        let row = rows[i];
-        next = put_visits(
+    for row in rows {
+        next = put(
             out,
             next,
             station_page::page_of(sheet, row.station),
             row.station,
         );
-        i += 1;
     }
     next
+}
+
+fn put_all_visits(out: &mut [u8], at: usize, sheet: &[u8], n: Network) -> usize
+    requires { (length sheet.now ≡ 8192) × (at ≤ 600000000) }
+    ensures { Places at (visit_part n (decode_sheet sheet.now)) out.old result out.new 41472 }
+{
+    let rows = &n.stations[..in_use(n.stationcount, 16)];
+    put_all(out, at, sheet, rows, put_visits)
 }
 
 fn put_all_relations(out: &mut [u8], at: usize, sheet: &[u8], n: Network) -> usize
     requires { (length sheet.now ≡ 8192) × (at ≤ 600000000) }
     ensures { Places at (relation_part n (decode_sheet sheet.now)) out.old result out.new 3744 }
 {
-    let rows = n.stations;
-    let k = in_use(n.stationcount, 16);
-    let mut next = at;
-    let mut i: usize = 0;
-    while i < k {
-        let row = rows[i];
-        next = put_relations(
-            out,
-            next,
-            station_page::page_of(sheet, row.station),
-            row.station,
-        );
-        i += 1;
-    }
-    next
+    let rows = &n.stations[..in_use(n.stationcount, 16)];
+    put_all(out, at, sheet, rows, put_relations)
 }
 
 // "count of visits (0..384), .. count of relations (0..96), .."

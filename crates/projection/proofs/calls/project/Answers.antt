@@ -3,7 +3,6 @@
 use mathlib.Core.Path.{sym, ◌∙◌}
 use native.Mathlib.Omega.{arith}
 use Rattle.projection.proofs.ProjectionCall.{call_refused, call_short, call_early, call_bad, call_good}
-use borrow.Author.Rules.{rules}
 use Rattle.projection.proofs.calls.project.Goals as goal
 
 pub returns-then-sheet-ne8192 : goal.returns-then-sheet-ne8192

@@ -4,7 +4,6 @@ use Rattle.projection.specs.Calls.{projected}
 use Rattle.page.proofs.FoundLaws.{found_some, found_none}
 use Rattle.timetable.proofs.BuffersFilled.{refused_so}
 use Rattle.projection.proofs.ProjectionCall.{visit_missing, visit_there}
-use borrow.Author.Rules.{rules}
 use Rattle.projection.proofs.calls.project_visit.Goals as goal
 
 pub returns-in-Nothing : goal.returns-in-Nothing

@@ -8,7 +8,6 @@ use Rattle.timetable.specs.Outputs.{put}
 use Rattle.projection.specs.Calls.{projected}
 use Rattle.timetable.proofs.BuffersFilled.{too_short, fits_in}
 use Rattle.projection.proofs.ProjectionCall.{from_first}
-use borrow.Author.Rules.{rules}
 use Rattle.projection.proofs.calls.write_rows.Goals as goal
 
 pub returns-then-out-needed : goal.returns-then-out-needed

@@ -13,12 +13,6 @@ use Rattle.timetable_entries.proofs.PartLaws.{entries_took, entries_refusal, vis
 use borrow.Author.Rules.{rules}
 use Rattle.timetable_entries.proofs.read.entries.Goals as goal
 
-pub visit_part-found-requires : goal.visit_part-found-requires
-visit_part-found-requires c = search rules
-
-pub relation_part-requires : goal.relation_part-requires
-relation_part-requires c = search rules
-
 pub returns-then-found : goal.returns-then-found
 unfolding entries_sheet
 returns-then-found c =
@@ -33,9 +27,6 @@ returns-then-found c =
     ap (λ (l : List ℕ). progress l v.result.fault) b ∙ ap (λ (y : Fault). progress (through (visit_step s.n) ps g).sheet y) f in
     let (x, y) = joined s.form s.file.now s.at ps v.result.place o s.n g later is in
     (r.ensures.0 ∙ x, λ t. r.ensures.1 t ∙ y)
-
-pub refused_entries-requires : goal.refused_entries-requires
-refused_entries-requires c = search rules
 
 pub returns : goal.returns
 unfolding timetable_entries unanswered

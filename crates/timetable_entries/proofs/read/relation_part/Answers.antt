@@ -12,15 +12,6 @@ use Rattle.timetable_entries.proofs.PartLaws.{relation_part_stop, relation_part_
 use borrow.Author.Rules.{rules}
 use Rattle.timetable_entries.proofs.read.relation_part.Goals as goal
 
-pub field-count-requires : goal.field-count-requires
-field-count-requires c = search rules
-
-pub refused_entries-requires : goal.refused_entries-requires
-refused_entries-requires c = search rules
-
-pub overflow_cast-k : goal.overflow_cast-k
-overflow_cast-k c = search rules
-
 pub relations-requires : goal.relations-requires
 unfolding field_outcome
 relations-requires c =

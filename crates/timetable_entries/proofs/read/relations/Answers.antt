@@ -17,20 +17,11 @@ use Rattle.timetable_entries.proofs.LoopLaws.{relation_station, left_at, reached
 use Rattle.timetable_entries.proofs.SheetEntries.{progress}
 use Rattle.timetable_entries.proofs.read.relations.Goals as goal
 
-pub no_floor-floor-requires : goal.no_floor-floor-requires
-no_floor-floor-requires c = search rules
-
 pub loop-i-init : goal.loop-i-init
 loop-i-init c =
     let s = c.args in
     let e = ap (λ (l : List ℕ). left_at station_relation_entry relation_floor s.file.now s.count l s.at) (sym (row_held c.no_floor-floor.ensures)) in
     (omega arith, (c.requires.0, reached_first station_relation_entry relation_floor s.file.now (relation_step s.n) s.count s.at (progress s.sheet.now s.fault) (in_use c.no_floor-floor.result) e))
-
-pub relation_entry-found-requires : goal.relation_entry-found-requires
-relation_entry-found-requires c = search rules
-
-pub refused_entries-requires : goal.refused_entries-requires
-refused_entries-requires c = search rules
 
 pub returns-in-Refused : goal.returns-in-Refused
 unfolding relations_format relation_outcome unanswered
@@ -52,14 +43,8 @@ enter_relation-first-requires c =
     let o = sym c.relation_entry-found.ensures ∙ ap relation_outcome c.in-Entry.is in
     (l.invariant.1.0, relation_station (in_use l.floor) s.file.now l.place c.in-Entry.x c.in-Entry.next o)
 
-pub relation_numbers-floor-requires : goal.relation_numbers-floor-requires
-relation_numbers-floor-requires c = search rules
-
 pub overflow_add-i : goal.overflow_add-i
 overflow_add-i c = omega (arith, c.requires.1)
-
-pub loop-i-smaller : goal.loop-i-smaller
-loop-i-smaller c = omega arith
 
 pub loop-i-preserved : goal.loop-i-preserved
 unfolding relation_floor relation_outcome
@@ -71,9 +56,6 @@ loop-i-preserved c =
     let q = reached-next station_relation_entry relation_floor s.file.now (relation_step s.n) s.count s.at (progress s.sheet.now s.fault) l.i (in_use l.floor) l.place (progress l.sheet l.first) l.invariant.1.1
     (omega arith) c.in-Entry.x c.in-Entry.next _ _ o (row_held c.relation_numbers-floor.ensures) h.ensures in
     (omega arith, (h.auto.sheet ∙ l.invariant.1.0, q))
-
-pub accepted_entries-requires : goal.accepted_entries-requires
-accepted_entries-requires c = search rules
 
 pub returns : goal.returns
 unfolding relations_format

@@ -12,15 +12,6 @@ use Rattle.timetable_entries.proofs.PartLaws.{visit_part_stop, visit_part_then}
 use borrow.Author.Rules.{rules}
 use Rattle.timetable_entries.proofs.read.visit_part.Goals as goal
 
-pub field-count-requires : goal.field-count-requires
-field-count-requires c = search rules
-
-pub refused_entries-requires : goal.refused_entries-requires
-refused_entries-requires c = search rules
-
-pub overflow_cast-k : goal.overflow_cast-k
-overflow_cast-k c = search rules
-
 pub visits-requires : goal.visits-requires
 unfolding field_outcome
 visits-requires c =

@@ -20,12 +20,6 @@ loop-i-init c =
     let e = same_left (visit_entry s.form) visit_floor s.file.now (0 ∷ 0 ∷ []) (none_before s.form s.file.now) s.count s.at in
     (omega arith, (c.requires.0, reached_first (visit_entry s.form) visit_floor s.file.now (visit_step s.n) s.count s.at (progress s.sheet.now s.fault) (0 ∷ 0 ∷ []) e))
 
-pub visit_entry-found-requires : goal.visit_entry-found-requires
-visit_entry-found-requires c = search rules
-
-pub refused_entries-requires : goal.refused_entries-requires
-refused_entries-requires c = search rules
-
 pub returns-in-Refused : goal.returns-in-Refused
 unfolding visits_format visit_outcome unanswered
 returns-in-Refused c =
@@ -49,9 +43,6 @@ enter_visit-first-requires c =
 pub overflow_add-i : goal.overflow_add-i
 overflow_add-i c = omega (arith, c.requires.1)
 
-pub loop-i-smaller : goal.loop-i-smaller
-loop-i-smaller c = omega arith
-
 pub loop-i-preserved : goal.loop-i-preserved
 unfolding visit_floor visit_outcome
 loop-i-preserved c =
@@ -62,9 +53,6 @@ loop-i-preserved c =
     let q = reached-next (visit_entry s.form) visit_floor s.file.now (visit_step s.n) s.count s.at (progress s.sheet.now s.fault) l.i (l.station.0 ∷ l.train.0 ∷ []) l.place (progress l.sheet l.first) l.invariant.1.1
     (omega arith) (station_visit c.in-Entry.s c.in-Entry.t c.in-Entry.v) c.in-Entry.next (c.in-Entry.s.0 ∷ c.in-Entry.t.0 ∷ []) _ o refl h.ensures in
     (omega arith, (h.auto.sheet ∙ l.invariant.1.0, q))
-
-pub accepted_entries-requires : goal.accepted_entries-requires
-accepted_entries-requires c = search rules
 
 pub returns : goal.returns
 unfolding visits_format

@@ -15,17 +15,8 @@ pub returns-then-sheet-ne8192 : goal.returns-then-sheet-ne8192
 unfolding timetable_outcome
 returns-then-sheet-ne8192 c = let s = c.args in no_sheet s.form s.n s.fault s.file.now s.at s.sheet.now c.if-sheet-ne8192.true
 
-pub slice_bounds-fill-end : goal.slice_bounds-fill-end
-slice_bounds-fill-end c = search rules
-
 pub fill-found-requires : goal.fill-found-requires
 fill-found-requires c = refl
-
-pub slice_bounds-copy-end : goal.slice_bounds-copy-end
-slice_bounds-copy-end c = search rules
-
-pub copy-requires : goal.copy-requires
-copy-requires c = search rules
 
 pub returns-in-Refused : goal.returns-in-Refused
 unfolding timetable_outcome

@@ -6,32 +6,7 @@ use Rattle.sheet.specs.Sheets.{decode_sheet}
 use Rattle.timetable_writing.proofs.TimetableLaws.{writes_as, file_put}
 use native.Mathlib.Omega.{arith}
 use Rattle.fields.proofs.NumbersPut.{near}
-use borrow.Author.Rules.{rules}
 use Rattle.timetable_writing.proofs.calls.put_timetable.Goals as goal
-
-pub visit_total-requires : goal.visit_total-requires
-visit_total-requires c = search rules
-
-pub overflow_cast-visit_total : goal.overflow_cast-visit_total
-overflow_cast-visit_total c = search rules
-
-pub put_number-visits-requires : goal.put_number-visits-requires
-put_number-visits-requires c = search rules
-
-pub put_all_visits-count-requires : goal.put_all_visits-count-requires
-put_all_visits-count-requires c = search rules
-
-pub relation_total-requires : goal.relation_total-requires
-relation_total-requires c = search rules
-
-pub overflow_cast-relation_total : goal.overflow_cast-relation_total
-overflow_cast-relation_total c = search rules
-
-pub put_number-relations-requires : goal.put_number-relations-requires
-put_number-relations-requires c = search rules
-
-pub put_all_relations-requires : goal.put_all_relations-requires
-put_all_relations-requires c = search rules
 
 pub returns : goal.returns
 returns c =

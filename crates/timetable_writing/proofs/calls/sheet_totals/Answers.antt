@@ -1,17 +1,10 @@
 -- `timetable_writing::calls::sheet_totals` meets its contract: the totals, where there is a sheet. Assumes nothing.
 use native.Mathlib.Omega.{arith}
-use borrow.Author.Rules.{rules}
 use Rattle.timetable_writing.proofs.CountLaws.{no_sheet, counted}
 use Rattle.timetable_writing.proofs.calls.sheet_totals.Goals as goal
 
 pub returns-then-sheet-ne8192 : goal.returns-then-sheet-ne8192
 returns-then-sheet-ne8192 c = let s = c.args in (no_sheet s.n s.sheet.now c.if-sheet-ne8192.true, omega arith, omega arith)
-
-pub visit_total-requires : goal.visit_total-requires
-visit_total-requires c = search rules
-
-pub relation_total-requires : goal.relation_total-requires
-relation_total-requires c = search rules
 
 pub returns : goal.returns
 returns c =

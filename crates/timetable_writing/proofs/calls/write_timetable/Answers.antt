@@ -2,14 +2,10 @@
 -- a spare byte counts, and the same pass writes. Assumes nothing.
 use mathlib.Core.Path.{sym, ◌∙◌}
 use Rattle.timetable_writing.proofs.WritingCall.{timetable_no_sheet, timetable_bad_network, timetable-bad-sheet, timetable-short, timetable-fits}
-use borrow.Author.Rules.{rules}
 use Rattle.timetable_writing.proofs.calls.write_timetable.Goals as goal
 
 pub returns-then-sheet-ne8192 : goal.returns-then-sheet-ne8192
 returns-then-sheet-ne8192 c = let s = c.args in timetable_no_sheet s.n s.sheet.now s.out.now c.if-sheet-ne8192.true
-
-pub refusal-early-requires : goal.refusal-early-requires
-refusal-early-requires c = search rules
 
 pub returns-then-early-ne0 : goal.returns-then-early-ne0
 returns-then-early-ne0 c =
@@ -17,24 +13,12 @@ returns-then-early-ne0 c =
     let r = c.refusal-early in
     timetable_bad_network s.n s.sheet.now s.out.now c.if-sheet-ne8192.false r.result r.ensures c.if-early-ne0.true
 
-pub good_sheet-requires : goal.good_sheet-requires
-good_sheet-requires c = search rules
-
-pub slice_bounds-put_timetable-end : goal.slice_bounds-put_timetable-end
-slice_bounds-put_timetable-end c = search rules
-
-pub put_timetable-needed-requires : goal.put_timetable-needed-requires
-put_timetable-needed-requires c = search rules
-
 pub returns-then-out-needed : goal.returns-then-out-needed
 returns-then-out-needed c =
     let s = c.args in
     let p = c.put_timetable-needed in
     timetable-short s.n s.sheet.now s.out.now c.if-sheet-ne8192.false (sym c.refusal-early.ensures ∙ c.if-early-ne0.false) (sym c.good_sheet.ensures ∙ c.if-good_sheet.true)
     p.result p.ensures.0 c.if-out-needed.true
-
-pub put_timetable-requires : goal.put_timetable-requires
-put_timetable-requires c = search rules
 
 pub returns-then-good_sheet : goal.returns-then-good_sheet
 returns-then-good_sheet c =
