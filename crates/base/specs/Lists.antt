@@ -1,24 +1,22 @@
 -- Tests over lists, and the order of lists of numbers. Assumes nothing.
 use Rattle.std.specs.Prelude.{ℕ, ◌+◌, Bool, true, false, ◌&&◌, ◌||◌, List, [], ◌∷◌, ◌++◌, map, ltb, leb, eqb}
-use Rattle.std.proofs.Math.Option.{Option, none, some}
+use Rattle.std.specs.Prelude.{Option, None, Some}
+use Rattle.std.specs.List.{list_any, list_all, filter, find}
 use Rattle.base.specs.Choice.{◌if◌else◌}
 use Rattle.std.specs.Prelude.{if◌then◌else◌}
 
 module _ {A : Type 0} where
   -- some element passes the test
   unfoldable pub any : (A → Bool) → List A → Bool
-  any f [] = false
-  any f (x ∷ xs) = f x || any f xs
+  any f xs = list_any f xs
 
   -- each element passes the test
   unfoldable pub every : (A → Bool) → List A → Bool
-  every f [] = true
-  every f (x ∷ xs) = f x && every f xs
+  every f xs = list_all f xs
 
   -- the elements that pass the test, in their order
   unfoldable pub keep : (A → Bool) → List A → List A
-  keep f [] = []
-  keep f (x ∷ xs) = if f x then x ∷ keep f xs else keep f xs
+  keep f xs = filter f xs
 
   -- how many pass the test
   unfoldable pub count : (A → Bool) → List A → ℕ
@@ -27,13 +25,12 @@ module _ {A : Type 0} where
 
   -- the first that passes the test
   unfoldable pub first : (A → Bool) → List A → Option A
-  first f [] = none
-  first f (x ∷ xs) = if f x then some x else first f xs
+  first f xs = find f xs
 
   -- the test holds of what is there; false where nothing is
   abbrev pub is : (A → Bool) → Option A → Bool
-  is f none = false
-  is f (some x) = f x
+  is f None = false
+  is f (Some x) = f x
 
   -- the test holds of each two, the one before the other in the list
   unfoldable pub each_two : (A → A → Bool) → List A → Bool
