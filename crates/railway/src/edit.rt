@@ -8,7 +8,7 @@ use crate::sorts::{Line, Station, Track, Train};
 use crate::visit::run_valid;
 
 // "(s, t, track, arrival, departure)", and a stop mark "after its track in every edit that carries a track"
-#[derive(Clone, Copy)]
+#[derive(Clone, Copy, Debug, PartialEq, Eq, Hash)]
 pub struct Plan {
     pub station: Station,
     pub train: Train,
@@ -19,7 +19,7 @@ pub struct Plan {
 }
 
 // "(as 1, then p, line, running time)"
-#[derive(Clone, Copy)]
+#[derive(Clone, Copy, Debug, PartialEq, Eq, Hash)]
 pub struct Extension {
     pub plan: Plan,
     pub other: Station,
@@ -28,7 +28,7 @@ pub struct Extension {
 }
 
 // "(s, t, p)"
-#[derive(Clone, Copy)]
+#[derive(Clone, Copy, Debug, PartialEq, Eq, Hash)]
 pub struct Deletion {
     pub station: Station,
     pub train: Train,
@@ -36,7 +36,7 @@ pub struct Deletion {
 }
 
 // "(s, t, time)", and "the present minute .. as a last field"
-#[derive(Clone, Copy)]
+#[derive(Clone, Copy, Debug, PartialEq, Eq, Hash)]
 pub struct Report {
     pub station: Station,
     pub train: Train,
@@ -45,19 +45,19 @@ pub struct Report {
 }
 
 // "(s, relation)"
-#[derive(Clone, Copy)]
+#[derive(Clone, Copy, Debug, PartialEq, Eq, Hash)]
 pub struct StationRelation {
     pub station: Station,
     pub relation: Relation,
 }
 
 // "(t)"
-#[derive(Clone, Copy)]
+#[derive(Clone, Copy, Debug, PartialEq, Eq, Hash)]
 pub struct Cancellation {
     pub train: Train,
 }
 
-#[derive(Clone, Copy)]
+#[derive(Clone, Copy, Debug, PartialEq, Eq, Hash)]
 pub enum Edit {
     Place(Plan),
     Prepend(Extension),
@@ -76,16 +76,11 @@ impl Plan {
     pub fn valid(self) -> bool
         ensures { result ≡ plan_ok self }
     {
-        if self.station.valid() {
-            if self.train.valid() {
-                if self.track.valid() {
-                    if self.arrival.valid() {
-                        return self.departure.valid();
-                    }
-                }
-            }
-        }
-        false
+        self.station.valid()
+            && self.train.valid()
+            && self.track.valid()
+            && self.arrival.valid()
+            && self.departure.valid()
     }
 }
 
@@ -93,14 +88,7 @@ impl Extension {
     pub fn valid(self) -> bool
         ensures { result ≡ extension_ok self }
     {
-        if self.plan.valid() {
-            if self.other.valid() {
-                if self.line.valid() {
-                    return run_valid(self.run);
-                }
-            }
-        }
-        false
+        self.plan.valid() && self.other.valid() && self.line.valid() && run_valid(self.run)
     }
 }
 
@@ -108,12 +96,7 @@ impl Deletion {
     pub fn valid(self) -> bool
         ensures { result ≡ deletion_ok self }
     {
-        if self.station.valid() {
-            if self.train.valid() {
-                return self.other.valid();
-            }
-        }
-        false
+        self.station.valid() && self.train.valid() && self.other.valid()
     }
 }
 
@@ -121,14 +104,7 @@ impl Report {
     pub fn valid(self) -> bool
         ensures { result ≡ report_ok self }
     {
-        if self.station.valid() {
-            if self.train.valid() {
-                if self.time.valid() {
-                    return self.present.valid();
-                }
-            }
-        }
-        false
+        self.station.valid() && self.train.valid() && self.time.valid() && self.present.valid()
     }
 }
 
@@ -136,11 +112,7 @@ impl StationRelation {
     pub fn valid(self) -> bool
         ensures { result ≡ station_relation_ok self }
     {
-        if self.station.valid() {
-            let relation = self.relation;
-            return relation.valid();
-        }
-        false
+        self.station.valid() && self.relation.valid()
     }
 }
 

@@ -1,6 +1,6 @@
 // The sorts and values of document 01, "The railway and its numbers": what an edit carries, and the tests of its
 // ranges.
-#![tactic(auto)]
+#![tactic(auto, unfolding(crate::specs::Edits::opened, crate::specs::Relations::opened))]
 
 pub mod sorts; // stations, trains, tracks, lines, areas
 pub mod minute; // times

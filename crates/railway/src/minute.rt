@@ -2,7 +2,7 @@
 ghost use Rattle.std.specs.Prelude.{◌≡◌};
 ghost use Rattle.railway.specs.Ranges.{minute_ok, minutes_after, window_end_ok};
 
-#[derive(Clone, Copy)]
+#[derive(Clone, Copy, Debug, PartialEq, Eq, PartialOrd, Ord, Hash)]
 pub struct Minute(pub u16);
 
 impl Minute {
@@ -19,12 +19,12 @@ impl Minute {
     pub fn gap(self, other: Minute) -> i32
         ensures { result ≡ minutes_after other self }
     {
-        (self.0 as i32) - (other.0 as i32)
+        i32::from(self.0) - i32::from(other.0)
     }
 }
 
 // The end of a window of minutes: the first minute behind it, so it may be one above the last minute.
-#[derive(Clone, Copy)]
+#[derive(Clone, Copy, Debug, PartialEq, Eq, PartialOrd, Ord, Hash)]
 pub struct WindowEnd(pub u16);
 
 impl WindowEnd {

@@ -1,13 +1,12 @@
 // "A station has a set of relations; each is a connection, a disconnection or a dependency, with an interval."
 ghost use Rattle.std.specs.Prelude.{◌≡◌, ◌≤◌, length};
-ghost use Rattle.base.specs.Lists.{below, same};
 ghost use Rattle.railway.specs.Ranges.{interval_ok};
 ghost use Rattle.railway.specs.Relations.{used, place_count, further_ok, trains_ok, pair_ok, relation_ok, group_key, key, precedes, same_relation};
 
 use crate::sorts::Train;
 
 // Four places for 2 to 4 trains, rising; 0 in a place is no train, and such places come last.
-#[derive(Clone, Copy)]
+#[derive(Clone, Copy, Debug, PartialEq, Eq, Hash)]
 pub struct Trains {
     pub a: Train,
     pub b: Train,
@@ -16,14 +15,14 @@ pub struct Trains {
 }
 
 // "a dependency an arriver and a departer, perhaps the same"
-#[derive(Clone, Copy)]
+#[derive(Clone, Copy, Debug, PartialEq, Eq, Hash)]
 pub struct Pair {
     pub arriver: Train,
     pub departer: Train,
 }
 
 // Each with its interval.
-#[derive(Clone, Copy)]
+#[derive(Clone, Copy, Debug, PartialEq, Eq, Hash)]
 pub enum Relation {
     Connection(u8, Trains),
     Disconnection(u8, Trains),
@@ -34,25 +33,14 @@ pub enum Relation {
 fn further(before: Train, train: Train) -> bool
     ensures { result ≡ further_ok before train }
 {
-    if train.0 == 0 {
-        return true;
-    }
-    if 0 < before.0 {
-        if before.0 < train.0 {
-            return train.valid();
-        }
-    }
-    false
+    train.0 == 0 || (0 < before.0 && before < train && train.valid())
 }
 
 // 1 for a place that holds a train.
 fn held(train: Train) -> u8
     ensures { (result ≡ place_count train) × (result ≤ 1) }
 {
-    if 0 < train.0 {
-        return 1;
-    }
-    0
+    u8::from(0 < train.0)
 }
 
 impl Trains {
@@ -60,19 +48,15 @@ impl Trains {
     pub fn valid(self) -> bool
         ensures { result ≡ trains_ok self }
     {
-        if self.a.valid() {
-            if self.a.0 < self.b.0 {
-                if self.b.valid() {
-                    if further(self.b, self.c) {
-                        return further(self.c, self.d);
-                    }
-                }
-            }
-        }
-        false
+        self.a.valid()
+            && self.a < self.b
+            && self.b.valid()
+            && further(self.b, self.c)
+            && further(self.c, self.d)
     }
 
     // How many trains there are.
+    #[tactic(auto, using(crate::proofs::RelationLaws::used_count))]
     pub fn count(self) -> u8
         ensures { result ≡ length (used self) }
     {
@@ -85,8 +69,8 @@ impl Trains {
     {
         [
             kind,
-            interval as u16,
-            self.count() as u16,
+            u16::from(interval),
+            u16::from(self.count()),
             self.a.0,
             self.b.0,
             self.c.0,
@@ -99,10 +83,7 @@ impl Pair {
     pub fn valid(self) -> bool
         ensures { result ≡ pair_ok self }
     {
-        if self.arriver.valid() {
-            return self.departer.valid();
-        }
-        false
+        self.arriver.valid() && self.departer.valid()
     }
 }
 
@@ -113,64 +94,14 @@ fn interval_valid(interval: u8) -> bool
     interval <= 240
 }
 
-// The one list of numbers is below the other, compared from the left.
-fn is_below(a: [u16; 7], b: [u16; 7]) -> bool
-    ensures { result ≡ below a b }
-{
-    let mut i: usize = 0;
-    while i < 7 {
-        let x = a[i];
-        let y = b[i];
-        if x < y {
-            return true;
-        }
-        if y < x {
-            return false;
-        }
-        i += 1;
-    }
-    false
-}
-
-fn is_same(a: [u16; 7], b: [u16; 7]) -> bool
-    ensures { result ≡ same a b }
-{
-    let mut i: usize = 0;
-    while i < 7 {
-        let x = a[i];
-        let y = b[i];
-        if x == y {
-            i += 1;
-        } else {
-            return false;
-        }
-    }
-    true
-}
-
 impl Relation {
     pub fn valid(self) -> bool
         ensures { result ≡ relation_ok self }
     {
         match self {
-            Relation::Connection(i, ts) => {
-                if interval_valid(i) {
-                    return ts.valid();
-                }
-                false
-            }
-            Relation::Disconnection(i, ts) => {
-                if interval_valid(i) {
-                    return ts.valid();
-                }
-                false
-            }
-            Relation::Dependency(i, p) => {
-                if interval_valid(i) {
-                    return p.valid();
-                }
-                false
-            }
+            Relation::Connection(i, ts) => interval_valid(i) && ts.valid(),
+            Relation::Disconnection(i, ts) => interval_valid(i) && ts.valid(),
+            Relation::Dependency(i, p) => interval_valid(i) && p.valid(),
         }
     }
 
@@ -181,21 +112,22 @@ impl Relation {
         match self {
             Relation::Connection(i, ts) => ts.key(1, i),
             Relation::Disconnection(i, ts) => ts.key(2, i),
-            Relation::Dependency(i, p) => [3, i as u16, 2, p.arriver.0, p.departer.0, 0, 0],
+            Relation::Dependency(i, p) => [3, u16::from(i), 2, p.arriver.0, p.departer.0, 0, 0],
         }
     }
 
-    // This one comes before the other.
+    // This one comes before the other: no derived order, as the count of trains stands before the trains.
     pub fn precedes(self, other: Relation) -> bool
         ensures { result ≡ precedes self other }
     {
-        is_below(self.key(), other.key())
+        self.key() < other.key()
     }
 
     // Same kind, interval and trains.
+    #[tactic(auto, using(base::proofs::Orders::same_lists), unfolding(crate::specs::Relations::same_relation))]
     pub fn same(self, other: Relation) -> bool
         ensures { result ≡ same_relation self other }
     {
-        is_same(self.key(), other.key())
+        self.key() == other.key()
     }
 }

@@ -2,26 +2,26 @@
 ghost use Rattle.std.specs.Prelude.{◌≡◌};
 ghost use Rattle.railway.specs.Ranges.{station_ok, train_ok, is_freight, track_ok, line_ok, area_ok};
 
-#[derive(Clone, Copy)]
+#[derive(Clone, Copy, Debug, PartialEq, Eq, PartialOrd, Ord, Hash)]
 pub struct Station(pub u8);
 
-#[derive(Clone, Copy)]
+#[derive(Clone, Copy, Debug, PartialEq, Eq, PartialOrd, Ord, Hash)]
 pub struct Train(pub u16);
 
-#[derive(Clone, Copy)]
+#[derive(Clone, Copy, Debug, PartialEq, Eq, PartialOrd, Ord, Hash)]
 pub struct Track(pub u8);
 
-#[derive(Clone, Copy)]
+#[derive(Clone, Copy, Debug, PartialEq, Eq, PartialOrd, Ord, Hash)]
 pub struct Line(pub u8);
 
-#[derive(Clone, Copy)]
+#[derive(Clone, Copy, Debug, PartialEq, Eq, PartialOrd, Ord, Hash)]
 pub struct Area(pub u8);
 
 impl Station {
     pub fn valid(self) -> bool
         ensures { result ≡ station_ok self }
     {
-        base::is_within(1, 16, self.0 as u16)
+        base::is_within(1, 16, u16::from(self.0))
     }
 }
 
@@ -44,7 +44,7 @@ impl Track {
     pub fn valid(self) -> bool
         ensures { result ≡ track_ok self }
     {
-        base::is_within(1, 8, self.0 as u16)
+        base::is_within(1, 8, u16::from(self.0))
     }
 }
 
@@ -52,7 +52,7 @@ impl Line {
     pub fn valid(self) -> bool
         ensures { result ≡ line_ok self }
     {
-        base::is_within(1, 32, self.0 as u16)
+        base::is_within(1, 32, u16::from(self.0))
     }
 }
 
@@ -60,6 +60,6 @@ impl Area {
     pub fn valid(self) -> bool
         ensures { result ≡ area_ok self }
     {
-        base::is_within(1, 6, self.0 as u16)
+        base::is_within(1, 6, u16::from(self.0))
     }
 }

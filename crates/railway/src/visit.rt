@@ -6,14 +6,14 @@ use crate::minute::Minute;
 use crate::sorts::{Line, Station, Track};
 
 // "a previous station and a line"
-#[derive(Clone, Copy)]
+#[derive(Clone, Copy, Debug, PartialEq, Eq, Hash)]
 pub struct Inward {
     pub station: Station,
     pub line: Line,
 }
 
 // "a next station, a line and a running time"
-#[derive(Clone, Copy)]
+#[derive(Clone, Copy, Debug, PartialEq, Eq, Hash)]
 pub struct Outward {
     pub station: Station,
     pub line: Line,
@@ -21,14 +21,14 @@ pub struct Outward {
 }
 
 // "The in-link is none or a previous station and a line."
-#[derive(Clone, Copy)]
+#[derive(Clone, Copy, Debug, PartialEq, Eq, Hash)]
 pub enum InLink {
     Nothing,
     From(Inward),
 }
 
 // "The out-link is none or a next station, a line and a running time."
-#[derive(Clone, Copy)]
+#[derive(Clone, Copy, Debug, PartialEq, Eq, Hash)]
 pub enum OutLink {
     Nothing,
     To(Outward),
@@ -36,7 +36,7 @@ pub enum OutLink {
 
 // "It has a track; arrival and departure, each a time and a status, pending (0) or occurred (1)." Document 02, W6: "A
 // visit gains a stop mark, 0 or 1, after its track".
-#[derive(Clone, Copy)]
+#[derive(Clone, Copy, Debug, PartialEq, Eq, Hash)]
 pub struct Visit {
     pub track: Track,
     pub marked: bool,
@@ -52,5 +52,5 @@ pub struct Visit {
 pub fn run_valid(run: u8) -> bool
     ensures { result ≡ run_ok run }
 {
-    base::is_within(1, 240, run as u16)
+    base::is_within(1, 240, u16::from(run))
 }

@@ -1,17 +1,10 @@
--- `railway::relation::Relation::precedes` meets its contract: it compares the keys. Assumes nothing.
-use borrow.Author.Rules.{rules}
+-- `railway::relation::Relation::precedes` meets its contract: std's order of lists of numbers is `below`. Assumes
+-- nothing.
+use Rattle.std.proofs.Common.{◌∙◌}
+use Rattle.base.proofs.Orders.{below_lists}
 use Rattle.railway.specs.Relations.{precedes}
 use Rattle.railway.proofs.relation.Relation.precedes.Goals as goal
 
-pub key-requires : goal.key-requires
-key-requires c = search rules
-
-pub key-requires-2 : goal.key-requires-2
-key-requires-2 c = search rules
-
-pub is_below-requires : goal.is_below-requires
-is_below-requires c = search rules
-
 pub returns : goal.returns
 unfolding precedes
-returns c = simp (← c.is_below.ensures, ← c.key-2.ensures, ← c.key.ensures)
+returns c = rw (← c.key.ensures, ← c.key-2.ensures) (c.lt.ensures ∙ below_lists c.key.result c.key-2.result)
