@@ -1,13 +1,14 @@
 -- What the answer of the reader of a number tells. Assumes nothing.
-use Rattle.numbers.specs.declared.Reading.{Reading}
+use Rattle.std.specs.Prelude.{ℕ, Result, Ok, Err}
+use Rattle.numbers.specs.declared.NumberError.{NumberError}
+use Rattle.numbers.specs.declared.NumberError.TheVariants.{EndsEarly, NotShortest}
 use Rattle.numbers.specs.Numbers.{NumberRead, Value, Refused}
 
 -- "When an answer is an enum, a definition gives this paper's number and values for each case of that enum."
-unfoldable pub number_outcome : Reading → NumberRead
-number_outcome (Reading.Value n w) = Value n w
-number_outcome (Reading.Refused k) = Refused k
+abbrev pub refusal_of : NumberError → ℕ
+refusal_of EndsEarly = 1
+refusal_of NotShortest = 2
 
--- The key ring of this module: `unfolding opened` opens every definition above.
-unfoldable pub opened : Unit {0}
-unfolding number_outcome
-opened = tt
+abbrev pub number_outcome : Result (ℕ × ℕ) NumberError → NumberRead
+number_outcome (Ok (n, w)) = Value n w
+number_outcome (Err e) = Refused (refusal_of e)

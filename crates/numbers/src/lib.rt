@@ -3,47 +3,68 @@
 #![tactic(auto)]
 
 ghost use Rattle.std.specs.Prelude.{◌≡◌, ◌≤◌, ◌+◌, ◌%◌};
-ghost use Rattle.numbers.specs.Answers.{number_outcome};
+ghost use Rattle.numbers.specs.Answers.{number_outcome, refusal_of};
 ghost use Rattle.numbers.specs.Numbers.{read_groups, read_number, width, with_number};
 
-// What reading a number at the head of some bytes gives.
-#[derive(Clone, Copy)]
-pub enum Reading {
-    // The number, and how many bytes it takes.
-    Value(u32, usize),
-    // 1: the bytes end early. 2: it is not shortest, or its third byte has the top bit set.
-    Refused(u8),
+use std::error::Error;
+use std::fmt;
+
+/// Why no number stands at the head of some bytes.
+#[derive(Clone, Copy, Debug, PartialEq, Eq, Hash)]
+pub enum NumberError {
+    /// The bytes end early.
+    EndsEarly,
+    /// It is not shortest, or its third byte has the top bit set.
+    NotShortest,
 }
 
-// The number in the rest, where `left` groups more are permitted.
-fn read_groups(bytes: &[u8], left: u8) -> Reading
-    requires { left ≤ 3 }
-    ensures { number_outcome result ≡ read_groups left bytes.now }
-{
-    if left == 0 {
-        return Reading::Refused(2);
-    }
-    if bytes.len() == 0 {
-        return Reading::Refused(1);
-    }
-    let group = bytes[0];
-    if group < 128 {
-        return Reading::Value(group as u32, 1);
-    }
-    let rest = read_groups(&bytes[1..], left - 1);
-    match rest {
-        Reading::Refused(k) => Reading::Refused(k),
-        Reading::Value(n, used) => {
-            if n == 0 {
-                return Reading::Refused(2);
-            }
-            Reading::Value((group - 128) as u32 + 128 * n, used + 1)
+impl From<NumberError> for u8 {
+    ghost from_gives = { λ e n. n ≡ refusal_of e };
+
+    // The number that document 01 gives it.
+    fn from(error: NumberError) -> u8 {
+        match error {
+            NumberError::EndsEarly => 1,
+            NumberError::NotShortest => 2,
         }
     }
 }
 
-// The number at the head of the bytes.
-pub fn read(bytes: &[u8]) -> Reading
+impl fmt::Display for NumberError {
+    fn fmt<W: fmt::Write>(&self, f: &mut fmt::Formatter<W>) -> fmt::Result {
+        f.write_str(match self {
+            NumberError::EndsEarly => "the bytes end early",
+            NumberError::NotShortest => "the number is not shortest",
+        })
+    }
+}
+
+impl Error for NumberError {}
+
+// The number in the rest, where `left` groups more are permitted, and how many bytes it takes.
+fn read_groups(bytes: &[u8], left: u8) -> Result<(u32, usize), NumberError>
+    requires { left ≤ 3 }
+    ensures { number_outcome result ≡ read_groups left bytes.now }
+{
+    if left == 0 {
+        return Err(NumberError::NotShortest);
+    }
+    if bytes.is_empty() {
+        return Err(NumberError::EndsEarly);
+    }
+    let group = bytes[0];
+    if group < 128 {
+        return Ok((u32::from(group), 1));
+    }
+    let (n, used) = read_groups(&bytes[1..], left - 1)?;
+    if n == 0 {
+        return Err(NumberError::NotShortest);
+    }
+    Ok((u32::from(group - 128) + 128 * n, used + 1))
+}
+
+/// The number at the head of the bytes, and how many bytes it takes.
+pub fn read(bytes: &[u8]) -> Result<(u32, usize), NumberError>
     ensures { number_outcome result ≡ read_number bytes.now }
 {
     read_groups(bytes, 3)
