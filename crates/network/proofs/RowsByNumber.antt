@@ -5,7 +5,7 @@ use Prim.Native.Nat.{ℕ, zero, suc, ◌<◌}
 use mathlib.Core.Path.{◌≡◌, ap}
 use mathlib.Core.Bool.{Bool, ◌&&◌}
 use mathlib.Core.List.{List, [], ◌∷◌}
-use mathlib.Core.Option.{some}
+use Rattle.std.specs.Prelude.{Some}
 use native.Mathlib.Omega.{arith}
 use lib.Dec.{T, eqb, ltb→lt, eqb→eq}
 use lib.ListN.{length, get_or, length-take}
@@ -22,7 +22,7 @@ use Rattle.network.proofs.NetworkLaws.{line_number, network_facts}
 module _ {A : Type 0} where
   -- among rising numbers, one that has the number is the first that has it
   first_at : (f : A → ℕ) (k : ℕ) (d : A) (xs : List A) (i : ℕ) → T (each_two (smaller f) xs) → i < length xs → f (get_or xs i d) ≡ k
-      → first (λ x. eqb (f x) k) xs ≡ some (get_or xs i d)
+      → first (λ x. eqb (f x) k) xs ≡ Some (get_or xs i d)
   unfolding first
   first_at f k d [] i t h e = absurd (omega arith)
   first_at f k d (x ∷ xs) zero t h e = rw (eq-eqb (f x) k e)
@@ -42,7 +42,7 @@ module _ {A : Type 0} where
 module _ (n : Network) (good : network_refusal n ≡ 0) where
   -- a row in use that has a line's number is the line's
   pub row_at : (l : Line) (i : ℕ) (d : LineRow) → i < n.linecount → i < length n.lines → (get_or n.lines i d).line.0 ≡ l.0
-      → line_row n l ≡ some (get_or n.lines i d)
+      → line_row n l ≡ Some (get_or n.lines i d)
   unfolding line_row line_rows
   row_at l i d h g e =
       let same = get_or-take n.linecount n.lines i d h in

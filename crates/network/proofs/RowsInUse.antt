@@ -5,7 +5,9 @@ use Prim.Native.Nat.{ℕ, zero, suc, ◌+◌, ◌<◌, ◌≤◌, min}
 use mathlib.Core.Path.{◌≡◌, refl, sym, ◌∙◌, ap}
 use mathlib.Core.Bool.{Bool, true, false, false≢true, ◌&&◌, ◌||◌}
 use mathlib.Core.List.{List, [], ◌∷◌, map}
-use mathlib.Core.Option.{Option, none, some}
+use Rattle.std.specs.Prelude.{Option, None, Some, option_map}
+use Rattle.std.specs.Option.{option_copied}
+use Rattle.std.proofs.Common.{Bor}
 use native.Mathlib.Omega.{arith}
 use lib.Dec.{ltb, leb, eqb, ltb→lt, lt→ltb}
 use lib.ListN.{length, get_or, take, drop, drop_of_length-le, length-take}
@@ -15,9 +17,9 @@ use Rattle.std.specs.Prelude.{if◌then◌else◌}
 use Rattle.base.specs.Lists.{any, every, first, is, each_two, rising}
 use Rattle.base.proofs.Lengths.{drop_next}
 use Rattle.base.proofs.Tests.{T_true, true_T, eqb_turned, every_weaker}
-use Rattle.network.specs.Types.{Station, Area, StationRow, LineRow, Network, StationFound, LineFound, AreaFound}
+use Rattle.network.specs.Types.{Station, StationRow, Network}
 use Rattle.railway.specs.Ranges.{same_station}
-use Rattle.network.specs.Networks.{station_rows, stations_of, listed, station_row, station_found, line_found, area_found, row_area}
+use Rattle.network.specs.Networks.{station_rows, stations_of, listed, station_row}
 
 -- the rows in use, at most those that there are
 pub used_rows : {A : Type 0} (rows : List A) (c k n : ℕ) → length rows ≡ k → n ≡ min c k → take c rows ≡ take n rows
@@ -27,6 +29,14 @@ used_rows rows c k n h e = go (leb c k) refl
     go true p = let q : c ≡ n = omega (arith, leb-true c k p) in rw q
     go false p = let q : n ≡ k = omega (arith, leb-false c k p) in
         take_all c rows (omega (arith, leb-false c k p)) ∙ sym (take_all n rows (omega arith))
+
+-- the same of a slice of those there are
+pub in_use_rows : {A : Type 0} (rows : List A) (c k : ℕ) → length rows ≡ k → take (min c k) rows ≡ take c rows
+in_use_rows rows c k h = sym (used_rows rows c k (min c k) h refl)
+
+pub option_copied_map : {A : Type 0} (r : Option (Bor A)) → option_copied r ≡ option_map (λ (x : Bor A). x.now) r
+option_copied_map None = refl
+option_copied_map (Some x) = refl
 
 -- in range, and each number above the one before it, the first above m
 unfoldable pub chained : {A : Type 0} → (A → Bool) → (A → ℕ) → ℕ → List A → Bool
@@ -44,7 +54,7 @@ module _ {A : Type 0} (rows : List A) (n : ℕ) (fits : n ≤ length rows) (i : 
   rows_over h = drop_of_length-le (take n rows) {i = i} (simp length-take (omega arith))
 
   module _ (f : A → Bool) where
-    pub first_here : (d : A) → i < n → f (get_or rows i d) ≡ true → first f (drop i (take n rows)) ≡ some (get_or rows i d)
+    pub first_here : (d : A) → i < n → f (get_or rows i d) ≡ true → first f (drop i (take n rows)) ≡ Some (get_or rows i d)
     unfolding first
     first_here d h e = rw (row_on d h, e)
 
@@ -52,7 +62,7 @@ module _ {A : Type 0} (rows : List A) (n : ℕ) (fits : n ≤ length rows) (i : 
     unfolding first
     first_later d h e = ap (first f) (row_on d h) ∙ rw e
 
-    pub first_nowhere : n ≤ i → first f (drop i (take n rows)) ≡ none
+    pub first_nowhere : n ≤ i → first f (drop i (take n rows)) ≡ None
     unfolding first
     first_nowhere h = rw (rows_over h)
 
@@ -102,6 +112,10 @@ module _ {A : Type 0} (rows : List A) (n : ℕ) (fits : n ≤ length rows) (i : 
     unfolding chained
     chained_over h = rw (rows_over h)
 
+pub and_no : (b : Bool) → (b && false) ≡ false
+and_no true = refl
+and_no false = refl
+
 -- rows that are each in range, with numbers that rise, where no number is 0
 
 -- above x, and so above whatever is below x
@@ -126,12 +140,12 @@ module _ {A : Type 0} (ok : A → Bool) (f : A → ℕ) where
           bad : (o : Bool) → false ≡ (o && false)
           bad true = refl
           bad false = refl
-      go true true p o false q v r e w = rw e (none o v)
+      go true true p o false q v r e w = rw e (None o v)
         where
-          none : (o v : Bool) → (o && false) ≡ (o && (v && false))
-          none true true = refl
-          none true false = refl
-          none false v = refl
+          None : (o v : Bool) → (o && false) ≡ (o && (v && false))
+          None true true = refl
+          None true false = refl
+          None false v = refl
       go true true p o true q v r e w = rw (e, w (ltb-true m (f x) p) q)
 
   positive : ((x : A) → ok x ≡ true → 0 < f x) → (xs : List A) → every ok xs ≡ true → every (ltb 0) (map f xs) ≡ true
@@ -150,39 +164,12 @@ module _ {A : Type 0} (ok : A → Bool) (f : A → ℕ) where
       go true e = rw (positive h xs e)
       go false e = refl
 
--- look-ups: what an answer says of the row
-
-pub station_some : (o : Option StationRow) (r : StationRow) → station_found o ≡ StationFound.Row r → o ≡ some r
-station_some none r e = let z : ◌≡◌ {A = ℕ} 0 1 = cc in absurd (omega arith)
-station_some (some x) r e = cc
-
-pub station_none : (o : Option StationRow) → station_found o ≡ StationFound.Nothing → o ≡ none
-station_none none e = refl
-station_none (some x) e = let z : ◌≡◌ {A = ℕ} 0 1 = cc in absurd (omega arith)
-
--- so the number of the area
-pub area_is : (o : Option StationRow) (a : Area) → area_found o ≡ AreaFound.Is a → a.0 ≡ row_area o
-area_is none a e = let z : ◌≡◌ {A = ℕ} 0 1 = cc in absurd (omega arith)
-area_is (some r) a e = cc
-
-pub area_not : (o : Option StationRow) → area_found o ≡ AreaFound.Nothing → 0 ≡ row_area o
-area_not none e = refl
-area_not (some r) e = let z : ◌≡◌ {A = ℕ} 0 1 = cc in absurd (omega arith)
-
-pub line_some : (o : Option LineRow) (r : LineRow) → line_found o ≡ LineFound.Row r → o ≡ some r
-line_some none r e = let z : ◌≡◌ {A = ℕ} 0 1 = cc in absurd (omega arith)
-line_some (some x) r e = cc
-
-pub line_none : (o : Option LineRow) → line_found o ≡ LineFound.Nothing → o ≡ none
-line_none none e = refl
-line_none (some x) e = let z : ◌≡◌ {A = ℕ} 0 1 = cc in absurd (omega arith)
-
 -- a station is listed where its row is found
 pub listed_found : (n : Network) (s : Station) → listed n s ≡ is (λ r. true) (station_row n s)
 unfolding listed station_row stations_of any first
 listed_found n s = go (station_rows n)
   where
-    one : (b : Bool) (r : StationRow) (x : Bool) (o : Option StationRow) → x ≡ is (λ r. true) o → (b || x) ≡ is (λ r. true) (if b then some r else o)
+    one : (b : Bool) (r : StationRow) (x : Bool) (o : Option StationRow) → x ≡ is (λ r. true) o → (b || x) ≡ is (λ r. true) (if b then Some r else o)
     one true r x o e = refl
     one false r x o e = e
 

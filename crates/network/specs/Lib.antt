@@ -1,2 +1,3 @@
 pub mod Types
 pub mod Networks
+pub mod Positive

@@ -1,10 +1,10 @@
 -- Networks: which are good, and what a network knows. Document 01, "The railway and its numbers", "Sheets and
 -- division", "Who brings on which number"; document 02, W1 and W3. Assumes nothing.
 use Rattle.std.specs.Prelude.{ℕ, ◌+◌, ◌*◌, Bool, true, not, ◌&&◌, ◌||◌, List, map, ltb, leb, eqb, take}
-use Rattle.std.proofs.Math.Option.{Option, none, some}
+use Rattle.std.specs.Prelude.{Option, None, Some, option_map}
 use Rattle.base.specs.Choice.{◌if◌else◌}
 use Rattle.base.specs.Lists.{any, every, first, is, within, rising}
-use Rattle.network.specs.Types.{Station, Train, Track, Line, StationRow, LineRow, Closure, Network, StationFound, LineFound, AreaFound}
+use Rattle.network.specs.Types.{Station, Train, Track, Line, StationRow, LineRow, Closure, Area, Network}
 use Rattle.railway.specs.Ranges.{station_ok, area_ok, line_ok, minute_ok, window_end_ok, run_ok, is_freight, same_station, same_line}
 
 -- a row that is not used
@@ -90,8 +90,8 @@ line_row n l = first (λ r. same_line r.line l) (line_rows n)
 
 -- the number of a station's area, 0 where it is not listed
 abbrev pub row_area : Option StationRow → ℕ
-row_area none = 0
-row_area (some r) = r.area.0
+row_area None = 0
+row_area (Some r) = r.area.0
 
 unfoldable pub area_of : Network → Station → ℕ
 area_of n s = row_area (station_row n s)
@@ -149,18 +149,9 @@ network_refusal n =
     else 4 if not (lines_joined n && closures_listed n)
     else 0
 
--- what the look-ups answer
-abbrev pub station_found : Option StationRow → StationFound
-station_found none = StationFound.Nothing
-station_found (some r) = StationFound.Row r
-
-abbrev pub line_found : Option LineRow → LineFound
-line_found none = LineFound.Nothing
-line_found (some r) = LineFound.Row r
-
-abbrev pub area_found : Option StationRow → AreaFound
-area_found none = AreaFound.Nothing
-area_found (some r) = AreaFound.Is r.area
+-- the area of a row that was found
+abbrev pub area_in : Option StationRow → Option Area
+area_in r = option_map (λ x. x.area) r
 
 -- The key ring of this module: `unfolding opened` opens every definition above.
 unfoldable pub opened : Unit {0}

@@ -10,6 +10,3 @@ pub use Rattle.network.specs.declared.StationRow.{StationRow}
 pub use Rattle.network.specs.declared.LineRow.{LineRow}
 pub use Rattle.network.specs.declared.Closure.{Closure}
 pub use Rattle.network.specs.declared.Network.{Network}
-pub use Rattle.network.specs.declared.StationFound.{StationFound}
-pub use Rattle.network.specs.declared.LineFound.{LineFound}
-pub use Rattle.network.specs.declared.AreaFound.{AreaFound}

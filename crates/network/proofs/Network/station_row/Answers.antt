@@ -1,62 +1,16 @@
--- `network::Network::station_row` meets its contract. The loop's invariant: the first row that fits is the first of
--- those from i on. Assumes nothing.
-use mathlib.Core.Path.{◌≡◌, refl, sym, ◌∙◌, ap}
-use native.Mathlib.Omega.{arith}
-use lib.ListN.{length}
-use borrow.Author.Rules.{rules}
-use borrow.Author.Tests.{eq-eqb, ne_eqb}
+-- `network::Network::station_row` meets its contract: what `find` gives of the rows in use. Assumes nothing.
+use Rattle.std.proofs.Common.{rules, tests, ◌∙◌, eqb}
+use Rattle.std.proofs.lemmas.Iterator.{YieldsList-from_slice}
+use Rattle.std.proofs.lemmas.Iterator.Search.{find_from_yields_List}
 use Rattle.base.specs.Lists.{first}
-use Rattle.network.specs.Networks.{blank_station, station_found, station_row, station_rows}
-use Rattle.railway.specs.Ranges.{same_station}
-use Rattle.network.proofs.RowsInUse.{used_rows, first_here, first_later, first_nowhere}
+use Rattle.network.specs.Networks.{station_row, station_rows}
+use Rattle.network.specs.Types.{StationRow}
+use Rattle.network.proofs.RowsInUse.{option_copied_map}
 use Rattle.network.proofs.Network.station_row.Goals as goal
 
-pub in_use-n-requires : goal.in_use-n-requires
-in_use-n-requires c = search rules
-
-pub loop-i-init : goal.loop-i-init
-loop-i-init c = (omega arith, refl)
-
-pub offset_bounds-rows-i : goal.offset_bounds-rows-i
-offset_bounds-rows-i c = omega arith
-
-pub bounds-rows-i : goal.bounds-rows-i
-bounds-rows-i c = omega arith
-
-pub returns-then-row-s : goal.returns-then-row-s
-unfolding station_row station_rows
-returns-then-row-s c =
-    let l = c.loop-i in
-    let u = c.in_use-n in
-    let s = c.args in
-    let many : length s.self.stations ≡ 16 = search rules in
-    sym (ap station_found (
-    ap (first (λ r. same_station r.station s.s)) (used_rows s.self.stations s.self.stationcount 16 u.result many u.ensures)
-    ∙ l.invariant.1
-    ∙ first_here s.self.stations u.result (omega arith) l.i (λ r. same_station r.station s.s) blank_station (omega arith) (eq-eqb _ _ c.if-row-s.true)))
-
-pub overflow_add-i : goal.overflow_add-i
-overflow_add-i c = omega arith
-
-pub loop-i-smaller : goal.loop-i-smaller
-loop-i-smaller c = omega arith
-
-pub loop-i-preserved : goal.loop-i-preserved
-loop-i-preserved c =
-    let l = c.loop-i in
-    let u = c.in_use-n in
-    let s = c.args in
-    let many : length s.self.stations ≡ 16 = search rules in
-    (omega arith, l.invariant.1 ∙ first_later s.self.stations u.result (omega arith) l.i (λ r. same_station r.station s.s) blank_station (omega arith) (ne_eqb _ _ c.if-row-s.false))
-
 pub returns : goal.returns
-unfolding station_row station_rows
+unfolding station_row first
 returns c =
-    let l = c.loop-i in
-    let u = c.in_use-n in
-    let s = c.args in
-    let many : length s.self.stations ≡ 16 = search rules in
-    sym (ap station_found (
-    ap (first (λ r. same_station r.station s.s)) (used_rows s.self.stations s.self.stationcount 16 u.result many u.ensures)
-    ∙ l.invariant.1
-    ∙ first_nowhere s.self.stations u.result (omega arith) l.i (λ r. same_station r.station s.s) (omega arith)))
+    c.copied.ensures ∙ option_copied_map c.find.result
+    ∙ find_from_yields_List (λ (r : StationRow). eqb r.station.0 c.args.s.0) _ _ c.find.result c.find.ensures.ran
+    (YieldsList-from_slice (station_rows c.args.self.now) (c.iter.ensures.rest ∙ c.station_rows.ensures)) (λ x b q k. search (rules, tests))
