@@ -4,7 +4,7 @@ use Prim.Native.Nat.{ℕ}
 use mathlib.Core.Path.{◌≡◌, refl, ◌∙◌, ap}
 use mathlib.Core.Bool.{Bool, true, false, ◌||◌}
 use mathlib.Core.List.{List}
-use mathlib.Core.Option.{Option, none, some}
+use Rattle.std.specs.Prelude.{Option, None, Some}
 use native.Mathlib.Omega.{arith}
 use lib.Dec.{leb, eqb}
 use lib.ListN.{length}
@@ -100,14 +100,14 @@ under_free k (accepted a next) both z = rw z
 under_free k (refused j p) both z = rw z
 
 -- the number of no fault is 0, and of a fault it is not
-no_fault : {A : Type 0} (k : ℕ) (o : Option (Placed A)) → o ≡ none → (fault_of k o).number ≡ 0
+no_fault : {A : Type 0} (k : ℕ) (o : Option (Placed A)) → o ≡ None → (fault_of k o).number ≡ 0
 unfolding fault_of
 no_fault k o e = ap (λ (x : Option (Placed _)). (fault_of k x).number) e
 
-none_of : {A : Type 0} (k : ℕ) → ¬ (k ≡ 0) → (o : Option (Placed A)) → (fault_of k o).number ≡ 0 → o ≡ none
+none_of : {A : Type 0} (k : ℕ) → ¬ (k ≡ 0) → (o : Option (Placed A)) → (fault_of k o).number ≡ 0 → o ≡ None
 unfolding fault_of
-none_of k d none e = refl
-none_of k d (some x) e = absurd (d e)
+none_of k d None e = refl
+none_of k d (Some x) e = absurd (d e)
 
 or_free : (f later : Fault) → f.number ≡ 0 → later.number ≡ 0 → (or_fault f later).number ≡ 0
 unfolding or_fault
@@ -123,9 +123,9 @@ free_or f later e = go (eqb f.number 0) refl e
 
 -- a network has no fault if every closure ends after its start and is of a listed line, and every line is joined
 pub record Faultless (x : Listed) : Type 0 where
-  pub ended : unended x ≡ none
-  pub joined : unjoined x ≡ none
-  pub listed : unlisted x ≡ none
+  pub ended : unended x ≡ None
+  pub joined : unjoined x ≡ None
+  pub listed : unlisted x ≡ None
 
 pub fault_none : (x : Listed) → Faultless x → (network_fault x).number ≡ 0
 unfolding network_fault

@@ -2,17 +2,17 @@
 -- Assumes nothing.
 use Prim.Native.Nat.{ℕ}
 use mathlib.Core.Path.{◌≡◌, refl, sym, ◌∙◌, ap}
-use mathlib.Core.Option.{none, some}
+use Rattle.std.specs.Prelude.{None, Some}
 use native.Mathlib.Omega.{arith}
 use Rattle.timetable.specs.Types.{Output}
 use Rattle.timetable.specs.Outputs.{Reply, written, needed, refused, reply}
 
 -- what comes along with one of them does not come along with the other
-pub clash {ℓ} : {P : Type ℓ} (k : ℕ) → none ≡ some k → P
+pub clash {ℓ} : {P : Type ℓ} (k : ℕ) → None ≡ Some k → P
 clash k e = let z : ◌≡◌ {A = ℕ} 0 1 = cc in absurd (omega arith)
 
-pub same_size : (x y : Reply) (j k : ℕ) → x ≡ y → x.size ≡ some j → y.size ≡ some k → j ≡ k
-same_size x y j k e f g = let q : some j ≡ some k = sym f ∙ ap (λ (r : Reply). r.size) e ∙ g in cc
+pub same_size : (x y : Reply) (j k : ℕ) → x ≡ y → x.size ≡ Some j → y.size ≡ Some k → j ≡ k
+same_size x y j k e f g = let q : Some j ≡ Some k = sym f ∙ ap (λ (r : Reply). r.size) e ∙ g in cc
 
 pub written_alone : (r : Output) (k : ℕ) → reply r ≡ written k → r ≡ Output.Written k
 unfolding reply

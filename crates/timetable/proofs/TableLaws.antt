@@ -6,8 +6,8 @@ use mathlib.Core.Path.{◌≡◌, refl, sym, ◌∙◌, ap, ap₂}
 use mathlib.Core.Bool.{Bool, true, false, not, ◌&&◌, ◌||◌}
 use mathlib.Core.List.{List, [], ◌∷◌, map}
 use mathlib.Core.Logic.{◌⊎◌, inl, inr}
-use mathlib.Core.Option
-use mathlib.Core.Option.{Option, none, some}
+use Rattle.std.specs.Prelude.{option_map}
+use Rattle.std.specs.Prelude.{Option, None, Some}
 use native.Mathlib.Omega.{arith}
 use lib.Dec.{T, ltb, leb, eqb, ltb→lt, lt→ltb, leb→le, le→leb, eqb→eq, not_T}
 use lib.ListN.{length, length-map}
@@ -40,14 +40,14 @@ lacking t es = every (λ e. not (same_train e.train t)) es
 
 -- an entry is the train's, as `has_visit` finds it
 abbrev pub among : Train → List Entry → Bool
-among t es = is (λ v. true) (Option.map (λ (e : Entry). e.visit) (first (λ e. same_train e.train t) es))
+among t es = is (λ v. true) (option_map (λ (e : Entry). e.visit) (first (λ e. same_train e.train t) es))
 
 pub none_among : (t : Train) (es : List Entry) → among t es ≡ false → T (lacking t es)
 unfolding first every
 none_among t [] q = tt
 none_among t (x ∷ xs) q = go (same_train x.train t) q (none_among t xs)
   where
-    go : (b : Bool) → is (λ v. true) (Option.map (λ (e : Entry). e.visit) (if b then some x else first (λ e. same_train e.train t) xs)) ≡ false
+    go : (b : Bool) → is (λ v. true) (option_map (λ (e : Entry). e.visit) (if b then Some x else first (λ e. same_train e.train t) xs)) ≡ false
         → (among t xs ≡ false → T (lacking t xs)) → T (not b && lacking t xs)
     go true p ih = absurd (true_T false (sym p))
     go false p ih = ih p
@@ -107,7 +107,7 @@ leave_length t (x ∷ xs) o = go (same_train x.train t) refl (leave_length t xs 
 
     go : (b : Bool) → same_train x.train t ≡ b → length (keep other xs) + (1 if among t xs else 0) ≡ length xs
         → length (if not b then x ∷ keep other xs else keep other xs)
-        + (1 if is (λ v. true) (Option.map (λ (e : Entry). e.visit) (if b then some x else first (λ e. same_train e.train t) xs)) else 0)
+        + (1 if is (λ v. true) (option_map (λ (e : Entry). e.visit) (if b then Some x else first (λ e. same_train e.train t) xs)) else 0)
         ≡ suc (length xs)
     go true q ih = rw (keep_every other xs (later q)) (omega arith)
     go false q ih = omega arith
@@ -175,23 +175,23 @@ insert_order r (x ∷ xs) o = go (precedes r x) refl (same_relation r x) refl (i
 
 pub insert_if_length : (o : Option Relation) (rs : List Relation) → length (insert_if o rs) ≤ suc (length rs)
 unfolding insert_if
-insert_if_length none rs = omega arith
-insert_if_length (some r) rs = insert_length r rs
+insert_if_length None rs = omega arith
+insert_if_length (Some r) rs = insert_length r rs
 
 pub insert_if_order : (o : Option Relation) (rs : List Relation) → T (each_two precedes rs) → T (each_two precedes (insert_if o rs))
 unfolding insert_if
-insert_if_order none rs t = t
-insert_if_order (some r) rs t = insert_order r rs t
+insert_if_order None rs t = t
+insert_if_order (Some r) rs t = insert_order r rs t
 
 -- the test holds of what is there; true where nothing is
 abbrev pub if_any : {A : Type 0} → (A → Bool) → Option A → Bool
-if_any f none = true
-if_any f (some x) = f x
+if_any f None = true
+if_any f (Some x) = f x
 
 pub insert_if_every : (f : Relation → Bool) (o : Option Relation) (rs : List Relation) → T (if_any f o) → T (every f rs) → T (every f (insert_if o rs))
 unfolding insert_if
-insert_if_every f none rs t u = u
-insert_if_every f (some r) rs t u = insert_every f r rs t u
+insert_if_every f None rs t u = u
+insert_if_every f (Some r) rs t u = insert_every f r rs t u
 
 -- taking a train out of all relations
 
@@ -382,15 +382,15 @@ pub fewer_ok : (make : Trains → Relation) → ((ts : Trains) → T (trains_ok 
 unfolding fewer
 fewer_ok make ok p ts g = go (ltb (length (keep p ts)) 2) refl
   where
-    go : (b : Bool) → ltb (length (keep p ts)) 2 ≡ b → T (if_any relation_ok (if b then none else some (make (packed (keep p ts)))))
+    go : (b : Bool) → ltb (length (keep p ts)) 2 ≡ b → T (if_any relation_ok (if b then None else Some (make (packed (keep p ts)))))
     go true e = tt
     go false e = ok (packed (keep p ts)) (packed_ok (keep p ts) (group_keep p ts g (ltb-false (length (keep p ts)) 2 e)))
 
 pub group_loses : (make : Trains → Relation) → ((us : Trains) → T (trains_ok us) → T (relation_ok (make us))) → (t : Train) (ts : Trains) → T (trains_ok ts)
-    → T (if_any relation_ok (if any (same_train t) (used ts) then fewer make (keep (λ u. not (same_train t u)) (used ts)) else some (make ts)))
+    → T (if_any relation_ok (if any (same_train t) (used ts) then fewer make (keep (λ u. not (same_train t u)) (used ts)) else Some (make ts)))
 group_loses make ok t ts h = go (any (same_train t) (used ts))
   where
-    go : (b : Bool) → T (if_any relation_ok (if b then fewer make (keep (λ u. not (same_train t u)) (used ts)) else some (make ts)))
+    go : (b : Bool) → T (if_any relation_ok (if b then fewer make (keep (λ u. not (same_train t u)) (used ts)) else Some (make ts)))
     go true = fewer_ok make ok (λ u. not (same_train t u)) (used ts) (used_group ts h)
     go false = ok ts h
 
@@ -404,7 +404,7 @@ lose_ok t (Disconnection i ts) h =
     group_loses (Disconnection i) (λ us k. both (interval_ok i) (trains_ok us) span k) t ts (search parts)
 lose_ok t (Dependency i p) h = go (same_train t p.arriver || same_train t p.departer)
   where
-    go : (b : Bool) → T (if_any relation_ok (if b then none else some (Dependency i p)))
+    go : (b : Bool) → T (if_any relation_ok (if b then None else Some (Dependency i p)))
     go true = tt
     go false = h
 

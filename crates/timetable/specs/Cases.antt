@@ -2,7 +2,7 @@
 use Rattle.std.specs.Prelude.{ℕ, zero, suc, ◌+◌, ◌-◌, Bool, false, ◌&&◌, eqb, ℤ, pos, negsuc, length}
 use Rattle.std.specs.Bool.{beq}
 use mathlib.Core.List.{List, [], ◌∷◌, ◌++◌, flat_map}
-use Rattle.std.proofs.Math.Option.{Option, none, some}
+use Rattle.std.specs.Prelude.{Option, None, Some}
 use Rattle.std.specs.Prelude.{if◌then◌else◌}
 use Rattle.base.specs.Lists as Lists
 use Rattle.base.specs.Lists.{any, keep, same}
@@ -341,8 +341,8 @@ unfoldable pub shift_numbers : Shift → List ℕ
 shift_numbers x = network_numbers x.network ++ placed_edits x.edits
 
 unfoldable pub along : Option ℕ → List ℕ
-along none = []
-along (some k) = k ∷ []
+along None = []
+along (Some k) = k ∷ []
 
 unfoldable pub reply_numbers : Reply → List ℕ
 reply_numbers r = r.number ∷ (along r.place ++ along r.size)

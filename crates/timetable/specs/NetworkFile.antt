@@ -5,7 +5,7 @@
 -- form; what is written has the newest. Assumes nothing.
 use Rattle.std.specs.Prelude.{ℕ, ◌+◌, ◌-◌, not, eqb, length, get_or, replicate}
 use mathlib.Core.List.{List, [], ◌∷◌, ◌++◌, map, flat_map}
-use Rattle.std.proofs.Math.Option.{Option, none, some}
+use Rattle.std.specs.Prelude.{Option, None, Some}
 use Rattle.std.specs.Prelude.{if◌then◌else◌}
 use Rattle.base.specs.Lists.{first}
 use Rattle.railway.specs.Ranges.{last_minute, last_end}
@@ -190,8 +190,8 @@ unlisted x = first (λ c. not (line_listed (network_of x) c.entry.line)) x.closu
 
 -- "4, 7, 12: the entry's first"
 unfoldable pub fault_of : {A : Type 0} → ℕ → Option (Placed A) → Fault
-fault_of k none = record { number = 0; place = 0 }
-fault_of k (some e) = record { number = k; place = e.place }
+fault_of k None = record { number = 0; place = 0 }
+fault_of k (Some e) = record { number = k; place = e.place }
 
 -- the one, or what comes behind it
 unfoldable pub or_fault : Fault → Fault → Fault

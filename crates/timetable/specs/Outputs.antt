@@ -2,7 +2,7 @@
 -- number": "13 the output is too short (its needed length comes along; a longer one keeps its rest)"; "Each leaves all
 -- lent bytes untouched". Assumes nothing.
 use Rattle.std.specs.Prelude.{ℕ, ◌+◌, ◌≤◌, ◌≡◌, ◌&&◌, List, [], ◌∷◌, ◌++◌, leb, eqb, length, drop, set}
-use Rattle.std.proofs.Math.Option.{Option, none, some}
+use Rattle.std.specs.Prelude.{Option, None, Some}
 use Rattle.std.specs.Prelude.{if◌then◌else◌}
 use Rattle.timetable.specs.Types.{Output}
 
@@ -14,18 +14,18 @@ pub record Reply : Type 0 where
   pub size : Option ℕ
 
 abbrev pub written : ℕ → Reply
-written k = record { number = 0; place = none; size = some k }
+written k = record { number = 0; place = None; size = Some k }
 
 abbrev pub refused : ℕ → Reply
-refused k = record { number = k; place = none; size = none }
+refused k = record { number = k; place = None; size = None }
 
 -- refused with a number and its place in a file
 abbrev pub refused_at : ℕ → ℕ → Reply
-refused_at k p = record { number = k; place = some p; size = none }
+refused_at k p = record { number = k; place = Some p; size = None }
 
 -- "its needed length comes along"
 abbrev pub needed : ℕ → Reply
-needed k = record { number = 13; place = none; size = some k }
+needed k = record { number = 13; place = None; size = Some k }
 
 -- "When an answer is an enum, a definition gives this paper's number and values for each case of that enum."
 unfoldable pub reply : Output → Reply

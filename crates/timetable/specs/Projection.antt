@@ -1,6 +1,6 @@
 -- The expected times of a train from one visit on. Document 01, "Projection and tally". Assumes nothing.
 use Rattle.std.specs.Prelude.{ℕ, zero, suc, ◌+◌, max, List, [], ◌∷◌}
-use Rattle.std.proofs.Math.Option.{none, some}
+use Rattle.std.specs.Prelude.{None, Some}
 use Rattle.std.proofs.Math.IntN.{sub_ℕ}
 use Rattle.std.specs.Prelude.{if◌then◌else◌}
 use Rattle.timetable.specs.Types.{Station, Train, OutLink, Visit, Row}
@@ -42,8 +42,8 @@ unfoldable pub from_arrival : ℕ → Timetable → Train → Station → ℕ �
 from_arrival zero m t s a = []
 from_arrival (suc k) m t s a =
     elim (visit_of t (m s)) [
-      | none ↦ []
-      | some v ↦
+      | None ↦ []
+      | Some v ↦
           row s v (expected_arrival v a)
           ∷ from_departure (from_arrival k m t) m s t v (expected_departure v (expected_arrival v a))
     ]

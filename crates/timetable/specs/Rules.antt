@@ -1,7 +1,7 @@
 -- The rules of document 01, "Findings", and of document 02, W1 to W3, one by one, as tests of visits and tables. t and u
 -- are the trains, v and w their visits; `here` is the table of s, `there` that of the far station. Assumes nothing.
 use Rattle.std.specs.Prelude.{ℕ, ◌+◌, min, max, Bool, true, not, ◌&&◌, ◌||◌, List, map, ltb, leb, eqb, length}
-use Rattle.std.proofs.Math.Option.{none, some}
+use Rattle.std.specs.Prelude.{None, Some}
 use Rattle.std.specs.Prelude.{if◌then◌else◌}
 use Rattle.base.specs.Lists.{any, every, keep, is, each_two}
 use Rattle.railway.specs.Ranges.{same_station, same_train, same_track, same_line}
@@ -116,8 +116,8 @@ breaks_9 s e o there = out_answered s e.train o there && is (misses e.visit o) (
 unfoldable pub arrival_of : Table → Station → Entry → Outward → ℕ
 arrival_of here p u q =
     elim (visit_of u.train here) [
-      | none ↦ due u.visit q
-      | some w ↦ if comes_from p q.line w then arr w else due u.visit q
+      | None ↦ due u.visit q
+      | Some w ↦ if comes_from p q.line w then arr w else due u.visit q
     ]
 
 -- "u leaves the far station on it towards s, and neither arrives before t departs nor departs after t's departure +

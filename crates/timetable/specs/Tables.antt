@@ -2,8 +2,8 @@
 -- stand for the map and the set of "State: a map from (station, train) to visits, a set of relations per station."
 -- Assumes nothing.
 use Rattle.std.specs.Prelude.{Bool, true, not, ◌||◌, List, [], ◌∷◌, map, ltb, leb, length, get_or}
-use Rattle.std.proofs.Math.Option
-use Rattle.std.proofs.Math.Option.{Option, none, some}
+use Rattle.std.specs.Prelude.{option_map}
+use Rattle.std.specs.Prelude.{Option, None, Some}
 use Rattle.std.specs.Prelude.{if◌then◌else◌}
 use Rattle.base.specs.Lists.{any, keep, first, is}
 use Rattle.railway.specs.Ranges.{same_train}
@@ -26,7 +26,7 @@ empty = record { visits = []; relations = [] }
 
 -- the visit of a train
 unfoldable pub visit_of : Train → Table → Option Visit
-visit_of t tab = Option.map (λ e. e.visit) (first (λ e. same_train e.train t) tab.visits)
+visit_of t tab = option_map (λ e. e.visit) (first (λ e. same_train e.train t) tab.visits)
 
 unfoldable pub has_visit : Train → Table → Bool
 has_visit t tab = is (λ v. true) (visit_of t tab)
@@ -75,19 +75,19 @@ packed ts =
 
 -- "A connection or disconnection loses t, and vanishes under two trains." Else it is `make` of the trains that stay
 unfoldable pub fewer : (Trains → Relation) → List Train → Option Relation
-fewer make ts = if ltb (length ts) 2 then none else some (make (packed ts))
+fewer make ts = if ltb (length ts) 2 then None else Some (make (packed ts))
 
 -- "A relation without t stays." "A dependency with t vanishes."
 unfoldable pub lose : Train → Relation → Option Relation
 lose t (Connection i ts) =
-    if any (same_train t) (used ts) then fewer (Connection i) (keep (λ u. not (same_train t u)) (used ts)) else some (Connection i ts)
+    if any (same_train t) (used ts) then fewer (Connection i) (keep (λ u. not (same_train t u)) (used ts)) else Some (Connection i ts)
 lose t (Disconnection i ts) =
-    if any (same_train t) (used ts) then fewer (Disconnection i) (keep (λ u. not (same_train t u)) (used ts)) else some (Disconnection i ts)
-lose t (Dependency i p) = if same_train t p.arriver || same_train t p.departer then none else some (Dependency i p)
+    if any (same_train t) (used ts) then fewer (Disconnection i) (keep (λ u. not (same_train t u)) (used ts)) else Some (Disconnection i ts)
+lose t (Dependency i p) = if same_train t p.arriver || same_train t p.departer then None else Some (Dependency i p)
 
 unfoldable pub insert_if : Option Relation → List Relation → List Relation
-insert_if none rs = rs
-insert_if (some r) rs = insert r rs
+insert_if None rs = rs
+insert_if (Some r) rs = insert r rs
 
 -- "Relations that become equal are one."
 unfoldable pub lose_all : Train → List Relation → List Relation

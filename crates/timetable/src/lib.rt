@@ -5,14 +5,14 @@
 use railway::sorts::Station;
 
 // "An answer is a refusal number or 0, and the count of visits removed."
-#[derive(Clone, Copy)]
+#[derive(Clone, Copy, Debug, PartialEq, Eq, Hash)]
 pub struct Answer {
     pub refusal: u8,
     pub removed: u8,
 }
 
 // "Each is four numbers: station, rule, first, second (0 if unused)"
-#[derive(Clone, Copy)]
+#[derive(Clone, Copy, Debug, PartialEq, Eq, Hash)]
 pub struct Finding {
     pub station: Station,
     pub rule: u8,
@@ -21,7 +21,7 @@ pub struct Finding {
 }
 
 // "Each visit's row is station, expected arrival, expected departure and lateness"
-#[derive(Clone, Copy)]
+#[derive(Clone, Copy, Debug, PartialEq, Eq, Hash)]
 pub struct Row {
     pub station: Station,
     pub arrival: u32,
@@ -30,7 +30,7 @@ pub struct Row {
 }
 
 // "one small tally record which each edit raises: accepted, refused, added, removed"
-#[derive(Clone, Copy)]
+#[derive(Clone, Copy, Debug, PartialEq, Eq, Hash)]
 pub struct Tally {
     pub accepted: u32,
     pub refused: u32,
@@ -39,7 +39,7 @@ pub struct Tally {
 }
 
 // What a call that fills a lent buffer answers.
-#[derive(Clone, Copy)]
+#[derive(Clone, Copy, Debug, PartialEq, Eq, Hash)]
 pub enum Output {
     // How many numbers it wrote, from the buffer's start.
     Written(usize),
@@ -49,7 +49,7 @@ pub enum Output {
 }
 
 // The forms of a network file, by what a line's row has; a later one is one more case.
-#[derive(Clone, Copy)]
+#[derive(Clone, Copy, Debug, PartialEq, Eq, Hash)]
 pub enum NetworkForm {
     // W1's: one least running time.
     OneTime,
@@ -58,7 +58,7 @@ pub enum NetworkForm {
 }
 
 // The forms of timetable files and edits files; a later one is one more case.
-#[derive(Clone, Copy)]
+#[derive(Clone, Copy, Debug, PartialEq, Eq, Hash)]
 pub enum FileForm {
     // Document 01's: a visit has no stop mark, a report no minute.
     Earlier,
@@ -68,7 +68,7 @@ pub enum FileForm {
 
 // What only the whole of a file shows, by document 01's number and the place of its entry's first byte; number 0 where
 // there is none.
-#[derive(Clone, Copy)]
+#[derive(Clone, Copy, Debug, PartialEq, Eq, Hash)]
 pub struct Fault {
     pub number: u8,
     pub place: usize,
