@@ -1,13 +1,12 @@
 -- The lists that the builder puts, gone through from an index on: one entry or relation, then the rest. Assumes
 -- nothing.
-use Prim.Native.Nat.{ℕ, suc, ◌+◌, ◌-◌, ◌<◌, ◌≤◌, min}
-use mathlib.Core.Path.{◌≡◌, refl, sym, ap, ap₂, ◌∙◌}
+use Prim.Native.Nat.{ℕ, zero, suc, ◌+◌, ◌<◌, ◌≤◌, min}
+use mathlib.Core.Path.{◌≡◌, refl, sym, ap, ◌∙◌}
 use mathlib.Core.Bool.{Bool, true, false, not, ◌||◌}
 use mathlib.Core.List.{List, [], ◌∷◌, ◌++◌, map, flat_map, append-nil}
 use native.Mathlib.Omega.{arith}
 use lib.Dec.{eqb}
-use lib.ListN.{length, take, drop, get_or, length-take, drop_of_length-le}
-use lib.Seq.{get_or-take}
+use lib.ListN.{length, take, drop, get_or, drop_of_length-le}
 use borrow.Author.Tests.{eqb-true, eq-eqb, ne_eqb}
 use Rattle.base.specs.Choice.{◌if◌else◌}
 use Rattle.std.specs.Prelude.{if◌then◌else◌}
@@ -31,6 +30,8 @@ use Rattle.scope.specs.declared.Scope.{Scope}
 use Rattle.scope.specs.declared.redone.Marks.{Marks}
 use Rattle.rule_tests.specs.between.Tests.{clash, broken, second_of}
 use Rattle.builder.specs.between.Builder.{rule_count, told, against, unmet_numbers, facing, step, walk, rule_numbers, numbers_from}
+use Rattle.builder.specs.declared.kinds.Rule.{Rule}
+use Rattle.builder.specs.between.Kinds.{rule_number, counting, each_rule}
 use Rattle.builder.specs.between.Builder.{station_numbers, all_numbers, first_rule, rules_redone, redone_station, redone_numbers}
 use Rattle.scope.specs.Scopes.{takes}
 use Rattle.scope.specs.Redone.{all_redone, level}
@@ -102,19 +103,19 @@ module _ (n : Network) (scope : Scope) (m : Timetable) (here : Table) (s : Stati
 
   -- a rule of one visit, which is read as x
 
-  module _ (rule : ℕ) (e x : Entry) (us : List Entry) (same : x ≡ e) (b : Bool) (paired : b ≡ (eqb rule 2 || eqb rule 3)) where
-    pub step_paired : b ≡ true → against n here s rule x us ≡ step n scope m here s rule e us
+  module _ (rule : ℕ) (e x : Entry) (us : List Entry) (same : x ≡ e) where
+    pub step_paired : (eqb rule 2 || eqb rule 3) ≡ true → against n here s rule x us ≡ step n scope m here s rule e us
     unfolding step
-    step_paired p = sym (rw (← paired, p, ← same))
+    step_paired p = sym (rw (p, ← same))
 
-    pub step_facing : b ≡ false → rule ≡ 10 → facing n scope m here s x ≡ step n scope m here s rule e us
+    pub step_facing : rule ≡ 10 → facing n scope m here s x ≡ step n scope m here s rule e us
     unfolding step
-    step_facing p q = sym (rw (← paired, p, eq-eqb rule 10 q, ← same))
+    step_facing p = rw p (ap (facing n scope m here s) same)
 
-    pub step_one : b ≡ false → ¬ (rule ≡ 10) → (found : Bool) → found ≡ broken n scope m here s rule x → (second : ℕ) → second ≡ second_of rule x
+    pub step_one : ¬ (rule ≡ 2) → ¬ (rule ≡ 3) → ¬ (rule ≡ 10) → (found : Bool) → found ≡ broken n scope m here s rule x → (second : ℕ) → second ≡ second_of rule x
         → told found s rule x.train.0 second ≡ step n scope m here s rule e us
     unfolding step
-    step_one p q found f second g = sym (rw (← paired, p, ne_eqb rule 10 q, ← same, ← f, ← g))
+    step_one p q r found f second g = sym (rw (ne_eqb rule 2 p, ne_eqb rule 3 q, ne_eqb rule 10 r, ← same, ← f, ← g))
 
   pub walk_next : (rule : ℕ) (page : List ℕ) (i k : ℕ) → k ≡ length (table_in page).visits → i < k
       → walk n scope m here s rule (drop i (table_in page).visits)
@@ -141,27 +142,35 @@ module _ (n : Network) (scope : Scope) (m : Timetable) (here : Table) (s : Stati
     unfolding rule_numbers
     rule_none p = sym (rw (← asked, p))
 
-  -- the rules that are left, from a number on to an end
-  abbrev pub rules_left : ℕ → ℕ → List ℕ
-  rules_left end rule = numbers_from n scope m here s rule (end - rule)
+-- what each puts, gone through from an index on
+module _ {A : Type 0} (f : A → List ℕ) (xs : List A) (i : ℕ) where
+  pub each_next : (d : A) → i < length xs → flat_map f (drop i xs) ≡ f (get_or xs i d) ++ flat_map f (drop (i + 1) xs)
+  unfolding flat_map
+  each_next d h = ap (flat_map f) (drop_next xs i d h)
 
-  pub rules_next : (end rule : ℕ) → rule < end → rules_left end rule ≡ rule_numbers n scope m here s rule ++ rules_left end (rule + 1)
-  unfolding numbers_from
-  rules_next end rule h =
-      let more : end - rule ≡ suc (end - (rule + 1)) = omega arith in
-      ap (numbers_from n scope m here s rule) more
+  pub each_over : length xs ≤ i → flat_map f (drop i xs) ≡ []
+  unfolding flat_map
+  each_over h = ap (flat_map f) (drop_of_length-le xs {i = i} h)
 
-  pub rules_over : (end rule : ℕ) → end ≤ rule → rules_left end rule ≡ []
-  unfolding numbers_from
-  rules_over end rule h =
-      let none : end - rule ≡ 0 = omega arith in
-      ap (numbers_from n scope m here s rule) none
+pub flat_map_lem : {A B : Type 0} (f : B → List ℕ) (g : A → B) (xs : List A) → flat_map f (map g xs) ≡ flat_map (λ x. f (g x)) xs
+unfolding flat_map
+flat_map_lem f g [] = refl
+flat_map_lem f g (x ∷ xs) = ap (λ (ys : List ℕ). f (g x) ++ ys) (flat_map_lem f g xs)
 
-  -- as many as there are up to the end
-  pub rules_all : (there : Table) → here ≡ there → (end first count : ℕ) → end ≡ first + count → rules_left end first ≡ numbers_from n scope m there s first count
-  rules_all there same end first count e =
-      let many : end - first ≡ count = omega arith in
-      ap₂ (λ (x : Table) (k : ℕ). numbers_from n scope m x s first k) same many
+-- some of the rules
+module _ (n : Network) (scope : Scope) (m : Timetable) (here : Table) (s : Station) where
+  numbers_counted : (first count : ℕ) → numbers_from n scope m here s first count ≡ flat_map (rule_numbers n scope m here s) (counting first count)
+  unfolding numbers_from counting flat_map
+  numbers_counted first zero = refl
+  numbers_counted first (suc count) = ap (λ (xs : List ℕ). rule_numbers n scope m here s first ++ xs) (numbers_counted (first + 1) count)
+
+  -- those that are numbered on from a first
+  pub rules_are : (rules : List Rule) (first count : ℕ) → map rule_number rules ≡ counting first count
+      → each_rule n scope m here s rules ≡ numbers_from n scope m here s first count
+  rules_are rules first count e =
+      sym (flat_map_lem (rule_numbers n scope m here s) rule_number rules)
+      ∙ ap (flat_map (rule_numbers n scope m here s)) e
+      ∙ sym (numbers_counted first count)
 
 -- what is redone at a station of a level: some of the rules
 pub redone_range : (k : ℕ) → (1 ≤ first_rule k) × (first_rule k + rules_redone k ≤ rule_count + 1)
@@ -187,23 +196,6 @@ redone_is n scope marks m s k first count e f g = rw (f, g, e)
 pub all_redone_is : (n : Network) (scope : Scope) (m : Timetable) → redone_numbers n scope all_redone m ≡ all_numbers n scope m
 unfolding redone_numbers redone_station all_numbers station_numbers level first_rule rules_redone
 all_redone_is n scope m = refl
-
--- rows in use, gone through from an index on
-module _ {A : Type 0} (f : A → List ℕ) (rows : List A) (k : ℕ) (fits : k ≤ length rows) (i : ℕ) where
-  pub rows_next : (d : A) → i < k → flat_map f (drop i (take k rows)) ≡ f (get_or rows i d) ++ flat_map f (drop (i + 1) (take k rows))
-  unfolding flat_map
-  rows_next d h =
-      ap (flat_map f)
-      (drop_next (take k rows) i d (simp length-take (omega arith)) ∙ ap (λ (x : A). x ∷ drop (i + 1) (take k rows)) (get_or-take k rows i d h))
-
-  pub rows_over : k ≤ i → flat_map f (drop i (take k rows)) ≡ []
-  unfolding flat_map
-  rows_over h = ap (flat_map f) (drop_of_length-le (take k rows) {i = i} (simp length-take (omega arith)))
-
-pub flat_map_lem : {A B : Type 0} (f : B → List ℕ) (g : A → B) (xs : List A) → flat_map f (map g xs) ≡ flat_map (λ x. f (g x)) xs
-unfolding flat_map
-flat_map_lem f g [] = refl
-flat_map_lem f g (x ∷ xs) = ap (λ (ys : List ℕ). f (g x) ++ ys) (flat_map_lem f g xs)
 
 -- all stations, by the rows in use
 pub stations_are : (f : Station → List ℕ) (n : Network) (k : ℕ) → length n.stations ≡ 16 → k ≡ min n.stationcount 16

@@ -1,21 +1,15 @@
 -- Numbers put into a buffer: what is put in two parts is put at once, so that a loop may be left to say what is still
 -- to be put. On a buffer that is long enough the numbers stand at its front and the rest is kept. Assumes nothing.
-use Prim.Native.Nat.{ℕ, zero, suc, ◌+◌, ◌≤◌}
+use Prim.Native.Nat.{ℕ, ◌+◌, ◌≤◌}
 use mathlib.Core.Path.{◌≡◌, refl, sym, ap, ap₂, ◌∙◌}
 use mathlib.Core.Bool.{Bool, true, false}
 use mathlib.Core.List.{List, [], ◌∷◌, ◌++◌}
-use native.Mathlib.Nat.{le_of_suc-le-suc, not-suc-le-zero}
 use native.Mathlib.Omega.{arith}
 use lib.ListN.{length, set, length-append}
 use Rattle.timetable.specs.Outputs.{Puts, put}
 use Rattle.timetable.proofs.BuffersFilled.{put_append}
 use Rattle.builder.specs.Types.{Station}
 use Rattle.builder.specs.between.Builder.{told}
-
-pub set_past : (l : List ℕ) (i x : ℕ) → length l ≤ i → set l i x ≡ l
-set_past [] i x h = refl
-set_past (y ∷ l) zero x h = absurd (not-suc-le-zero h)
-set_past (y ∷ l) (suc i) x h = ap (λ (r : List ℕ). y ∷ r) (set_past l i x (le_of_suc-le-suc h))
 
 -- the four numbers of a finding
 

@@ -1,3 +1,4 @@
 pub mod FindingsPut
 pub mod BuildLaws
 pub mod MostLaws
+pub mod RuleLaws

@@ -2,7 +2,9 @@
 ghost use Rattle.std.specs.Prelude.{◌≡◌, ◌*◌, ◌≤◌, set};
 ghost use Rattle.timetable.specs.Outputs.{Puts};
 ghost use Rattle.builder.specs.between.Builder.{told, list_most};
+ghost use Rattle.builder.specs.between.Kinds.{rule_number};
 
+use crate::kinds::Rule;
 use railway::sorts::Station;
 
 fn put_one(out: &mut [u16], at: usize, x: u16)
@@ -19,16 +21,16 @@ pub(crate) fn finding(
     at: usize,
     found: bool,
     s: Station,
-    rule: u16,
+    rule: Rule,
     first: u16,
     second: u16,
 ) -> usize
     requires { at ≤ 3 * list_most }
-    ensures { Puts at (told found s rule first second) out.old result out.new 4 }
+    ensures { Puts at (told found s (rule_number rule) first second) out.old result out.new 4 }
 {
     if found {
-        put_one(out, at, s.0 as u16);
-        put_one(out, at + 1, rule);
+        put_one(out, at, u16::from(s.0));
+        put_one(out, at + 1, u16::from(rule));
         put_one(out, at + 2, first);
         put_one(out, at + 3, second);
         return at + 4;

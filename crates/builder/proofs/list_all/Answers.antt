@@ -1,5 +1,4 @@
 -- `builder::list_all` meets its contract: what is redone where all is, is the whole list. Assumes nothing.
-use borrow.Author.Rules.{rules}
 use mathlib.Core.Path.{◌∙◌, ap}
 use Rattle.rule_tests.specs.between.Tests.{held}
 use Rattle.scope.specs.declared.redone.Marks.{Marks}
@@ -7,12 +6,6 @@ use Rattle.builder.specs.between.Builder.{list_most, redone_numbers}
 use Rattle.timetable.proofs.BuffersFilled.{puts_as}
 use Rattle.builder.proofs.BuildLaws.{all_redone_is}
 use Rattle.builder.proofs.list_all.Goals as goal
-
-pub everywhere-requires : goal.everywhere-requires
-everywhere-requires c = search rules
-
-pub list_redone-requires : goal.list_redone-requires
-list_redone-requires c = search rules
 
 pub returns : goal.returns
 returns c =
