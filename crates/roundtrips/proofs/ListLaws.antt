@@ -3,7 +3,7 @@ use Prim.Native.Nat.{ℕ, ◌*◌, ◌≤◌}
 use mathlib.Core.Path.{◌≡◌, refl, sym, ap, subst}
 use mathlib.Core.Bool.{Bool, true, false, not, ◌&&◌, ◌||◌}
 use mathlib.Core.List.{List, [], ◌∷◌, ◌++◌, flat_map}
-use mathlib.Core.Option.{none, some}
+use Rattle.std.specs.Prelude.{None, Some}
 use native.Mathlib.Omega.{arith}
 use lib.Dec.{T}
 use lib.ListN.{length, length-append}
@@ -68,16 +68,16 @@ none_any f (x ∷ xs) e = go (f x) e (none_any f xs)
 
 -- no element fails
 
-pub first_none : {A : Type 0} (f : A → Bool) (xs : List A) → first (λ x. not (f x)) xs ≡ none → T (every f xs)
+pub first_none : {A : Type 0} (f : A → Bool) (xs : List A) → first (λ x. not (f x)) xs ≡ None → T (every f xs)
 unfolding first every
 first_none f [] e = tt
 first_none f (x ∷ xs) e = go (f x) e (first_none f xs)
   where
-    go : (b : Bool) → (if not b then some x else first (λ x. not (f x)) xs) ≡ none → (first (λ x. not (f x)) xs ≡ none → T (every f xs)) → T (b && every f xs)
+    go : (b : Bool) → (if not b then Some x else first (λ x. not (f x)) xs) ≡ None → (first (λ x. not (f x)) xs ≡ None → T (every f xs)) → T (b && every f xs)
     go true e ih = ih e
     go false e ih = let z : ◌≡◌ {A = ℕ} 0 1 = cc in absurd (omega arith)
 
-pub none_first : {A : Type 0} (f : A → Bool) (xs : List A) → T (every f xs) → first (λ x. not (f x)) xs ≡ none
+pub none_first : {A : Type 0} (f : A → Bool) (xs : List A) → T (every f xs) → first (λ x. not (f x)) xs ≡ None
 unfolding first every
 none_first f [] t = refl
 none_first f (x ∷ xs) t = rw (T_true (f x) (every_head f x xs t)) (none_first f xs (every_tail f x xs t))

@@ -5,7 +5,7 @@ use Prim.Native.Nat.{ℕ, ◌+◌, ◌-◌, ◌*◌, ◌≤◌}
 use mathlib.Core.Path.{◌≡◌, sym, ◌∙◌, ap, ap₂, subst}
 use mathlib.Core.Bool.{Bool, not}
 use mathlib.Core.List.{List, ◌++◌, map}
-use mathlib.Core.Option.{none}
+use Rattle.std.specs.Prelude.{None}
 use native.Mathlib.Omega.{arith}
 use lib.Dec.{T, ltb, leb, leb→le, lt→ltb}
 use lib.ListN.{length, replicate}
@@ -82,22 +82,22 @@ refusal_none n r e j l = rw (T_true (network_in_range n) r, T_true (closures_end
 
 -- every entry passes just if the first that does not is none
 module _ {A : Type 0} (ok : A → Bool) (es : List (Placed A)) where
-  passing : first (λ e. not (ok e.entry)) es ≡ none → T (every ok (map (λ (e : Placed A). e.entry) es))
+  passing : first (λ e. not (ok e.entry)) es ≡ None → T (every ok (map (λ (e : Placed A). e.entry) es))
   passing e = rw (every_map ok (λ (e : Placed A). e.entry) es) (first_none (λ (e : Placed A). ok e.entry) es e)
 
-  none_fails : T (every ok (map (λ (e : Placed A). e.entry) es)) → first (λ e. not (ok e.entry)) es ≡ none
+  none_fails : T (every ok (map (λ (e : Placed A). e.entry) es)) → first (λ e. not (ok e.entry)) es ≡ None
   none_fails t = none_first (λ (e : Placed A). ok e.entry) es (rw (every_map ok (λ (e : Placed A). e.entry) es) at t)
 
 module _ (x : Listed) where
-  joined : unjoined x ≡ none → T (lines_joined (network_of x))
+  joined : unjoined x ≡ None → T (lines_joined (network_of x))
   unfolding unjoined lines_joined network_of rows_listed
   joined e = rw (rows_lines (rows_listed x)) (passing (ends_listed (network_of x)) x.lines e)
 
-  ended : unended x ≡ none → T (closures_end (network_of x))
+  ended : unended x ≡ None → T (closures_end (network_of x))
   unfolding unended closures_end network_of rows_listed
   ended e = rw (rows_closures (rows_listed x)) (passing ends_after x.closures e)
 
-  known : unlisted x ≡ none → T (closures_listed (network_of x))
+  known : unlisted x ≡ None → T (closures_listed (network_of x))
   unfolding unlisted closures_listed network_of rows_listed
   known e = rw (rows_closures (rows_listed x)) (passing (λ c. line_listed (network_of x) c.line) x.closures e)
 

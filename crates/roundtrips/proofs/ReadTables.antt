@@ -3,7 +3,7 @@
 use mathlib.Core.Path.{◌≡◌, refl, sym, ◌∙◌, ap, ap₂, subst, fun_ext}
 use mathlib.Core.Bool.{true, not, ◌&&◌}
 use mathlib.Core.List.{List, [], ◌∷◌, map, flat_map}
-use mathlib.Core.Option.{Option, none, some}
+use Rattle.std.specs.Prelude.{Option, None, Some}
 use native.Mathlib.Omega.{arith}
 use lib.Dec.{T, leb, not_T, eqb→eq, lt→ltb}
 use lib.ListN.{length-map}
@@ -37,8 +37,8 @@ unfolding track_known
 track_listed n s t u = subst T (sym (listed_found n s)) (go (station_row n s) u)
   where
     go : (o : Option StationRow) → T (is (λ r. leb t.0 r.tracks) o) → T (is (λ (r : StationRow). true) o)
-    go none u = u
-    go (some r) u = tt
+    go None u = u
+    go (Some r) u = tt
 
 -- a station that is not listed keeps nothing
 unlisted_none : {A : Type 0} (station : A → Station) (n : Network) (xs : List A) → T (every (λ x. listed n (station x)) xs) → (k : Station) → T (not (listed n k))

@@ -4,8 +4,7 @@
 use mathlib.Core.Path.{◌≡◌, refl, ap, ap₂, ◌∙◌}
 use mathlib.Core.Bool.{Bool, true, false, not}
 use mathlib.Core.List.{List, [], ◌∷◌, map}
-use mathlib.Core.Option
-use mathlib.Core.Option.{some}
+use Rattle.std.specs.Prelude.{Some, option_map}
 use lib.Dec.{ltb}
 use lib.ListN.{length-map}
 use Rattle.base.specs.Choice.{◌if◌else◌}
@@ -90,17 +89,17 @@ without_early t tab = ap (tabled (lose_all t tab.relations)) (leave_early t tab.
 -- what is asked of a table
 
 first_early : (t : Train) (p : Visit → Bool) (p' : Earlier.Visit → Bool) → ((v : Visit) → p' (early_visit v) ≡ p v) → (es : List Entry)
-    → is p' (Option.map (λ (e : Earlier.Entry). e.visit) (first (λ e. same_train e.train t) (map early_entry es)))
-    ≡ is p (Option.map (λ (e : Entry). e.visit) (first (λ e. same_train e.train t) es))
+    → is p' (option_map (λ (e : Earlier.Entry). e.visit) (first (λ e. same_train e.train t) (map early_entry es)))
+    ≡ is p (option_map (λ (e : Entry). e.visit) (first (λ e. same_train e.train t) es))
 unfolding first
 first_early t p p' q [] = refl
 first_early t p p' q (e ∷ es) = go (same_train e.train t) (first_early t p p' q es)
   where
     go : (b : Bool)
-        → is p' (Option.map (λ (e : Earlier.Entry). e.visit) (first (λ e. same_train e.train t) (map early_entry es)))
-        ≡ is p (Option.map (λ (e : Entry). e.visit) (first (λ e. same_train e.train t) es))
-        → is p' (Option.map (λ (e : Earlier.Entry). e.visit) (if b then some (early_entry e) else first (λ e. same_train e.train t) (map early_entry es)))
-        ≡ is p (Option.map (λ (e : Entry). e.visit) (if b then some e else first (λ e. same_train e.train t) es))
+        → is p' (option_map (λ (e : Earlier.Entry). e.visit) (first (λ e. same_train e.train t) (map early_entry es)))
+        ≡ is p (option_map (λ (e : Entry). e.visit) (first (λ e. same_train e.train t) es))
+        → is p' (option_map (λ (e : Earlier.Entry). e.visit) (if b then Some (early_entry e) else first (λ e. same_train e.train t) (map early_entry es)))
+        ≡ is p (option_map (λ (e : Entry). e.visit) (if b then Some e else first (λ e. same_train e.train t) es))
     go true ih = q e.visit
     go false ih = ih
 

@@ -5,7 +5,7 @@ use mathlib.Core.Path.{◌≡◌, refl, sym, ap, fun_ext}
 use mathlib.Core.Bool.{Bool, true, false}
 use mathlib.Core.List.{List, [], ◌∷◌, ◌++◌, map, flat_map}
 use lib.ListN.{take, drop}
-use mathlib.Core.Option.{some}
+use Rattle.std.specs.Prelude.{Some}
 use lib.Dec.{T, ltb, eqb}
 use borrow.Author.Tests.{eqb-true}
 use Rattle.base.specs.Choice.{◌if◌else◌}
@@ -45,8 +45,8 @@ module _ (n : Network) (one : T (every same_times (line_rows n))) where
   row_alike l t run (r ∷ rs) o = go (same_line r.line l) (row_alike l t run rs (every_tail same_times r rs o))
     where
       go : (b : Bool) → is (λ r. ltb run (least_time r t)) (first (λ r. same_line r.line l) rs) ≡ is (λ r. ltb run r.passenger) (first (λ r. same_line r.line l) rs)
-          → is (λ r. ltb run (least_time r t)) (if b then some r else first (λ r. same_line r.line l) rs)
-          ≡ is (λ r. ltb run r.passenger) (if b then some r else first (λ r. same_line r.line l) rs)
+          → is (λ r. ltb run (least_time r t)) (if b then Some r else first (λ r. same_line r.line l) rs)
+          ≡ is (λ r. ltb run r.passenger) (if b then Some r else first (λ r. same_line r.line l) rs)
       go true ih = ap (ltb run) (time_alike r (every_head same_times r rs o) t)
       go false ih = ih
 

@@ -5,7 +5,7 @@
 use mathlib.Core.Path.{◌≡◌, refl, sym}
 use mathlib.Core.Bool.{Bool, true, false, ◌&&◌, ◌||◌}
 use mathlib.Core.List.{List, [], ◌∷◌, map}
-use mathlib.Core.Option.{some}
+use Rattle.std.specs.Prelude.{Some}
 use Prim.Native.Nat.{ℕ, zero, suc}
 use native.Mathlib.Omega.{arith}
 use lib.Dec.{T, eqb, ltb, leb, leb→le}
@@ -75,7 +75,7 @@ row_placed k (r ∷ rows) ok =
   where
     go : (b : Bool) → Placed (any (same_station k) (map (λ q. q.station) rows)) (row_area (first (λ q. same_station q.station k) rows))
         → Placed (b || any (same_station k) (map (λ q. q.station) rows))
-        (row_area (if b then some r else first (λ q. same_station q.station k) rows))
+        (row_area (if b then Some r else first (λ q. same_station q.station k) rows))
     go true later =
         and_l (area_ok r.area) (within 1 8 r.tracks)
         (and_r (station_ok r.station) (area_ok r.area && within 1 8 r.tracks) (and_l (station_row_ok r) (every station_row_ok rows) ok))

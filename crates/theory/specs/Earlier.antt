@@ -5,8 +5,7 @@
 -- are shared with the newest release. Assumes nothing.
 use Rattle.std.specs.Prelude.{ℕ, Bool, true, false, not, ◌&&◌, ◌||◌, ltb, leb, eqb, length}
 use mathlib.Core.List.{List, [], ◌∷◌, ◌++◌, map, flat_map}
-use Rattle.std.proofs.Math.Option
-use Rattle.std.proofs.Math.Option.{Option}
+use Rattle.std.specs.Prelude.{option_map, Option}
 use Rattle.base.specs.Choice.{◌if◌else◌}
 use Rattle.std.specs.Prelude.{if◌then◌else◌}
 use Rattle.base.specs.Lists.{any, keep, first, is, count}
@@ -138,7 +137,7 @@ unfoldable pub empty : Table
 empty = record { visits = []; relations = [] }
 
 unfoldable pub visit_of : Train → Table → Option Visit
-visit_of t tab = Option.map (λ e. e.visit) (first (λ e. same_train e.train t) tab.visits)
+visit_of t tab = option_map (λ e. e.visit) (first (λ e. same_train e.train t) tab.visits)
 
 unfoldable pub has_visit : Train → Table → Bool
 has_visit t tab = is (λ v. true) (visit_of t tab)
