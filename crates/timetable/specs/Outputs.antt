@@ -2,8 +2,10 @@
 -- number": "13 the output is too short (its needed length comes along; a longer one keeps its rest)"; "Each leaves all
 -- lent bytes untouched". Assumes nothing.
 use Rattle.std.specs.Prelude.{ℕ, ◌+◌, ◌≤◌, ◌≡◌, ◌&&◌, List, [], ◌∷◌, ◌++◌, leb, eqb, length, drop, set}
-use Rattle.std.specs.Prelude.{Option, None, Some}
+use Rattle.std.specs.Prelude.{Option, None, Some, Result, Ok, Err}
 use Rattle.std.specs.Prelude.{if◌then◌else◌}
+use Rattle.base.specs.RefusalNumbers.{number_of}
+use Rattle.base.specs.declared.refusal.OutputError.{OutputError}
 use Rattle.timetable.specs.Types.{Output}
 
 -- an answer as document 01 gives it: "a refusal number or 0", and what comes along: the place of a file's refusal, how
@@ -33,6 +35,11 @@ reply (Output.Written k) = written k
 reply (Output.Refused k) = refused k
 reply (Output.TooShort k) = needed k
 
+unfoldable pub reply_of : Result ℕ OutputError → Reply
+reply_of (Ok k) = written k
+reply_of (Err (OutputError.Refused r)) = refused (number_of r)
+reply_of (Err (OutputError.TooShort k)) = needed k
+
 -- a call refused with k, or with 0 and these numbers to write; 13 comes last in "Order"
 module _ {X : Type 0} (k : ℕ) (xs : List X) (buffer : List X) where
   unfoldable pub output : Reply
@@ -53,5 +60,5 @@ Puts at xs before r after k = (r ≡ at + length xs) × (after ≡ put at xs bef
 
 -- The key ring of this module: `unfolding opened` opens every definition above.
 unfoldable pub opened : Unit {0}
-unfolding reply output output_after put
+unfolding reply reply_of output output_after put
 opened = tt
