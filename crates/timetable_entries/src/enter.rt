@@ -17,17 +17,11 @@ use sheet::test;
 use timetable::Fault;
 
 // Track and lines are known, and the lines run that way.
+#[tactic(auto, using(sheet::proofs::PassLaws::links_pass))]
 fn visit_known(v: Visit, n: Network, s: Station) -> bool
     ensures { result ≡ (track_known n s v.track && links_good n s v) }
 {
-    let inward = v.inward;
-    let outward = v.outward;
-    if n.track_known(s, v.track) {
-        if test::in_good(inward, n, s) {
-            return test::out_good(outward, n, s);
-        }
-    }
-    false
+    n.track_known(s, v.track) && test::in_good(v.inward, n, s) && test::out_good(v.outward, n, s)
 }
 
 // 7, 12 or 0.

@@ -68,8 +68,7 @@ fn visits(
     let mut station = Station(0);
     let mut train = Train(0);
     let mut first = fault;
-    let mut i: usize = 0;
-    while i < count {
+    for _ in 0..count {
         let found = visit::visit_entry(file, place, form, station, train);
         match found {
             VisitRead::Refused(k, p) => {
@@ -82,7 +81,6 @@ fn visits(
                 place = next;
             }
         }
-        i += 1;
     }
     accepted_entries(place, first)
 }
@@ -102,8 +100,7 @@ fn relations(
     let mut place = at;
     let mut floor = no_floor();
     let mut first = fault;
-    let mut i: usize = 0;
-    while i < count {
+    for _ in 0..count {
         let found = reading::relation_entry(file, place, floor);
         match found {
             RelationRead::Refused(k, p) => {
@@ -115,7 +112,6 @@ fn relations(
                 place = next;
             }
         }
-        i += 1;
     }
     accepted_entries(place, first)
 }

@@ -17,8 +17,8 @@ use Rattle.timetable_entries.proofs.LoopLaws.{relation_station, left_at, reached
 use Rattle.timetable_entries.proofs.SheetEntries.{progress}
 use Rattle.timetable_entries.proofs.read.relations.Goals as goal
 
-pub loop-i-init : goal.loop-i-init
-loop-i-init c =
+pub loop-init : goal.loop-init
+loop-init c =
     let s = c.args in
     let e = ap (λ (l : List ℕ). left_at station_relation_entry relation_floor s.file.now s.count l s.at) (sym (row_held c.no_floor-floor.ensures)) in
     (omega arith, (c.requires.0, reached_first station_relation_entry relation_floor s.file.now (relation_step s.n) s.count s.at (progress s.sheet.now s.fault) (in_use c.no_floor-floor.result) e))
@@ -27,9 +27,9 @@ pub returns-in-Refused : goal.returns-in-Refused
 unfolding relations_format relation_outcome unanswered
 returns-in-Refused c =
     let s = c.args in
-    let l = c.loop-i in
+    let l = c.loop in
     let o = sym c.relation_entry-found.ensures ∙ ap relation_outcome c.in-Refused.is in
-    let q = reached-stop station_relation_entry relation_floor s.file.now (relation_step s.n) s.count s.at (progress s.sheet.now s.fault) l.i (in_use l.floor) l.place (progress l.sheet l.first) l.invariant.1.1
+    let q = reached-stop station_relation_entry relation_floor s.file.now (relation_step s.n) s.count s.at (progress s.sheet.now s.fault) l.counter (in_use l.floor) l.place (progress l.sheet l.first) l.invariant.1.1
     (omega arith) c.in-Refused.k c.in-Refused.p o in (
       c.refused_entries.ensures ∙ q,
       λ t. absurd (false≢true (sym (ap (λ (x : EntriesRead). x.accepted) c.refused_entries.ensures) ∙ t)),
@@ -39,21 +39,18 @@ pub enter_relation-first-requires : goal.enter_relation-first-requires
 unfolding relation_outcome
 enter_relation-first-requires c =
     let s = c.args in
-    let l = c.loop-i in
+    let l = c.loop in
     let o = sym c.relation_entry-found.ensures ∙ ap relation_outcome c.in-Entry.is in
     (l.invariant.1.0, relation_station (in_use l.floor) s.file.now l.place c.in-Entry.x c.in-Entry.next o)
 
-pub overflow_add-i : goal.overflow_add-i
-overflow_add-i c = omega (arith, c.requires.1)
-
-pub loop-i-preserved : goal.loop-i-preserved
+pub loop-preserved : goal.loop-preserved
 unfolding relation_floor relation_outcome
-loop-i-preserved c =
+loop-preserved c =
     let s = c.args in
-    let l = c.loop-i in
+    let l = c.loop in
     let o = sym c.relation_entry-found.ensures ∙ ap relation_outcome c.in-Entry.is in
     let h = c.enter_relation-first in
-    let q = reached-next station_relation_entry relation_floor s.file.now (relation_step s.n) s.count s.at (progress s.sheet.now s.fault) l.i (in_use l.floor) l.place (progress l.sheet l.first) l.invariant.1.1
+    let q = reached-next station_relation_entry relation_floor s.file.now (relation_step s.n) s.count s.at (progress s.sheet.now s.fault) l.counter (in_use l.floor) l.place (progress l.sheet l.first) l.invariant.1.1
     (omega arith) c.in-Entry.x c.in-Entry.next _ _ o (row_held c.relation_numbers-floor.ensures) h.ensures in
     (omega arith, (h.auto.sheet ∙ l.invariant.1.0, q))
 
@@ -61,6 +58,6 @@ pub returns : goal.returns
 unfolding relations_format
 returns c =
     let s = c.args in
-    let l = c.loop-i in
-    let (a, b) = reached-end station_relation_entry relation_floor s.file.now (relation_step s.n) s.count s.at (progress s.sheet.now s.fault) l.i (in_use l.floor) l.place (progress l.sheet l.first) l.invariant.1.1 (omega arith) in
+    let l = c.loop in
+    let (a, b) = reached-end station_relation_entry relation_floor s.file.now (relation_step s.n) s.count s.at (progress s.sheet.now s.fault) l.counter (in_use l.floor) l.place (progress l.sheet l.first) l.invariant.1.1 (omega arith) in
     (c.accepted_entries.ensures ∙ a, λ t. b)

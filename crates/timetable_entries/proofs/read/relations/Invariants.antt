@@ -1,6 +1,6 @@
 -- `timetable_entries::read::relations` meets its contract: each turn is one law of the loops over entries. Assumes
 -- nothing.
-use Prim.Native.Nat.{◌-◌, ◌≤◌}
+use Prim.Native.Nat.{◌≤◌}
 use mathlib.Core.Path.{◌≡◌}
 use lib.ListN.{length}
 use Rattle.timetable.specs.EditsFile.{station_relation_entry}
@@ -11,9 +11,6 @@ use Rattle.timetable_entries.proofs.LoopLaws.{Reached}
 use Rattle.timetable_entries.proofs.SheetEntries.{progress}
 use Rattle.timetable_entries.proofs.read.relations.Given as goal
 
-abbrev pub invariant-loop-i : goal.invariant-loop-i
-invariant-loop-i l =
-    (l.i ≤ l.count) × ((length l.sheet ≡ 8192) × Reached station_relation_entry relation_floor l.file (relation_step l.n) l.count l.at (progress l.initial.sheet l.initial.first) l.i (in_use l.floor) l.place (progress l.sheet l.first))
-
-abbrev pub decreases-loop-i : goal.decreases-loop-i
-decreases-loop-i l = l.count - l.i
+abbrev pub invariant-loop : goal.invariant-loop
+invariant-loop l =
+    (l.counter ≤ l.count) × ((length l.sheet ≡ 8192) × Reached station_relation_entry relation_floor l.file (relation_step l.n) l.count l.at (progress l.initial.sheet l.initial.first) l.counter (in_use l.floor) l.place (progress l.sheet l.first))

@@ -1,6 +1,6 @@
 -- `timetable_entries::read::visits` meets its contract: each turn is one law of the loops over entries. Assumes
 -- nothing.
-use Prim.Native.Nat.{◌-◌, ◌≤◌}
+use Prim.Native.Nat.{◌≤◌}
 use mathlib.Core.Path.{◌≡◌}
 use mathlib.Core.List.{[], ◌∷◌}
 use lib.ListN.{length}
@@ -10,9 +10,6 @@ use Rattle.timetable_entries.proofs.LoopLaws.{Reached}
 use Rattle.timetable_entries.proofs.SheetEntries.{progress}
 use Rattle.timetable_entries.proofs.read.visits.Given as goal
 
-abbrev pub invariant-loop-i : goal.invariant-loop-i
-invariant-loop-i l =
-    (l.i ≤ l.count) × ((length l.sheet ≡ 8192) × Reached (visit_entry l.form) visit_floor l.file (visit_step l.n) l.count l.at (progress l.initial.sheet l.initial.first) l.i (l.station.0 ∷ l.train.0 ∷ []) l.place (progress l.sheet l.first))
-
-abbrev pub decreases-loop-i : goal.decreases-loop-i
-decreases-loop-i l = l.count - l.i
+abbrev pub invariant-loop : goal.invariant-loop
+invariant-loop l =
+    (l.counter ≤ l.count) × ((length l.sheet ≡ 8192) × Reached (visit_entry l.form) visit_floor l.file (visit_step l.n) l.count l.at (progress l.initial.sheet l.initial.first) l.counter (l.station.0 ∷ l.train.0 ∷ []) l.place (progress l.sheet l.first))
