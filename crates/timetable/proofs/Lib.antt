@@ -6,3 +6,4 @@ pub mod DraftsHandedOver
 pub mod ReplyLaws
 pub mod RefusalLaws
 pub mod OutcomeLaws
+pub mod OutputLaws
