@@ -4,7 +4,7 @@ use Prim.Native.Nat.{suc, ◌<◌}
 use mathlib.Core.Path.{◌≡◌, refl, sym, ap, ◌∙◌}
 use mathlib.Core.Bool.{Bool, true, false, not, ◌&&◌, ◌||◌}
 use mathlib.Core.List.{List, [], ◌∷◌}
-use mathlib.Core.Option.{none, some}
+use Rattle.std.specs.Prelude.{Some, None}
 use native.Mathlib.Omega.{arith}
 use lib.Dec.{T, ltb, eqb, ltb→lt}
 use lib.ListN.{length}
@@ -86,7 +86,7 @@ second (x ∷ y ∷ us) p =
     le-ltb (suc (suc (length us))) 2 (omega arith) ∙ sym (ne_eqb y.0 0 (λ e. omega arith))
 
 fewer_second : (make : Trains → Relation) (us : List Train) → T (every present us)
-    → fewer make us ≡ (if eqb (packed us).b.0 0 then none else some (make (packed us)))
+    → fewer make us ≡ (if eqb (packed us).b.0 0 then None else Some (make (packed us)))
 unfolding fewer
 fewer_second make us p = rw (second us p)
 
@@ -105,7 +105,7 @@ kept_present q ts = every_keep present q (keep present (ts.a ∷ ts.b ∷ ts.c �
 
 -- what is left of a group, from the trains that stay
 pub fewer_rest : (make : Trains → Relation) (t : Train) (ts us : Trains) → us ≡ packed (keep (λ u. not (same_train t u)) (used ts))
-    → fewer make (keep (λ u. not (same_train t u)) (used ts)) ≡ (if eqb us.b.0 0 then none else some (make us))
+    → fewer make (keep (λ u. not (same_train t u)) (used ts)) ≡ (if eqb us.b.0 0 then None else Some (make us))
 fewer_rest make t ts us e =
     let q : Train → Bool = λ u. not (same_train t u) in
     rw e (fewer_second make (keep q (used ts)) (kept_present q ts))

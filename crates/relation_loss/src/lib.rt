@@ -1,65 +1,43 @@
 // A train taken out of a relation. "A relation without t stays. A connection or disconnection loses t, and vanishes
 // under two trains. A dependency with t vanishes."
-#![tactic(auto)]
+#![tactic(auto, unfolding(timetable::specs::Tables::lose, crate::specs::between::Left::opened))]
 
-ghost use Rattle.std.specs.Prelude.{not, ◌&&◌, ◌≡◌};
+ghost use Rattle.std.specs.Prelude.{not, ◌&&◌, ◌≡◌, option_map};
 ghost use Rattle.base.specs.Lists.{any, keep};
 ghost use Rattle.railway.specs.Ranges.{same_train};
 ghost use Rattle.railway.specs.Relations.{present, used};
 ghost use Rattle.timetable.specs.Tables.{packed, lose};
-ghost use Rattle.relation_loss.specs.between.Left.{shifted, left};
+ghost use Rattle.relation_loss.specs.between.Left.{shifted, lose_group};
+ghost use Rattle.relation_loss.specs.Types.{Trains, Relation};
 
 use railway::relation::{Relation, Trains};
 use railway::sorts::Train;
 
-// What is left of a relation.
-#[derive(Clone, Copy)]
-pub enum Left {
-    Is(Relation),
-    Nothing,
+#[tactic(auto, using(crate::proofs::TrainsLeft::any_used))]
+fn has_train(ts: Trains, train: Train) -> bool
+    ensures { result ≡ any (same_train train) (used ts) }
+{
+    holds(ts.a, train) || holds(ts.b, train) || holds(ts.c, train) || holds(ts.d, train)
 }
 
 // The place holds the train.
 fn holds(place: Train, train: Train) -> bool
     ensures { result ≡ (present place && same_train train place) }
 {
-    if 0 < place.0 {
-        return train.0 == place.0;
-    }
-    false
-}
-
-fn has_train(ts: Trains, train: Train) -> bool
-    ensures { result ≡ any (same_train train) (used ts) }
-{
-    if holds(ts.a, train) {
-        return true;
-    }
-    if holds(ts.b, train) {
-        return true;
-    }
-    if holds(ts.c, train) {
-        return true;
-    }
-    holds(ts.d, train)
+    0 < place.0 && train == place
 }
 
 // One place before the others: kept if it holds a train, and not the one that is taken out.
 fn put_before(rest: Trains, place: Train, train: Train) -> Trains
     ensures { result ≡ shifted train place rest }
 {
-    let a = rest.a;
-    let b = rest.b;
-    let c = rest.c;
-    if 0 < place.0 {
-        if train.0 != place.0 {
-            return Trains {
-                a: place,
-                b: a,
-                c: b,
-                d: c,
-            };
-        }
+    if 0 < place.0 && train != place {
+        return Trains {
+            a: place,
+            b: rest.a,
+            c: rest.b,
+            d: rest.c,
+        };
     }
     rest
 }
@@ -80,39 +58,32 @@ fn others(ts: Trains, train: Train) -> Trains
     put_before(behind, ts.a, train)
 }
 
+// What stays of a group's trains, if two are left.
+fn fewer(ts: Trains, train: Train) -> Option<Trains>
+    ensures { (make : Trains → Relation) → option_map make result ≡ lose_group make train ts }
+{
+    if !has_train(ts, train) {
+        return Some(ts);
+    }
+    let us = others(ts, train);
+    if us.b.0 == 0 {
+        return None;
+    }
+    Some(us)
+}
+
 // The relation without the train.
-pub fn lose(relation: Relation, train: Train) -> Left
-    ensures { result ≡ left (lose train relation) }
+pub fn lose(relation: Relation, train: Train) -> Option<Relation>
+    ensures { result ≡ lose train relation }
 {
     match relation {
-        Relation::Connection(i, ts) => {
-            if has_train(ts, train) {
-                let us = others(ts, train);
-                if us.b.0 == 0 {
-                    return Left::Nothing;
-                }
-                return Left::Is(Relation::Connection(i, us));
-            }
-            Left::Is(Relation::Connection(i, ts))
-        }
-        Relation::Disconnection(i, ts) => {
-            if has_train(ts, train) {
-                let us = others(ts, train);
-                if us.b.0 == 0 {
-                    return Left::Nothing;
-                }
-                return Left::Is(Relation::Disconnection(i, us));
-            }
-            Left::Is(Relation::Disconnection(i, ts))
-        }
+        Relation::Connection(i, ts) => fewer(ts, train).map(|us| Relation::Connection(i, us)),
+        Relation::Disconnection(i, ts) => fewer(ts, train).map(|us| Relation::Disconnection(i, us)),
         Relation::Dependency(i, p) => {
-            if train.0 == p.arriver.0 {
-                return Left::Nothing;
+            if train == p.arriver || train == p.departer {
+                return None;
             }
-            if train.0 == p.departer.0 {
-                return Left::Nothing;
-            }
-            Left::Is(Relation::Dependency(i, p))
+            Some(Relation::Dependency(i, p))
         }
     }
 }
