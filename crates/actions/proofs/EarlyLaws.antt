@@ -1,7 +1,8 @@
 -- What the network knows of an edit, by the tests that the code makes; and what an edit that is not refused early has
 -- passed. Assumes nothing.
+use Prim.Native.Nat.{ℕ}
 use mathlib.Core.Path.{◌≡◌, refl, sym}
-use mathlib.Core.Bool.{true, false, ◌&&◌}
+use mathlib.Core.Bool.{true, ◌&&◌}
 use lib.Dec.{T}
 use borrow.Author.Tests.{eq-eqb}
 use Rattle.base.proofs.Tests.{true_T, held}
@@ -9,21 +10,21 @@ use Rattle.network.specs.Networks.{network_refusal, listed}
 use Rattle.timetable.specs.Refusals.{early}
 use Rattle.timetable.specs.Machine.{Meaning, local, throughout, meaning, known, edit_refusal, sound}
 use Rattle.timetable.proofs.RefusalLaws.{early_passed}
-use Rattle.actions.specs.Types.{Edit, Network}
+use Rattle.actions.specs.Types.{Station, Train, Edit, Network, Local, Throughout}
 use Rattle.actions.specs.between.Shapes.{shape_of}
 use Rattle.actions.specs.Early.{fits_of, fits_network, unknown_refusal, early_refusal}
 
 module _ (n : Network) where
-  pub known_everywhere : (μ : Meaning) → (shape_of μ).everywhere ≡ true → true ≡ fits_network n μ
+  pub known_everywhere : (μ : Meaning) (t : Train) → shape_of μ ≡ Throughout t → fits_network n μ ≡ true
   unfolding shape_of fits_network
-  known_everywhere (local a) q = absurd (true_T false q)
-  known_everywhere (throughout t) q = refl
+  known_everywhere (local a) t q = cc
+  known_everywhere (throughout u) t q = refl
 
-  pub known_ends : (μ : Meaning) → (shape_of μ).everywhere ≡ false
-      → fits_network n μ ≡ ((listed n (shape_of μ).home && listed n (shape_of μ).away) && fits_of n μ)
+  pub known_ends : (μ : Meaning) (home away : Station) (adds removes : ℕ) → shape_of μ ≡ Local home away adds removes
+      → fits_network n μ ≡ ((listed n home && listed n away) && fits_of n μ)
   unfolding shape_of fits_network fits_of known
-  known_ends (local a) q = refl
-  known_ends (throughout t) q = absurd (true_T false (sym q))
+  known_ends (local a) home away adds removes q = cc
+  known_ends (throughout t) home away adds removes q = cc
 
 -- an edit that nothing refuses before a sheet is looked at
 pub record Early (n : Network) (e : Edit) : Type 0 where

@@ -1,2 +1,3 @@
 pub mod ShapeLaws
 pub mod EarlyLaws
+pub mod OrderLaws

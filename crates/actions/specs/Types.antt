@@ -7,3 +7,4 @@ pub use Rattle.railway.specs.declared.edit.Edit.{Edit}
 pub use Rattle.railway.specs.declared.edit.Edit.TheVariants.{Place, Prepend, Append, DeleteFirst, DeleteLast, Amend, ReportArrival, ReportDeparture, AddRelation, RemoveRelation, DeleteTrain}
 pub use Rattle.network.specs.declared.Network.{Network}
 pub use Rattle.actions.specs.declared.shape.Shape.{Shape}
+pub use Rattle.actions.specs.declared.shape.Shape.TheVariants.{Local, Throughout}

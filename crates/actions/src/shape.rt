@@ -1,84 +1,80 @@
 // The shape of an edit: where it works, and how many visits it adds and removes. One match over the kinds gives it; the
-// rest are its fields.
+// rest are its parts.
 ghost use Rattle.std.specs.Prelude.{◌≡◌};
-ghost use Rattle.timetable.specs.Machine.{meaning};
-ghost use Rattle.actions.specs.between.Shapes.{at_stations, at_all, shape_of, shape_touches, touches};
+ghost use Rattle.timetable.specs.Machine.{meaning, added_by};
+ghost use Rattle.actions.specs.between.Shapes.{shape_of, shape_touches, touches};
+ghost use Rattle.actions.specs.Types.{Local};
 
 use railway::edit::Edit;
 use railway::sorts::{Station, Train};
 
-#[derive(Clone, Copy)]
-pub struct Shape {
-    // s; 0 for an edit at all stations
-    pub home: Station,
-    // p, or else s again
-    pub away: Station,
-    // Visits added at s, and removed there
-    pub adds: u8,
-    pub removes: u8,
-    // At all stations: edit 11
-    pub everywhere: bool,
-    // The train of edit 11; 0 for any other
-    pub train: Train,
+#[derive(Clone, Copy, Debug, PartialEq, Eq, Hash)]
+pub enum Shape {
+    // At one or two stations: s and p, or s twice; the visits added at s, and removed there.
+    Local {
+        home: Station,
+        away: Station,
+        adds: u8,
+        removes: u8,
+    },
+    // At all stations: edit 11, which takes its train out.
+    Throughout(Train),
 }
 
-fn local(home: Station, away: Station, adds: u8, removes: u8) -> Shape
-    ensures { result ≡ at_stations home away adds removes }
+// At s and p.
+fn at(home: Station, away: Station, adds: u8, removes: u8) -> Shape
+    ensures { result ≡ Local home away adds removes }
 {
-    Shape {
-        home: home,
-        away: away,
-        adds: adds,
-        removes: removes,
-        everywhere: false,
-        train: Train(0),
+    Shape::Local {
+        home,
+        away,
+        adds,
+        removes,
     }
 }
 
-fn throughout(t: Train) -> Shape
-    ensures { result ≡ at_all t }
-{
-    Shape {
-        home: Station(0),
-        away: Station(0),
-        adds: 0,
-        removes: 0,
-        everywhere: true,
-        train: t,
-    }
-}
-
+#[tactic(auto, unfolding(crate::specs::between::Shapes::shape_of, timetable::specs::Machine::meaning))]
 pub fn shape_of(e: Edit) -> Shape
     ensures { result ≡ shape_of (meaning e) }
 {
     match e {
-        Edit::Place(p) => local(p.station, p.station, 1, 0),
-        Edit::Prepend(x) => local(x.plan.station, x.other, 1, 0),
-        Edit::Append(x) => local(x.plan.station, x.other, 1, 0),
-        Edit::DeleteFirst(d) => local(d.station, d.other, 0, 1),
-        Edit::DeleteLast(d) => local(d.station, d.other, 0, 1),
-        Edit::Amend(p) => local(p.station, p.station, 0, 0),
-        Edit::ReportArrival(r) => local(r.station, r.station, 0, 0),
-        Edit::ReportDeparture(r) => local(r.station, r.station, 0, 0),
-        Edit::AddRelation(r) => local(r.station, r.station, 0, 0),
-        Edit::RemoveRelation(r) => local(r.station, r.station, 0, 0),
-        Edit::DeleteTrain(c) => throughout(c.train),
+        Edit::Place(p) => at(p.station, p.station, 1, 0),
+        Edit::Prepend(x) => at(x.plan.station, x.other, 1, 0),
+        Edit::Append(x) => at(x.plan.station, x.other, 1, 0),
+        Edit::DeleteFirst(d) => at(d.station, d.other, 0, 1),
+        Edit::DeleteLast(d) => at(d.station, d.other, 0, 1),
+        Edit::Amend(p) => at(p.station, p.station, 0, 0),
+        Edit::ReportArrival(r) => at(r.station, r.station, 0, 0),
+        Edit::ReportDeparture(r) => at(r.station, r.station, 0, 0),
+        Edit::AddRelation(r) => at(r.station, r.station, 0, 0),
+        Edit::RemoveRelation(r) => at(r.station, r.station, 0, 0),
+        Edit::DeleteTrain(c) => Shape::Throughout(c.train),
+    }
+}
+
+// How many visits an edit adds.
+#[tactic(auto, using(crate::proofs::ShapeLaws::added_at, crate::proofs::ShapeLaws::added_throughout))]
+pub fn added_by(e: Edit) -> u8
+    ensures { result ≡ added_by (meaning e) }
+{
+    match shape_of(e) {
+        Shape::Local { adds, .. } => adds,
+        Shape::Throughout(_) => 0,
     }
 }
 
 // The station is s or p of an edit of this shape, or any of edit 11.
+#[tactic(auto, unfolding(crate::specs::between::Shapes::shape_touches))]
 pub fn is_at(x: Shape, s: Station) -> bool
     ensures { result ≡ shape_touches x s }
 {
-    if x.everywhere {
-        return true;
+    match x {
+        Shape::Local { home, away, .. } => s == home || s == away,
+        Shape::Throughout(_) => true,
     }
-    if s.0 == x.home.0 {
-        return true;
-    }
-    s.0 == x.away.0
 }
 
+#[tactic(auto, using(crate::proofs::ShapeLaws::touches_by))]
 pub fn touched(e: Edit, s: Station) -> bool
     ensures { result ≡ touches (meaning e) s }
 {

@@ -1,14 +1,17 @@
 -- What the tests of a raise leave: small fields, so that no sum is too large; and how a raise ends, case by case.
 -- Assumes nothing.
 use Prim.Native.Nat.{ℕ, ◌+◌, ◌≤◌}
-use mathlib.Core.Path.{◌≡◌, refl}
+use mathlib.Core.Path.{◌≡◌, refl, sym}
 use mathlib.Core.Bool.{Bool, true, false, ◌||◌}
 use borrow.Author.Tests.{ltb-false, eq-eqb, ne_eqb}
+use Rattle.base.specs.declared.refusal.Refusal.{Refusal}
+use Rattle.base.specs.RefusalNumbers.{number_of}
 use Rattle.railway.specs.declared.edit.Edit.{Edit}
 use Rattle.timetable.specs.declared.Answer.{Answer}
 use Rattle.timetable.specs.declared.Tally.{Tally}
 use Rattle.timetable.specs.Refusals.{or_else, call_refusal}
 use Rattle.timetable.specs.Machine.{meaning, added_by}
+use Rattle.actions.proofs.OrderLaws.{not_nought}
 use Rattle.timetable.specs.Count.{overfull, unlikely, raise_refusal, raised, raise}
 
 -- where neither test passes, each fails
@@ -57,3 +60,8 @@ module _ (y : Tally) (e : Edit) (a : Answer) where
       pub when-refused : (a.refusal ≡ 0 → ⊥) → (a.refusal ≡ 5 → ⊥) → Ends 0 (record { accepted = y.accepted; refused = y.refused + 1; added = y.added; removed = y.removed })
       unfolding call_refusal or_else raise_refusal raise raised
       when-refused z f = (simp (o, u), simp (o, u, ne_eqb _ _ z, ne_eqb _ _ f))
+
+-- a refused raise leaves the tally as it was
+pub refused_stays : (y : Tally) (e : Edit) (a : Answer) (r : Refusal) → number_of r ≡ raise_refusal y a → y ≡ raise y e a
+unfolding raise
+refused_stays y e a r h = sym (rw (sym h, not_nought r))
