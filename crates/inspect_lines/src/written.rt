@@ -32,8 +32,5 @@ pub(crate) fn put_written(out: &mut [u8], sheet: &[u8], n: Network, bytes: &[u8]
     requires { (sheet_list_refusal n sheet.now ≡ 0) × (length bytes.now ≤ 16384) }
     ensures { Puts 0 (written_text n (decode_sheet sheet.now) bytes.now) out.old result out.new 68 }
 {
-    if is_written(sheet, n, bytes) {
-        return line::put_line(out, 0, 87, [1, 0, 0, 0, 0, 0], 1);
-    }
-    line::put_line(out, 0, 87, [0, 0, 0, 0, 0, 0], 1)
+    line::put_line(out, 0, 87, &[u32::from(is_written(sheet, n, bytes))])
 }

@@ -17,4 +17,4 @@ use Rattle.sheet_lines.specs.between.Sheets.{totals_at}
 pub totals_there : (at : ℕ) → at ≤ far → (n : Network) (sheet : List ℕ) → length sheet ≡ 8192 → (count : ℕ)
     → totals_at at n sheet count ≡ line 84 (visit_count n (decode_sheet sheet) ∷ relation_count n (decode_sheet sheet) ∷ count ∷ [])
 unfolding totals_at sheet_totals
-totals_there at near n sheet size count = rw (eq-eqb (length sheet) 8192 size) (line_there at near 84 3 _ (omega arith))
+totals_there at near n sheet size count = rw (eq-eqb (length sheet) 8192 size) (line_there at near 84 _ (omega arith))

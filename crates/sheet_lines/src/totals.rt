@@ -13,5 +13,5 @@ pub fn put_totals(out: &mut [u8], at: usize, sheet: &[u8], n: Network, count: u3
     let held = sheet_totals(sheet, n);
     let visits = held.visits as u32;
     let relations = held.relations as u32;
-    line::put_line(out, at, 84, [visits, relations, count, 0, 0, 0], 3)
+    line::put_line(out, at, 84, &[visits, relations, count])
 }

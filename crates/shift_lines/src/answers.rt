@@ -38,13 +38,9 @@ fn put_answer(out: &mut [u8], at: usize, i: u32, a: Answer) -> usize
     requires { at ≤ far }
     ensures { Puts at (line 69 (i ∷ a.refusal ∷ a.removed ∷ [])) out.old result out.new 68 }
 {
-    line::put_line(
-        out,
-        at,
-        69,
-        [i, a.refusal as u32, a.removed as u32, 0, 0, 0],
-        3,
-    )
+    let refusal = u32::from(a.refusal);
+    let removed = u32::from(a.removed);
+    line::put_line(out, at, 69, &[i, refusal, removed])
 }
 
 // The tally, and the place of the next edit.

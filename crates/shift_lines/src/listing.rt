@@ -31,13 +31,7 @@ fn put_tally(out: &mut [u8], at: usize, y: Tally) -> usize
     requires { at ≤ far }
     ensures { Puts at (line_text (tally_line y)) out.old result out.new 68 }
 {
-    line::put_line(
-        out,
-        at,
-        65,
-        [y.accepted, y.refused, y.added, y.removed, 0, 0],
-        4,
-    )
+    line::put_line(out, at, 65, &[y.accepted, y.refused, y.added, y.removed])
 }
 
 // What stands behind the lines of the edits, of the division that they left, merged into a lent sheet.

@@ -6,7 +6,7 @@ use mathlib.Core.Option.{none}
 use native.Mathlib.Decide.{ℕ_discrete}
 use mathlib.Core.Path.{◌≡◌, refl, sym, ◌∙◌, ap}
 use mathlib.Core.Bool.{Bool, true, false}
-use mathlib.Core.List.{List}
+use mathlib.Core.List.{List, ◌++◌}
 use native.Mathlib.Omega.{arith}
 use lib.Dec.{leb}
 use lib.ListN.{length, take, drop}
@@ -102,9 +102,10 @@ module _ (xs b : List ℕ) (most : ℕ) where
     pub put_counted : (r : ℕ) (later : List ℕ) → needed ≤ length b → Puts 0 xs b r later most → Answers (Output.Written needed) later
     put_counted r later h w = let x = fits_in xs b needed (omega (arith, counted.0)) h in (x.0, w.1 ∙ x.1)
 
-    -- the other buffer is a draft that has room for the text
-    pub handed : needed ≤ length c → (r : Output) (later : List ℕ) → (reply r ≡ output 0 (take needed d) b) × (later ≡ output_after 0 (take needed d) b)
-        → Answers r later
-    handed h r later a =
-        let e : take needed d ≡ xs = ap (take needed) counted.1 ∙ draft_holds xs c needed counted.0 h in
-        rw (← e) a
+    -- the other buffer is a draft that has room for the text, and its head is copied
+    pub copied : needed ≤ length c → needed ≤ length b → Answers (Output.Written needed) (take needed d ++ drop needed b)
+    copied h l =
+        let many : needed ≡ length xs = omega (arith, counted.0) in
+        let held : take needed d ≡ xs = ap (take needed) counted.1 ∙ draft_holds xs c needed counted.0 h in
+        let x = fits_in xs b needed many l in
+        (x.0, ap (λ (k : List ℕ). k ++ drop needed b) held ∙ ap (λ (j : ℕ). xs ++ drop j b) many ∙ sym (put_whole xs b (omega (arith, many, l))) ∙ x.1)

@@ -15,9 +15,9 @@ unfolding refusal_at
 refusal_there number place h = rw (le-leb place 16384 h)
 
 module _ (at : ℕ) (near : at ≤ far) where
-  pub line_there : (letter k : ℕ) (xs : List ℕ) → k ≤ 6 → line_at at letter k xs ≡ line letter (take k xs)
+  pub line_there : (letter : ℕ) (xs : List ℕ) → length xs ≤ 6 → line_at at letter xs ≡ line letter xs
   unfolding line_at
-  line_there letter k xs h = rw (le-leb at far near, le-leb k 6 h)
+  line_there letter xs h = rw (le-leb at far near, le-leb (length xs) 6 h)
 
   pub findings_there : (letter : ℕ) (areas : List ℕ) (count : ℕ) (xs : List ℕ) → count ≤ 200000 → 4 * count ≤ length xs
       → findings_at at letter areas count xs ≡ findings_text letter areas (take (4 * count) xs)

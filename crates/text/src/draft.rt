@@ -1,34 +1,33 @@
-// A text that was made in a draft, handed over to a lent buffer: whole, or not at all.
-ghost use Rattle.std.specs.Prelude.{◌≡◌, ◌≤◌, length, take};
-ghost use Rattle.timetable.specs.Outputs.{reply, output, output_after};
+// A text that is put into a lent buffer: whole, or not at all.
+ghost use Rattle.std.specs.Prelude.{ℕ, List, ◌≡◌};
+ghost use Rattle.timetable.specs.Outputs.{Puts, reply, output, output_after};
 
 use timetable::Output;
 
-// The first k bytes, which the draft has.
-fn copy_over(out: &mut [u8], draft: &[u8], k: usize) -> Output
-    requires { k ≤ length draft.now }
-    ensures { (reply result ≡ output 0 (take k draft.now) out.old)
-        × (out.new ≡ output_after 0 (take k draft.now) out.old) }
+// The text of at most `most` bytes that `put` puts into any buffer as far as it fits, and whose length it answers. It
+// goes into a lent draft first, so that a buffer that is too short for it is left as it was; where the draft has no
+// room for it, it is put again. A buffer that has room for any text is written at once.
+pub fn drafted<F: Fn(&mut [u8]) -> usize>(
+    out: &mut [u8],
+    most: usize,
+    draft: &mut [u8],
+    put: F,
+) -> Output
+    requires callable { F.IsAlwaysCallable put }
+    ensures { (text : List ℕ) → ((x : _) (r : _) (y : _) → F.post put x r y → Puts 0 text x.now r y.now most)
+        → (reply result ≡ output 0 text out.old) × (out.new ≡ output_after 0 text out.old) }
 {
-    if out.len() < k {
-        return Output::TooShort(k);
+    if most <= out.len() {
+        return Output::Written(put(out));
     }
-    let mut i: usize = 0;
-    while i < k {
-        out[i] = draft[i];
-        i += 1;
+    let needed = put(draft);
+    if out.len() < needed {
+        return Output::TooShort(needed);
     }
-    Output::Written(k)
-}
-
-// The first k bytes, or all where there are fewer.
-pub fn hand_over(out: &mut [u8], draft: &[u8], k: usize) -> Output
-    ensures { (reply result ≡ output 0 (take k draft.now) out.old)
-        × (out.new ≡ output_after 0 (take k draft.now) out.old) }
-{
-    let all = draft.len();
-    if all < k {
-        return copy_over(out, draft, all);
+    if needed <= draft.len() {
+        out[..needed].copy_from_slice(&draft[..needed]);
+    } else {
+        put(out);
     }
-    copy_over(out, draft, k)
+    Output::Written(needed)
 }

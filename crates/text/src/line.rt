@@ -4,15 +4,13 @@ ghost use Rattle.text.specs.between.Lines.{line_at};
 
 use crate::{FAR, words};
 
-// The line of the first k numbers; nothing where the place is too far, or k is above six.
-pub fn put_line(out: &mut [u8], at: usize, letter: u8, xs: [u32; 6], k: usize) -> usize
-    ensures { Puts at (line_at at letter k xs) out.old result out.new 68 }
+// The line of these numbers; nothing where the place is too far, or they are more than six.
+#[tactic(auto, unfolding(crate::specs::between::Lines::line_at, timetable::specs::Outputs::put))]
+pub fn put_line(out: &mut [u8], at: usize, letter: u8, xs: &[u32]) -> usize
+    ensures { Puts at (line_at at letter xs.now) out.old result out.new 68 }
 {
-    if FAR < at {
+    if FAR < at || 6 < xs.len() {
         return at;
     }
-    if 6 < k {
-        return at;
-    }
-    words::put_line(out, at, letter, xs, k)
+    words::put_line(out, at, letter, xs)
 }

@@ -11,20 +11,31 @@ pub struct Pair {
     pub second: Area,
 }
 
+const PAIRS: [(u8, u8); 15] = [
+    (1, 2),
+    (1, 3),
+    (1, 4),
+    (1, 5),
+    (1, 6),
+    (2, 3),
+    (2, 4),
+    (2, 5),
+    (2, 6),
+    (3, 4),
+    (3, 5),
+    (3, 6),
+    (4, 5),
+    (4, 6),
+    (5, 6),
+];
+
 // The pair with this index, from 0; behind the fifteenth two areas 0.
 pub fn pair_at(i: usize) -> Pair
     ensures { (result.first.0, result.second.0) ≡ get_or (pairs six) i (0, 0) }
 {
-    if 15 <= i {
-        return Pair {
-            first: Area(0),
-            second: Area(0),
-        };
-    }
-    let firsts: [u8; 15] = [1, 1, 1, 1, 1, 2, 2, 2, 2, 3, 3, 3, 4, 4, 5];
-    let seconds: [u8; 15] = [2, 3, 4, 5, 6, 3, 4, 5, 6, 4, 5, 6, 5, 6, 6];
+    let (first, second) = PAIRS.get(i).copied().unwrap_or((0, 0));
     Pair {
-        first: Area(firsts[i]),
-        second: Area(seconds[i]),
+        first: Area(first),
+        second: Area(second),
     }
 }

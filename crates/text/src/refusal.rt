@@ -5,16 +5,16 @@ ghost use Rattle.listings.specs.Shift.{refusal_text};
 ghost use Rattle.text.specs.RefusalLine.{line_refusal};
 ghost use Rattle.text.specs.between.Lines.{refusal_at};
 
-use crate::words;
+use crate::{draft, words};
 use timetable::Output;
 
 // The line from the start on.
+#[tactic(auto, unfolding(listings::specs::Shift::refusal_text))]
 fn line_of(out: &mut [u8], number: u8, place: usize) -> usize
     requires { place ≤ 16384 }
     ensures { Puts 0 (refusal_text number place) out.old result out.new 68 }
 {
-    let byte = place as u32;
-    words::put_line(out, 0, 82, [number as u32, byte, 0, 0, 0, 0], 2)
+    words::put_line(out, 0, 82, &[u32::from(number), place as u32])
 }
 
 // The same; nothing for a place that no input has.
@@ -33,17 +33,7 @@ fn write_refusal(out: &mut [u8], number: u8, place: usize) -> Output
     ensures { (reply result ≡ output 0 (refusal_text number place) out.old)
         × (out.new ≡ output_after 0 (refusal_text number place) out.old) }
 {
-    if 68 <= out.len() {
-        let length = line_of(out, number, place);
-        return Output::Written(length);
-    }
-    let mut none = [0u8; 1];
-    let needed = line_of(&mut none, number, place);
-    if out.len() < needed {
-        return Output::TooShort(needed);
-    }
-    line_of(out, number, place);
-    Output::Written(needed)
+    draft::drafted(out, 68, &mut [], |buffer| line_of(buffer, number, place))
 }
 
 // The line of a refusal; 3 for a place that no input has.

@@ -25,8 +25,8 @@ fn put_row(out: &mut [u8], at: usize, s: Station, t: Train, rows: &[i32], i: usi
     ensures { Puts at (row_line s.0 t.0 (row_at rows.now i)) out.old result out.new 72 }
 {
     let letter = words::put_byte(out, at, 74);
-    let station = words::put_word(out, letter, s.0 as u32);
-    let train = words::put_word(out, station, t.0 as u32);
+    let station = words::put_word(out, letter, u32::from(s.0));
+    let train = words::put_word(out, station, u32::from(t.0));
     let end = put_numbers(out, train, rows, i);
     words::put_byte(out, end, 10)
 }
@@ -37,15 +37,14 @@ fn put_each(out: &mut [u8], at: usize, s: Station, t: Train, rows: &[i32], count
     ensures { Puts at (rows_text s.0 t.0 (take (4 * count) rows.now)) out.old result out.new 1152 }
 {
     let mut next = at;
-    let mut i: usize = 0;
-    while i < count {
+    for i in 0..count {
         next = put_row(out, next, s, t, rows, 4 * i);
-        i += 1;
     }
     next
 }
 
 // The same; nothing where the place is too far, or the numbers are not there.
+#[tactic(auto, unfolding(crate::specs::between::Rows::rows_at, timetable::specs::Outputs::put))]
 pub fn put_rows(
     out: &mut [u8],
     at: usize,
@@ -56,13 +55,7 @@ pub fn put_rows(
 ) -> usize
     ensures { Puts at (rows_at at s.0 t.0 count rows.now) out.old result out.new 1152 }
 {
-    if FAR < at {
-        return at;
-    }
-    if 16 < count {
-        return at;
-    }
-    if rows.len() < 4 * count {
+    if FAR < at || 16 < count || rows.len() < 4 * count {
         return at;
     }
     put_each(out, at, s, t, rows, count)

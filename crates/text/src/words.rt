@@ -1,5 +1,5 @@
 // Bytes, digits and words, and lines of them, from a place that is far from overflow.
-ghost use Rattle.std.specs.Prelude.{◌≡◌, [], ◌∷◌, ◌+◌, ◌≤◌, take};
+ghost use Rattle.std.specs.Prelude.{◌≡◌, [], ◌∷◌, ◌+◌, ◌≤◌, length};
 ghost use Rattle.timetable.specs.Outputs.{Puts, put};
 ghost use Rattle.listings.specs.Text.{digits, word, head, line};
 ghost use Rattle.listings.specs.Inspect.{signed};
@@ -11,7 +11,6 @@ pub(crate) fn put_byte(out: &mut [u8], at: usize, b: u8) -> usize
 {
     if at < out.len() {
         out[at] = b;
-        return at + 1;
     }
     at + 1
 }
@@ -47,9 +46,9 @@ fn put_signed(out: &mut [u8], at: usize, x: i32) -> usize
 {
     if x < 0 {
         let next = put_byte(out, at, 45);
-        return put_digits(out, next, (-1 - x) as u32 + 1, 10);
+        return put_digits(out, next, x.unsigned_abs(), 10);
     }
-    put_digits(out, at, x as u32, 10)
+    put_digits(out, at, x.unsigned_abs(), 10)
 }
 
 // The same with a blank before it.
@@ -61,25 +60,23 @@ pub(crate) fn put_signed_word(out: &mut [u8], at: usize, x: i32) -> usize
     put_signed(out, next, x)
 }
 
-// A letter and the first k numbers.
-fn put_head(out: &mut [u8], at: usize, letter: u8, xs: [u32; 6], k: usize) -> usize
-    requires { (at ≤ 900000000) × (k ≤ 6) }
-    ensures { Puts at (head letter (take k xs)) out.old result out.new 67 }
+// A letter and at most six numbers.
+fn put_head(out: &mut [u8], at: usize, letter: u8, xs: &[u32]) -> usize
+    requires { (at ≤ 900000000) × (length xs.now ≤ 6) }
+    ensures { Puts at (head letter xs.now) out.old result out.new 67 }
 {
     let mut next = put_byte(out, at, letter);
-    let mut i: usize = 0;
-    while i < k {
-        next = put_word(out, next, xs[i]);
-        i += 1;
+    for x in xs {
+        next = put_word(out, next, *x);
     }
     next
 }
 
-// A line of the first k numbers.
-pub(crate) fn put_line(out: &mut [u8], at: usize, letter: u8, xs: [u32; 6], k: usize) -> usize
-    requires { (at ≤ 900000000) × (k ≤ 6) }
-    ensures { Puts at (line letter (take k xs)) out.old result out.new 68 }
+// A line of at most six numbers.
+pub(crate) fn put_line(out: &mut [u8], at: usize, letter: u8, xs: &[u32]) -> usize
+    requires { (at ≤ 900000000) × (length xs.now ≤ 6) }
+    ensures { Puts at (line letter xs.now) out.old result out.new 68 }
 {
-    let end = put_head(out, at, letter, xs, k);
+    let end = put_head(out, at, letter, xs);
     put_byte(out, end, 10)
 }

@@ -37,7 +37,7 @@ module _ (at : ℕ) (n : Network) (sheet : List ℕ) where
 
   -- the line of totals, with so many findings
   unfoldable pub totals_at : ℕ → List ℕ
-  totals_at count = line_at at 84 3 ((sheet_totals n sheet).visits ∷ (sheet_totals n sheet).relations ∷ count ∷ 0 ∷ 0 ∷ 0 ∷ [])
+  totals_at count = line_at at 84 ((sheet_totals n sheet).visits ∷ (sheet_totals n sheet).relations ∷ count ∷ [])
 
 -- The key ring of this module: `unfolding opened` opens every definition above.
 unfoldable pub opened : Unit {0}

@@ -9,9 +9,9 @@ use Rattle.listings.specs.Shift.{refusal_text}
 abbrev pub far : ℕ
 far = 800000000
 
--- a line of the first k of six numbers
-unfoldable pub line_at : ℕ → ℕ → ℕ → List ℕ → List ℕ
-line_at at letter k xs = if leb at far && leb k 6 then line letter (take k xs) else []
+-- a line of at most six numbers
+unfoldable pub line_at : ℕ → ℕ → List ℕ → List ℕ
+line_at at letter xs = if leb at far && leb (length xs) 6 then line letter xs else []
 
 -- the line of a refusal, whose place is one of an input
 unfoldable pub refusal_at : ℕ → ℕ → List ℕ

@@ -9,4 +9,4 @@ use Rattle.shift_lines.proofs.listing.put_tally.Goals as goal
 pub returns : goal.returns
 unfolding line_text tally_line
 returns c =
-    puts_as _ _ _ _ _ _ _ (line_there c.args.at c.requires 65 4 _ (omega arith)) c.put_line.ensures
+    puts_as _ _ _ _ _ _ _ (line_there c.args.at c.requires 65 _ (omega arith)) c.put_line.ensures

@@ -1,9 +1,14 @@
 -- `text::pairs::pair_at` meets its contract: the areas at the index are those of the pair. Assumes nothing.
-use Rattle.text.proofs.PairAreas.{pair_there, no_pair}
+use Rattle.std.proofs.Common.{◌≡◌, ◌∙◌, ap, rules, slice_get, option_copied}
+use Rattle.std.proofs.lemmas.Option.{unwrap_or-slice_get}
+use Rattle.std.specs.Option.{unwrap_or}
+use Rattle.base.specs.Lists as Lists
+use Rattle.base.specs.Lists.{pairs}
+use Rattle.timetable.specs.Groups.{six}
 use Rattle.text.proofs.pairs.pair_at.Goals as goal
 
-pub returns-then-i-ge15 : goal.returns-then-i-ge15
-returns-then-i-ge15 c = no_pair c.args.i c.if-i-ge15.true
-
 pub returns : goal.returns
-returns c = pair_there c.args.i
+unfolding Lists.opened
+returns c =
+    let got : option_copied c.get.result ≡ slice_get (pairs six) c.args.i = search rules in
+    c.unwrap_or-first.ensures ∙ ap (λ o. unwrap_or o (0, 0)) (c.copied.ensures ∙ got) ∙ unwrap_or-slice_get (pairs six) c.args.i (0, 0)

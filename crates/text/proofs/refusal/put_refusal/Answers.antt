@@ -2,7 +2,6 @@
 -- nothing.
 use mathlib.Core.Path.{refl}
 use native.Mathlib.Omega.{arith}
-use borrow.Author.Rules.{rules}
 use borrow.Author.Tests.{le-leb, lt-leb}
 use Rattle.timetable.specs.Outputs.{put}
 use Rattle.text.specs.between.Lines.{refusal_at}
@@ -11,9 +10,6 @@ use Rattle.text.proofs.refusal.put_refusal.Goals as goal
 pub returns-then-place-gt16384 : goal.returns-then-place-gt16384
 unfolding refusal_at put
 returns-then-place-gt16384 c = let s = c.args in rw (lt-leb s.place 16384 c.if-place-gt16384.true) (omega arith, refl, omega arith)
-
-pub line_of-requires : goal.line_of-requires
-line_of-requires c = search rules
 
 pub returns : goal.returns
 unfolding refusal_at

@@ -4,7 +4,6 @@ use borrow.Author.Tests.{lt-ltb, le-ltb}
 use Rattle.timetable.proofs.BuffersFilled.{refused_so}
 use Rattle.listings.specs.Shift.{refusal_text}
 use Rattle.text.specs.RefusalLine.{line_refusal}
-use borrow.Author.Rules.{rules}
 use Rattle.text.proofs.refusal.refusal_line.Goals as goal
 
 pub returns-then-place-gt16384 : goal.returns-then-place-gt16384
@@ -12,9 +11,6 @@ unfolding line_refusal
 returns-then-place-gt16384 c =
     let s = c.args in
     rw (lt-ltb 16384 s.place c.if-place-gt16384.true) (refused_so (refusal_text s.number s.place) s.out.now 3 (λ e. omega arith))
-
-pub write_refusal-requires : goal.write_refusal-requires
-write_refusal-requires c = search rules
 
 pub returns : goal.returns
 unfolding line_refusal

@@ -10,19 +10,10 @@ use Rattle.text.proofs.RowLines.{rows_on, rows_length, rows_over}
 use Rattle.text.proofs.rows.put_each.Goals as goal
 
 pub loop-i-init : goal.loop-i-init
-loop-i-init c = (omega arith, omega arith, refl, refl, refl)
-
-pub overflow_mul-i : goal.overflow_mul-i
-overflow_mul-i c = omega arith
+loop-i-init c = (omega arith, refl, refl, refl)
 
 pub put_row-next-requires : goal.put_row-next-requires
 put_row-next-requires c = (omega arith, omega arith, omega arith)
-
-pub overflow_add-i : goal.overflow_add-i
-overflow_add-i c = omega arith
-
-pub loop-i-smaller : goal.loop-i-smaller
-loop-i-smaller c = omega arith
 
 pub loop-i-preserved : goal.loop-i-preserved
 loop-i-preserved c =
@@ -30,11 +21,10 @@ loop-i-preserved c =
     let l = c.loop-i in
     let w = c.put_row-next in
     let h = c.loop-i-test.true in (
-      omega arith,
       omega (arith, w.ensures.2),
-      w.auto.out ∙ l.invariant.2,
-      l.invariant.3 ∙ omega (arith, w.ensures.0, rows_length s.s.0 s.t.0 s.rows.now s.count c.requires.2 l.i h),
-      rw (w.ensures.1, w.ensures.0) (l.invariant.4 ∙ rows_on s.s.0 s.t.0 s.rows.now s.count c.requires.2 l.i l.next l.out h),
+      w.auto.out ∙ l.invariant.1,
+      l.invariant.2 ∙ omega (arith, w.ensures.0, rows_length s.s.0 s.t.0 s.rows.now s.count c.requires.2 l.i h),
+      rw (w.ensures.1, w.ensures.0) (l.invariant.3 ∙ rows_on s.s.0 s.t.0 s.rows.now s.count c.requires.2 l.i l.next l.out h),
     )
 
 pub returns : goal.returns
@@ -43,7 +33,7 @@ returns c =
     let s = c.args in
     let l = c.loop-i in
     let none = rows_over s.s.0 s.t.0 s.rows.now s.count c.requires.2 l.i c.loop-i-test.false in (
-      sym (omega (arith, l.invariant.3, ap length none)),
-      sym (l.invariant.4 ∙ ap (λ (x : List ℕ). put l.next x l.out) none),
-      omega (arith, l.invariant.0, l.invariant.1, c.requires.1),
+      sym (omega (arith, l.invariant.2, ap length none)),
+      sym (l.invariant.3 ∙ ap (λ (x : List ℕ). put l.next x l.out) none),
+      omega (arith, l.invariant.0, c.requires.1),
     )

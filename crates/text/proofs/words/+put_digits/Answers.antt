@@ -13,36 +13,12 @@ pub returns-then-left-eq0 : goal.returns-then-left-eq0
 unfolding put
 returns-then-left-eq0 t c = let s = c.args in let e = digits_none s.left s.x c.if-left-eq0.true in (rw e (omega arith), rw e, omega arith)
 
-pub overflow_add-x : goal.overflow_add-x
-overflow_add-x t c = omega arith
-
-pub overflow_cast-x : goal.overflow_cast-x
-overflow_cast-x t c = omega arith
-
-pub put_byte-requires : goal.put_byte-requires
-put_byte-requires t c = omega arith
-
 pub returns-then-x-lt10 : goal.returns-then-x-lt10
 returns-then-x-lt10 t c =
     let s = c.args in
     let e = digits_last s.left s.x c.if-left-eq0.false c.if-x-lt10.true in
     let r = c.put_byte.ensures in
     (rw e r.0, rw e r.1, omega (arith, r.0, c.if-left-eq0.false))
-
-pub overflow_sub-left : goal.overflow_sub-left
-overflow_sub-left t c = omega arith
-
-pub put_digits-next-requires : goal.put_digits-next-requires
-put_digits-next-requires t c = omega arith
-
-pub overflow_add-x-2 : goal.overflow_add-x-2
-overflow_add-x-2 t c = omega arith
-
-pub overflow_cast-x-2 : goal.overflow_cast-x-2
-overflow_cast-x-2 t c = omega arith
-
-pub put_byte-requires-2 : goal.put_byte-requires-2
-put_byte-requires-2 t c = omega arith
 
 pub returns : goal.returns
 returns t c =

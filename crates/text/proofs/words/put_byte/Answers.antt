@@ -1,13 +1,15 @@
 -- `text::words::put_byte` meets its contract: past the end nothing is set. Assumes nothing.
-use mathlib.Core.Path.{refl, sym}
+use mathlib.Core.Path.{refl, sym, ◌∙◌}
 use lib.Seq.{set_out}
 use Rattle.timetable.specs.Outputs.{put}
 use Rattle.text.proofs.words.put_byte.Goals as goal
-
-pub returns-then-at-out : goal.returns-then-at-out
-unfolding put
-returns-then-at-out c = (refl, refl)
+use Rattle.text.proofs.words.put_byte.Goals.{then-at-out, else-at-out}
 
 pub returns : goal.returns
 unfolding put
-returns c = let s = c.args in (refl, sym (set_out s.out.now s.at s.b c.if-at-out.false))
+returns c =
+    let a = c.args in
+    elim c.if-at-out.branch [
+      | then-at-out w ↦ (refl, w.out-is)
+      | else-at-out w ↦ (refl, w.out-is ∙ sym (set_out a.out.now a.at a.b w.if-at-out.false))
+    ]

@@ -2,16 +2,9 @@
 use mathlib.Core.List.{[], ◌∷◌}
 use native.Mathlib.Omega.{arith}
 use lib.ListN.{take}
-use borrow.Author.Rules.{rules}
 use Rattle.listings.specs.Text.{head, line}
 use Rattle.timetable.proofs.BuffersFilled.{put_two}
 use Rattle.text.proofs.words.put_line.Goals as goal
-
-pub put_head-end-requires : goal.put_head-end-requires
-put_head-end-requires c = search rules
-
-pub put_byte-requires : goal.put_byte-requires
-put_byte-requires c = search rules
 
 pub returns : goal.returns
 unfolding line
@@ -19,5 +12,5 @@ returns c =
     let s = c.args in
     let q = c.put_head-end.ensures in
     let r = c.put_byte.ensures in
-    let both = put_two s.at _ _ (head s.letter (take s.k s.xs)) (10 ∷ []) s.out.now _ _ q.0 q.1 r.0 r.1 in
+    let both = put_two s.at _ _ (head s.letter s.xs.now) (10 ∷ []) s.out.now _ _ q.0 q.1 r.0 r.1 in
     (both.0, both.1, omega (arith, q.2, r.0))

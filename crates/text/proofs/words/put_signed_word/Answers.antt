@@ -1,18 +1,11 @@
 -- `text::words::put_signed_word` meets its contract: a blank, and the number behind it. Assumes nothing.
 use mathlib.Core.List.{[], ◌∷◌}
 use native.Mathlib.Omega.{arith}
-use borrow.Author.Rules.{rules}
 use Rattle.listings.specs.Inspect.{signed}
 use Rattle.timetable.proofs.BuffersFilled.{put_two}
 use Rattle.text.specs.between.Rows.{signed_word}
 use Rattle.text.proofs.SignedLaws.{kept}
 use Rattle.text.proofs.words.put_signed_word.Goals as goal
-
-pub put_byte-next-requires : goal.put_byte-next-requires
-put_byte-next-requires c = search rules
-
-pub put_signed-requires : goal.put_signed-requires
-put_signed-requires c = search rules
 
 pub returns : goal.returns
 unfolding signed_word

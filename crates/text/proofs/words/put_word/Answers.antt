@@ -1,16 +1,9 @@
 -- `text::words::put_word` meets its contract: a blank and digits, one behind the other. Assumes nothing.
 use mathlib.Core.List.{[], ◌∷◌}
 use native.Mathlib.Omega.{arith}
-use borrow.Author.Rules.{rules}
 use Rattle.listings.specs.Text.{digits, decimal, word}
 use Rattle.timetable.proofs.BuffersFilled.{put_two}
 use Rattle.text.proofs.words.put_word.Goals as goal
-
-pub put_byte-next-requires : goal.put_byte-next-requires
-put_byte-next-requires c = search rules
-
-pub put_digits-requires : goal.put_digits-requires
-put_digits-requires c = search rules
 
 pub returns : goal.returns
 unfolding word decimal
