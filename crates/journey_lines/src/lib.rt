@@ -26,10 +26,7 @@ use timetable::Output;
 fn expected(stored: Minute) -> Minute
     ensures { result.0 ≡ min (stored.0 + 5) last_minute }
 {
-    if Minute::LAST - 5 < stored.0 {
-        return Minute(Minute::LAST);
-    }
-    Minute(stored.0 + 5)
+    Minute(stored.0.saturating_add(5).min(Minute::LAST))
 }
 
 // The projection from a visit that the sheet holds.
@@ -65,15 +62,12 @@ fn put_visits(out: &mut [u8], at: usize, sheet: &[u8], n: Network, s: Station) -
 {
     let first = 512 * (bytes::size(s.0) - 1);
     let part = &sheet[first..first + 512];
-    let k = page::visit_count(part);
     let mut next = at;
-    let mut i: usize = 0;
-    while i < k {
+    for i in 0..page::visit_count(part) {
         let r = entries::entry_record(part, i);
         let t = record::train_in(r);
         let v = record::visit_in(r);
         next = put_projection(out, next, sheet, n, s, t, v);
-        i += 1;
     }
     next
 }

@@ -8,20 +8,11 @@ use Rattle.text.proofs.PutParts.{puts_as}
 use Rattle.area_lines.proofs.AreaLists.{nothing_put, divided_fine, no_area, own-refused, own-roomy, own-low, own-printed}
 use Rattle.area_lines.proofs.area_in.Goals as goal
 
-pub divide-refused-requires : goal.divide-refused-requires
-divide-refused-requires c = search rules
-
 pub returns-then-refused-ne0 : goal.returns-then-refused-ne0
 returns-then-refused-ne0 c =
     let s = c.args in
     let d = c.divide-refused in
     nothing_put _ s.out.now (30 * findings_most) (no_area s.n s.sheet.now _ c.requires.1 d.result d.ensures.0 c.if-refused-ne0.true s.a)
-
-pub area_sheet-requires : goal.area_sheet-requires
-area_sheet-requires c = search rules
-
-pub area_findings-listed-requires : goal.area_findings-listed-requires
-area_findings-listed-requires c = search rules
 
 pub put_list-requires : goal.put_list-requires
 put_list-requires c =

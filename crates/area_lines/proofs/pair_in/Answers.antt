@@ -7,23 +7,11 @@ use Rattle.text.proofs.PutParts.{puts_as}
 use Rattle.area_lines.proofs.AreaLists.{nothing_put, divided_fine, no_pair, two_refused, two-roomy, two-low, two-printed}
 use Rattle.area_lines.proofs.pair_in.Goals as goal
 
-pub divide-refused-requires : goal.divide-refused-requires
-divide-refused-requires c = search rules
-
 pub returns-then-refused-ne0 : goal.returns-then-refused-ne0
 returns-then-refused-ne0 c =
     let s = c.args in
     let d = c.divide-refused in
     nothing_put _ s.out.now (30 * findings_most) (no_pair s.n s.sheet.now _ c.requires.1 d.result d.ensures.0 c.if-refused-ne0.true s.a s.b)
-
-pub area_sheet-first-requires : goal.area_sheet-first-requires
-area_sheet-first-requires c = search rules
-
-pub area_sheet-second-requires : goal.area_sheet-second-requires
-area_sheet-second-requires c = search rules
-
-pub pair_findings-listed-requires : goal.pair_findings-listed-requires
-pair_findings-listed-requires c = search rules
 
 pub put_list-requires : goal.put_list-requires
 put_list-requires c =

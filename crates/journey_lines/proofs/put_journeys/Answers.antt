@@ -11,9 +11,6 @@ use Rattle.journey_lines.specs.between.Journeys.{journey_lines}
 use Rattle.journey_lines.proofs.JourneyLines.{journeys_there}
 use Rattle.journey_lines.proofs.put_journeys.Goals as goal
 
-pub sheet_refusal-refused-requires : goal.sheet_refusal-refused-requires
-sheet_refusal-refused-requires c = search rules
-
 pub returns-then-refused-ne0 : goal.returns-then-refused-ne0
 unfolding journey_lines put
 returns-then-refused-ne0 c =

@@ -15,9 +15,6 @@ use Rattle.findings.proofs.ListedSheet.{fine_network}
 use Rattle.journey_lines.proofs.JourneyLines.{count_high, row_listed, rows_journeys}
 use Rattle.journey_lines.proofs.put_stations.Goals as goal
 
-pub size-k-requires : goal.size-k-requires
-size-k-requires c = search rules
-
 pub loop-i-init : goal.loop-i-init
 loop-i-init c = (omega arith, omega arith, refl, (refl, refl))
 
@@ -39,12 +36,6 @@ put_visits-next-requires c =
       c.requires,
       row_listed s.n net (decode_sheet s.sheet.now) l.i (omega (arith, h, k.ensures.0)) many,
     )
-
-pub overflow_add-i : goal.overflow_add-i
-overflow_add-i c = omega arith
-
-pub loop-i-smaller : goal.loop-i-smaller
-loop-i-smaller c = omega arith
 
 pub loop-i-preserved : goal.loop-i-preserved
 loop-i-preserved c =

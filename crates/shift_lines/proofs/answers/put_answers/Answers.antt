@@ -16,27 +16,9 @@ loop-i-init c =
     let all : s.count - 0 ≡ s.count = omega arith in
     (omega arith, omega arith, refl, rw all c.requires.2, rw all (left_start 0 _ _), rw all)
 
-pub overflow_cast-i : goal.overflow_cast-i
-overflow_cast-i c = search rules
-
 pub answer_at-a-requires : goal.answer_at-a-requires
 answer_at-a-requires c =
     (omega (arith, c.loop-i-test.true, c.requires.0), omega (arith, c.loop-i-test.true, c.requires.1))
-
-pub overflow_add-i : goal.overflow_add-i
-overflow_add-i c = omega arith
-
-pub put_answer-at-requires : goal.put_answer-at-requires
-put_answer-at-requires c = omega arith
-
-pub count_next-counted-requires : goal.count_next-counted-requires
-count_next-counted-requires c = search rules
-
-pub overflow_add-i-in-loop-i : goal.overflow_add-i-in-loop-i
-overflow_add-i-in-loop-i c = omega arith
-
-pub loop-i-smaller : goal.loop-i-smaller
-loop-i-smaller c = omega arith
 
 pub loop-i-preserved : goal.loop-i-preserved
 loop-i-preserved c =

@@ -12,20 +12,11 @@ use Rattle.shift_lines.proofs.ListingLines.{text_put}
 use borrow.Author.Rules.{rules}
 use Rattle.shift_lines.proofs.listing.put_listing.Goals as goal
 
-pub put_refusal-requires : goal.put_refusal-requires
-put_refusal-requires c = search rules
-
 pub returns-then-input-gt16384 : goal.returns-then-input-gt16384
 returns-then-input-gt16384 c =
     let s = c.args in
     let w = c.put_refusal in
     text_put s.input.now _ w.result 68 _ _ (shift_long s.input.now c.if-input-gt16384.true ∙ sym (refusal_there 5 0 (omega arith))) (omega arith) w.ensures
-
-pub read_shift-r-requires : goal.read_shift-r-requires
-read_shift-r-requires c = search rules
-
-pub put_refusal-requires-then-r-ne0 : goal.put_refusal-requires-then-r-ne0
-put_refusal-requires-then-r-ne0 c = search rules
 
 pub returns-then-r-ne0 : goal.returns-then-r-ne0
 returns-then-r-ne0 c =
@@ -34,9 +25,6 @@ returns-then-r-ne0 c =
     let w = c.put_refusal-then-r-ne0 in
     let told = shift_faulty s.input.now r.result r.ensures c.if-r-ne0.true c.if-input-gt16384.false in
     text_put s.input.now _ w.result 68 _ _ (told.1 ∙ sym (refusal_there r.result.refusal r.result.place told.0)) (omega arith) w.ensures
-
-pub width_of-width-requires : goal.width_of-width-requires
-width_of-width-requires c = search rules
 
 pub overflow_sub-at : goal.overflow_sub-at
 overflow_sub-at c =
@@ -63,12 +51,6 @@ slice_bounds-put_run-start c =
     let h = shift_held s.input.now r.result r.ensures (λ i. omega (arith, c.type_inv.input i)) c.if-r-ne0.false in
     let there : r.result.first - w.result ≤ length s.input.now = omega (arith, w.ensures, h.within) in
     there
-
-pub slice_bounds-put_run-end : goal.slice_bounds-put_run-end
-slice_bounds-put_run-end c = search rules
-
-pub overflow_cast-count : goal.overflow_cast-count
-overflow_cast-count c = search rules
 
 pub put_run-requires : goal.put_run-requires
 put_run-requires c =

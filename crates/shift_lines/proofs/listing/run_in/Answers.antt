@@ -16,9 +16,6 @@ use Rattle.shift_lines.proofs.EditsRun.{division_run, answers_told}
 use Rattle.shift_lines.proofs.ListingLines.{left_known, run-put}
 use Rattle.shift_lines.proofs.listing.run_in.Goals as goal
 
-pub run_list-requires : goal.run_list-requires
-run_list-requires c = search rules
-
 pub put_answers-progress-requires : goal.put_answers-progress-requires
 put_answers-progress-requires c =
     let s = c.args in

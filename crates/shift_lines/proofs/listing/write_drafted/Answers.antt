@@ -7,12 +7,6 @@ use Rattle.text.proofs.OutputLaws.{left_short, put_counted, handed}
 use borrow.Author.Rules.{rules}
 use Rattle.shift_lines.proofs.listing.write_drafted.Goals as goal
 
-pub put_listing-needed-requires : goal.put_listing-needed-requires
-put_listing-needed-requires c = search rules
-
-pub hand_over-requires : goal.hand_over-requires
-hand_over-requires c = search rules
-
 pub returns-then-needed-draft : goal.returns-then-needed-draft
 returns-then-needed-draft c =
     let s = c.args in
@@ -24,9 +18,6 @@ pub returns-then-out-needed : goal.returns-then-out-needed
 returns-then-out-needed c =
     let s = c.args in
     left_short (shift_text s.input.now) s.out.now shift_most _ _ _ c.put_listing-needed.ensures c.if-out-needed.true
-
-pub put_listing-requires : goal.put_listing-requires
-put_listing-requires c = search rules
 
 pub returns : goal.returns
 returns c =

@@ -6,19 +6,7 @@ use Rattle.text.proofs.OutputLaws.{put_at_once}
 use borrow.Author.Rules.{rules}
 use Rattle.shift_lines.proofs.listing.write_listing.Goals as goal
 
-pub put_listing-length-requires : goal.put_listing-length-requires
-put_listing-length-requires c = search rules
-
 pub returns-then-out-ge-MOST : goal.returns-then-out-ge-MOST
 returns-then-out-ge-MOST c =
     let s = c.args in
     put_at_once (shift_text s.input.now) s.out.now shift_most _ _ c.put_listing-length.ensures c.if-out-ge-MOST.true
-
-pub slice_bounds-write_drafted-end : goal.slice_bounds-write_drafted-end
-slice_bounds-write_drafted-end c = search rules
-
-pub write_drafted-requires : goal.write_drafted-requires
-write_drafted-requires c = search rules
-
-pub returns : goal.returns
-returns c = search rules
