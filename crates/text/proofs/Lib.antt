@@ -5,4 +5,3 @@ pub mod RowLines
 pub mod PutParts
 pub mod OutputLaws
 pub mod WithinBounds
-pub mod PairAreas

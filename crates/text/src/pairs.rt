@@ -5,7 +5,7 @@ ghost use Rattle.timetable.specs.Groups.{six};
 
 use railway::sorts::Area;
 
-#[derive(Clone, Copy)]
+#[derive(Clone, Copy, Debug, PartialEq, Eq, Hash)]
 pub struct Pair {
     pub first: Area,
     pub second: Area,

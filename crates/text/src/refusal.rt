@@ -1,12 +1,12 @@
 // "A file refusal prints only R, number, place."
 ghost use Rattle.std.specs.Prelude.{◌≡◌, ◌≤◌};
-ghost use Rattle.timetable.specs.Outputs.{Puts, reply, output, output_after};
+ghost use Rattle.timetable.specs.Outputs.{Puts, reply_of, output, output_after};
 ghost use Rattle.listings.specs.Shift.{refusal_text};
 ghost use Rattle.text.specs.RefusalLine.{line_refusal};
 ghost use Rattle.text.specs.between.Lines.{refusal_at};
 
 use crate::{draft, words};
-use timetable::Output;
+use base::refusal::{OutputError, Refusal};
 
 // The line from the start on.
 #[tactic(auto, unfolding(listings::specs::Shift::refusal_text))]
@@ -27,22 +27,13 @@ pub fn put_refusal(out: &mut [u8], number: u8, place: usize) -> usize
     line_of(out, number, place)
 }
 
-// The line into a lent buffer, which is left as it was where it is too short.
-fn write_refusal(out: &mut [u8], number: u8, place: usize) -> Output
-    requires { place ≤ 16384 }
-    ensures { (reply result ≡ output 0 (refusal_text number place) out.old)
-        × (out.new ≡ output_after 0 (refusal_text number place) out.old) }
-{
-    draft::drafted(out, 68, &mut [], |buffer| line_of(buffer, number, place))
-}
-
 // The line of a refusal; 3 for a place that no input has.
-pub fn refusal_line(number: u8, place: usize, out: &mut [u8]) -> Output
-    ensures { (reply result ≡ output (line_refusal place) (refusal_text number place) out.old)
+pub fn refusal_line(number: u8, place: usize, out: &mut [u8]) -> Result<usize, OutputError>
+    ensures { (reply_of result ≡ output (line_refusal place) (refusal_text number place) out.old)
         × (out.new ≡ output_after (line_refusal place) (refusal_text number place) out.old) }
 {
     if 16384 < place {
-        return Output::Refused(3);
+        return Err(OutputError::Refused(Refusal::OutOfRange));
     }
-    write_refusal(out, number, place)
+    draft::drafted(out, 68, &mut [], |buffer| line_of(buffer, number, place))
 }

@@ -1,7 +1,6 @@
 -- `text::words::put_line` meets its contract: the head, and the newline behind it. Assumes nothing.
 use mathlib.Core.List.{[], ◌∷◌}
 use native.Mathlib.Omega.{arith}
-use lib.ListN.{take}
 use Rattle.listings.specs.Text.{head, line}
 use Rattle.timetable.proofs.BuffersFilled.{put_two}
 use Rattle.text.proofs.words.put_line.Goals as goal
