@@ -7,31 +7,29 @@ ghost use Rattle.std.specs.Prelude.{◌≡◌, ◌<◌, ◌≤◌, length, take,
 ghost use Rattle.console.specs.Printed.{printed};
 ghost use Rattle.console.specs.Filled.{ReadPart};
 
+use base::refusal::OutputError;
 use std::io;
 use std::io::{Read, Write};
-use timetable::Output;
 
 // The head of the buffer that the call wrote, nothing where it was refused.
 #[tactic(auto, unfolding(crate::specs::Printed::printed))]
-fn written(out: &[u8], output: Output) -> &[u8]
+fn written(out: &[u8], output: Result<usize, OutputError>) -> &[u8]
     ensures text { result.now ≡ take (printed output out.now) out.now }
     ensures count { length result.now ≡ printed output out.now }
 {
     match output {
-        Output::Written(k) => {
-            if k <= out.len() {
-                return &out[..k];
-            }
-            &out[..0]
-        }
-        Output::Refused(_k) => &out[..0],
-        Output::TooShort(_k) => &out[..0],
+        Ok(k) if k <= out.len() => &out[..k],
+        _ => &[],
     }
 }
 
 // Writes what the call wrote; answers how many bytes that is. An error, which only the writer brings, leaves open how
 // many of them were written; where there are none to write, none comes.
-pub fn print<W: Write>(writer: &mut W, out: &[u8], output: Output) -> io::Result<usize>
+pub fn print<W: Write>(
+    writer: &mut W,
+    out: &[u8],
+    output: Result<usize, OutputError>,
+) -> io::Result<usize>
     ensures count { IfOk result (λ n. n ≡ printed output out.now) }
     ensures bytes { OnOk result (Appends (W.contents writer.old) (W.contents writer.new) (take (printed output out.now) out.now)) }
     ensures err { OnErr result (0 < printed output out.now) }
@@ -53,6 +51,7 @@ pub fn read_full<R: Read>(reader: &mut R, buffer: &mut [u8]) -> io::Result<usize
     ensures err { OnErr result (ReadPart (R.remaining reader.old) (R.remaining reader.new) buffer.new) }
 {
     let mut at = 0;
+    // a `while`, as each read takes as many bytes as the reader gives
     while at < buffer.len() {
         let n = reader.read(&mut buffer[at..])?;
         if n == 0 {
