@@ -2,7 +2,7 @@
 -- the answer of a row says of its outcome; entries with their places, and the end of a file. Assumes nothing.
 use Prim.Native.Nat.{ℕ, zero, suc, ◌+◌, ◌-◌, ◌%◌, ◌<◌, ◌≤◌, max}
 use mathlib.Core.Path.{◌≡◌, refl, sym, ◌∙◌, ap}
-use mathlib.Core.Bool.{Bool, true, false, false≢true, ◌&&◌}
+use mathlib.Core.Bool.{Bool, true, false, ◌&&◌}
 use mathlib.Core.List.{List, [], ◌∷◌, ◌++◌, map}
 use native.Mathlib.Omega.{arith}
 use lib.Dec.{leb}
@@ -10,11 +10,10 @@ use lib.ListN.{length, get_or, drop, replicate}
 use borrow.Author.Tests.{leb-true, le-leb, lt-leb}
 use Rattle.std.specs.Prelude.{if◌then◌else◌}
 use Rattle.numbers.specs.Numbers.{NumberRead, Value, Refused, read_number}
-use Rattle.timetable.specs.Formats.{Format, done, field, Outcome, accepted, refused, ◌and_then◌, placed_field, field_at, behind, read, ended, Range, ◌to◌, least, floor_after}
+use Rattle.timetable.specs.Formats.{Format, done, field, accepted, refused, ◌and_then◌, placed_field, field_at, behind, read, ended, Range, ◌to◌, least, floor_after}
 use Rattle.timetable.specs.Formats.{compared, row, entries, placed}
 use Rattle.timetable.proofs.OutcomeLaws.{clash, behind_taken}
-use Rattle.fields.specs.declared.field.RowRead.{RowRead}
-use Rattle.fields.specs.between.Answers.{padded, row_read}
+use Rattle.fields.specs.between.Answers.{padded}
 use Rattle.fields.proofs.ReadLaws.{read_then}
 
 pub field_bounded : (lo hi : ℕ) (file : List ℕ) (at n next : ℕ) → field_at lo hi file at ≡ accepted n next → (lo ≤ n) × (n ≤ hi)
@@ -79,24 +78,6 @@ padded_at k ns i = go (k - length ns) ns i
     go m (n ∷ ns) zero = refl
     go m (n ∷ ns) (suc i) = go m ns i
 
-module _ (o : Outcome (List ℕ)) (r : RowRead) (e : r ≡ row_read o) where
-  -- an accepted row: its numbers stand in the first places
-  pub row_value : r.accepted ≡ true → (ns : List ℕ) × (o ≡ accepted ns r.place) × (r.values ≡ padded 13 0 ns)
-  unfolding row_read
-  row_value t = go o e
-    where
-      go : (o : Outcome (List ℕ)) → r ≡ row_read o → (ns : List ℕ) × (o ≡ accepted ns r.place) × (r.values ≡ padded 13 0 ns)
-      go (accepted ns next) q = (ns, ap (accepted ns) (ap (λ (x : RowRead). x.place) (sym q)), ap (λ (x : RowRead). x.values) q)
-      go (refused k p) q = absurd (false≢true (sym (ap (λ (x : RowRead). x.accepted) q) ∙ t))
-
-  pub row_refusal : r.accepted ≡ false → o ≡ refused r.refusal r.place
-  unfolding row_read
-  row_refusal t = go o e
-    where
-      go : (o : Outcome (List ℕ)) → r ≡ row_read o → o ≡ refused r.refusal r.place
-      go (accepted ns next) q = absurd (false≢true (sym t ∙ ap (λ (x : RowRead). x.accepted) q))
-      go (refused k p) q = rw q
-
 -- what is read and made into something
 module _ {A B : Type 0} (make : B → A) (f : Format B) (file : List ℕ) (at : ℕ) where
   pub made : (b : B) (next : ℕ) → read f file at ≡ accepted b next → read (f and_then (λ b. done (make b))) file at ≡ accepted (make b) next
@@ -126,23 +107,6 @@ module _ {A : Type 0} (lo hi : ℕ) (f : ℕ → Format A) (file : List ℕ) (at
   pub field_stop : (k p : ℕ) → field_at lo hi file at ≡ refused k p → read (field lo hi f) file at ≡ refused k p
   unfolding read behind
   field_stop k p e = rw e
-
--- what is known of an accepted row: its numbers stand in the first places, each at most its range's last
-pub record RowTaken (rs : List Range) (file : List ℕ) (at : ℕ) (r : RowRead) : Type 0 where
-  pub numbers : List ℕ
-  pub outcome : read (row rs []) file at ≡ accepted numbers r.place
-  pub stored : r.values ≡ padded 13 0 numbers
-  pub at_most : (i : ℕ) → get_or r.values i 0 ≤ get_or (map (λ r. r.hi) rs) i 0
-
-pub row_took : (rs : List Range) (file : List ℕ) (at : ℕ) (r : RowRead) → r ≡ row_read (read (row rs []) file at) → r.accepted ≡ true → RowTaken rs file at r
-row_took rs file at r e t =
-    let (ns, u, v) = row_value (read (row rs []) file at) r e t in
-    record {
-      numbers = ns;
-      outcome = u;
-      stored = v;
-      at_most = λ i. rw (v, padded_at 13 ns i) (row_bounded rs [] file at ns r.place u i);
-    }
 
 -- an entry with its place
 module _ {A : Type 0} (f : Format A) (file : List ℕ) (at : ℕ) where

@@ -1,33 +1,31 @@
 -- Numbers put into a buffer: their bytes one list behind the other, the places near enough, and rows put one by one.
 -- Assumes nothing.
-use Prim.Native.Nat.{ℕ, ◌+◌, ◌≤◌, ◌<◌, min}
+use Prim.Native.Nat.{ℕ, ◌+◌, ◌≤◌, ◌<◌}
 use mathlib.Core.Path.{◌≡◌, refl, sym, ◌∙◌, ap}
 use mathlib.Core.List.{List, [], ◌∷◌, ◌++◌, flat_map, append-nil, append_assoc}
 use native.Mathlib.Omega.{arith}
-use lib.ListN.{length, get_or, take, drop}
+use lib.ListN.{length, get_or, take}
 use borrow.Author.Tests.{le-leb, lt-leb}
 use Rattle.numbers.specs.Numbers.{write_number}
-use Rattle.network.proofs.RowsInUse.{used_rows}
 use Rattle.timetable.specs.Formats.{bytes_of}
 use Rattle.timetable.specs.Outputs.{put}
-use Rattle.timetable.proofs.BuffersFilled.{put_two, each_on, each_length, each_over}
+use Rattle.timetable.proofs.BuffersFilled.{put_two}
+use Rattle.std.proofs.lemmas.List.{take_all, take_more}
 use Rattle.fields.specs.between.Putting.{place_behind, put_from, Puts, Places}
 
--- the bytes of one number, of two rows of numbers, and of a row for each element
+-- the bytes of one number, and of two rows of numbers
 pub bytes_one : (x : ℕ) → bytes_of (x ∷ []) ≡ write_number x
 unfolding bytes_of flat_map
 bytes_one x = append-nil (write_number x)
 
-pub bytes_two : (xs ys : List ℕ) → bytes_of (xs ++ ys) ≡ bytes_of xs ++ bytes_of ys
-unfolding bytes_of flat_map
-bytes_two [] ys = refl
-bytes_two (x ∷ xs) ys =
-    ap (λ (l : List ℕ). write_number x ++ l) (bytes_two xs ys) ∙ sym (append_assoc (write_number x) (bytes_of xs) (bytes_of ys))
+flat_append : {A B : Type 0} (f : A → List B) (xs ys : List A) → flat_map f (xs ++ ys) ≡ flat_map f xs ++ flat_map f ys
+unfolding flat_map
+flat_append f [] ys = refl
+flat_append f (x ∷ xs) ys = ap (λ (l : List _). f x ++ l) (flat_append f xs ys) ∙ sym (append_assoc (f x) (flat_map f xs) (flat_map f ys))
 
-pub bytes_each : {A : Type 0} (f : A → List ℕ) (rows : List A) → bytes_of (flat_map f rows) ≡ flat_map (λ r. bytes_of (f r)) rows
-unfolding bytes_of flat_map
-bytes_each f [] = refl
-bytes_each f (r ∷ rows) = bytes_two (f r) (flat_map f rows) ∙ ap (λ (l : List ℕ). bytes_of (f r) ++ l) (bytes_each f rows)
+pub bytes_two : (xs ys : List ℕ) → bytes_of (xs ++ ys) ≡ bytes_of xs ++ bytes_of ys
+unfolding bytes_of
+bytes_two xs ys = flat_append write_number xs ys
 
 -- a place that is not beyond the last
 module _ (at : ℕ) (ns : List ℕ) (before : List ℕ) (r : ℕ) (after : List ℕ) (k : ℕ) where
@@ -62,30 +60,32 @@ places_two at r s xs ys b c d j k (p, u, h) (q, v, i) =
     let (x, y) = put_two at r s (bytes_of xs) (bytes_of ys) b c d p u q v in
     rw (bytes_two xs ys) (x, y, omega arith)
 
--- k rows are in use, each written as the numbers f, from the place `at` of the buffer b₀ on
-module _ {A : Type 0} (f : A → List ℕ) (rows : List A) (k at : ℕ) (b₀ : List ℕ) where
-  abbrev bytes : List A → List ℕ
-  bytes = flat_map (λ r. bytes_of (f r))
+-- numbers put one by one, as far as an index
+module _ (row : List ℕ) (i at : ℕ) where
+  pub numbers_more : i < length row → (next later : ℕ) (b c d : List ℕ) (j k : ℕ) → Places at (take i row) b next c j
+      → (later ≡ next + length (write_number (get_or row i 0))) × (d ≡ put next (write_number (get_or row i 0)) c) × (later ≤ next + k)
+      → Places at (take (i + 1) row) b later d (j + k)
+  numbers_more h next later b c d j k p (q, r, s) =
+      let one = bytes_one (get_or row i 0) in
+      rw (take_more row i 0 h) (places_two at next later (take i row) (get_or row i 0 ∷ []) b c d j k p (rw one q, rw one r, s))
 
-  -- what all of them would write is what those from i on still write into b, from the place reached
-  abbrev pub Left : ℕ → ℕ → List ℕ → Type 0
-  Left i next b =
-      (at + length (bytes (take k rows)) ≡ next + length (bytes (drop i (take k rows))))
-      × (put at (bytes (take k rows)) b₀ ≡ put next (bytes (drop i (take k rows))) b)
+  pub numbers_all : length row ≤ i → (next : ℕ) (b c : List ℕ) (j k : ℕ) → j ≤ k → Places at (take i row) b next c j → Places at row b next c k
+  numbers_all h next b c j k m p = let (q, r, s) = rw (take_all i row h) at p in (q, r, omega arith)
 
-  module _ (fits : k ≤ length rows) (i : ℕ) (y : A) (next : ℕ) (b : List ℕ) (left : Left i next b) where
-    pub row_put : i < k → (later : ℕ) (c : List ℕ) → later ≡ next + length (bytes_of (f (get_or rows i y))) → c ≡ put next (bytes_of (f (get_or rows i y))) b
-        → Left (i + 1) later c
-    row_put h later c e p = (
-      left.0 ∙ omega (arith, e, each_length (λ r. bytes_of (f r)) rows k fits i y h),
-      rw (p, e) (left.1 ∙ each_on (λ r. bytes_of (f r)) rows k fits i y next b h),
-    )
+-- nothing put, and rows put one behind the other, each as the numbers f
+pub places_none : (at : ℕ) (b : List ℕ) → Places at [] b at b 0
+unfolding bytes_of flat_map put
+places_none at b = (omega arith, refl, omega arith)
 
-    pub rows_put : k ≤ i → (count many : ℕ) → length rows ≡ many → k ≡ min count many
-        → (next ≡ at + length (bytes_of (flat_map f (take count rows)))) × (b ≡ put at (bytes_of (flat_map f (take count rows))) b₀)
-    unfolding put
-    rows_put h count many m e =
-        let all : bytes_of (flat_map f (take count rows)) ≡ bytes (take k rows) =
-        ap (λ (l : List A). bytes_of (flat_map f l)) (used_rows rows count many k m e) ∙ bytes_each f (take k rows) in
-        let none = each_over (λ r. bytes_of (f r)) rows k fits i y h in
-        (sym (rw all (omega (arith, rw none at left.0))), sym (rw all (rw none at left.1)))
+module _ {A : Type 0} (f : A → List ℕ) (rows : List A) (i at : ℕ) (y : A) where
+  pub places_more : i < length rows → (next later : ℕ) (b c d : List ℕ) (j k : ℕ) → Places at (flat_map f (take i rows)) b next c j
+      → Places next (f (get_or rows i y)) c later d k → Places at (flat_map f (take (i + 1) rows)) b later d (j + k)
+  unfolding flat_map
+  places_more h next later b c d j k p q = rw one_more (places_two at next later (flat_map f (take i rows)) (f (get_or rows i y)) b c d j k p q)
+    where
+      one_more : flat_map f (take (i + 1) rows) ≡ flat_map f (take i rows) ++ f (get_or rows i y)
+      one_more = ap (flat_map f) (take_more rows i y h) ∙ flat_append f (take i rows) (get_or rows i y ∷ []) ∙ ap (λ (l : List ℕ). flat_map f (take i rows) ++ l) (append-nil (f (get_or rows i y)))
+
+pub places_all : {A : Type 0} (f : A → List ℕ) (rows : List A) (i at next : ℕ) (b c : List ℕ) (j k : ℕ) → length rows ≤ i → j ≤ k
+    → Places at (flat_map f (take i rows)) b next c j → Places at (flat_map f rows) b next c k
+places_all f rows i at next b c j k h m p = let (q, r, s) = rw (take_all i rows h) at p in (q, r, omega arith)

@@ -7,8 +7,12 @@ use native.Mathlib.Omega.{arith}
 use lib.ListN.{length, get_or, set, take, drop, replicate, length-append, length-take, drop_of_length-le}
 use lib.Seq.{append_snoc, set-append_seam, get_or-take}
 use Rattle.base.proofs.Lengths.{drop_next}
+use Rattle.base.specs.RefusalNumbers.{number_of}
+use Rattle.base.specs.declared.refusal.FileError.{FileError}
+use Rattle.std.specs.Prelude.{Result, IsErrAnd}
+use Rattle.std.proofs.lemmas.Result.{err_from_is_err_and}
 use Rattle.timetable.specs.Formats.{Format, done, field, here, Outcome, accepted, refused, ◌and_then◌, field_at, behind, read, Range, least, floor_after, compared, row, entries}
-use Rattle.fields.specs.between.Answers.{padded}
+use Rattle.fields.specs.between.Answers.{outcome, padded}
 
 -- one format and then another
 pub read_then : {A B : Type 0} (f : Format A) (g : A → Format B) (file : List ℕ) (at : ℕ)
@@ -22,6 +26,10 @@ read_then (field lo hi f) g file at = go (field_at lo hi file at) (λ n next. re
     go (accepted n next) ih = ih n next
     go (refused k p) ih = refl
 read_then (here f) g file at = read_then (f at) g file at
+
+-- what the exit of a `?` answers
+pub refused_told : {A : Type 0} (r : Result (A × ℕ) FileError) (e : FileError) → IsErrAnd r (λ y. y ≡ e) → outcome r ≡ refused (number_of e.refusal) e.place
+refused_told r e h = let p = err_from_is_err_and r h in rw (p.1, p.2)
 
 -- elements before the others
 unfoldable pub prefixed : {A : Type 0} → List A → Outcome (List A) → Outcome (List A)
@@ -78,6 +86,11 @@ unfolding padded
 padded_next k d xs i a e h =
     let m : k - length xs ≡ suc (k - length (xs ++ (a ∷ []))) = omega (arith, length-append xs (a ∷ [])) in
     rw (← e, m) (set-append_seam xs d (replicate (k - length (xs ++ (a ∷ []))) d) a ∙ sym (append_snoc xs a (replicate (k - length (xs ++ (a ∷ []))) d)))
+
+-- as many elements as there are places
+pub padded_full : {A : Type 0} (k : ℕ) (d : A) (xs : List A) → k ≤ length xs → padded k d xs ≡ xs
+unfolding padded
+padded_full k d xs h = let e : k - length xs ≡ 0 = omega arith in rw e (append-nil xs)
 
 -- rows
 

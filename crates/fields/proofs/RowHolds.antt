@@ -1,50 +1,33 @@
--- A row that holds numbers has them in use; and the numbers of a row copied one by one to the front of another: what
--- was copied and what is left are the numbers to copy. Assumes nothing.
-use Prim.Native.Nat.{ℕ, ◌+◌, ◌-◌, ◌<◌, ◌≤◌, min}
-use mathlib.Core.Path.{◌≡◌, refl, sym, ◌∙◌, ap}
-use mathlib.Core.List.{List, [], ◌∷◌, ◌++◌, append-nil}
+-- A row that holds numbers has them in use; and numbers copied in front of zeros. Assumes nothing.
+use Prim.Native.Nat.{ℕ, ◌+◌, ◌-◌, ◌<◌, min}
+use mathlib.Core.Path.{◌≡◌, refl, ◌∙◌, ap}
+use mathlib.Core.List.{List, [], ◌∷◌, ◌++◌}
 use native.Mathlib.Omega.{arith}
-use lib.ListN.{length, get_or, set, take, drop, replicate, length-append}
-use lib.Seq.{append_snoc, take_at, drop-drop}
+use lib.ListN.{length, set, take, drop, replicate, length-append}
+use Rattle.std.proofs.lemmas.List.{length-take-le, drop-replicate}
 use Rattle.network.proofs.RowsInUse.{used_rows}
-use Rattle.fields.specs.declared.field.Numbers.{Numbers}
+use lib.Seq.{take_at}
+use Rattle.fields.specs.declared.put.Numbers.{Numbers}
 use Rattle.fields.specs.between.Answers.{padded, in_use, row_of}
-use Rattle.fields.proofs.ReadLaws.{padded_next, used_next, used_over}
+use Rattle.fields.proofs.ReadLaws.{padded_next}
 
 pub row_held : {r : Numbers} {ns : List ℕ} → r ≡ row_of ns → in_use r ≡ ns
 unfolding in_use row_of padded
 row_held {r} {ns} e = ap in_use e ∙ take_at ns (replicate (13 - length ns) 0) (length ns) refl
 
--- the numbers of `values` from `first` up to `to`, copied up to the index i: `count` of them, with zeros behind
-pub record Copied (values : List ℕ) (first to i count : ℕ) (copy : List ℕ) : Type 0 where
-  pub elements : List ℕ
-  pub many : length elements ≡ count
-  pub stored : copy ≡ padded 13 0 elements
-  pub left : elements ++ drop i (take to values) ≡ drop first (take to values)
+pub row_new : (row : List ℕ) (k : ℕ) → k ≡ min (length row) 13 → (copy : List ℕ) → copy ≡ take k row
+    → ◌≡◌ {A = Numbers} (record { count = k; values = copy ++ drop k (replicate 13 0) }) (row_of (take 13 row))
+unfolding row_of padded
+row_new row k e copy p =
+    let few : take 13 row ≡ take k row = used_rows row 13 (length row) k refl (omega arith) in
+    let many : length (take k row) ≡ k = length-take-le k row (omega arith) in
+    rw (few, many, p, drop-replicate {X = ℕ} k 13 0)
 
-module _ (values : List ℕ) (first to : ℕ) where
-  unfoldable pub copied_none : Copied values first to first 0 (padded 13 0 [])
-  copied_none = record { elements = []; many = refl; stored = refl; left = refl }
+pub row_with : (r : Numbers) (x : ℕ) (ns : List ℕ) → r ≡ row_of ns → length ns < 13
+    → ◌≡◌ {A = Numbers} (record { count = r.count + 1; values = set r.values r.count x }) (row_of (ns ++ (x ∷ [])))
+unfolding row_of
+row_with r x ns e h = rw (e, padded_next 13 0 ns (length ns) x refl h, length-append ns (x ∷ []))
 
-  module _ (fits : to ≤ length values) (i count : ℕ) (copy : List ℕ) (c : Copied values first to i count copy) where
-    pub copied_next : i < to → count < 13 → Copied values first to (i + 1) (count + 1) (set copy count (get_or values i 0))
-    copied_next h room = record {
-      elements = c.elements ++ (get_or values i 0 ∷ []);
-      many = length-append c.elements (get_or values i 0 ∷ []) ∙ omega (arith, c.many);
-      stored = ap (λ (l : List ℕ). set l count (get_or values i 0)) c.stored ∙ padded_next 13 0 c.elements count (get_or values i 0) c.many room;
-      left = append_snoc c.elements (get_or values i 0) (drop (i + 1) (take to values)) ∙ ap (λ (l : List ℕ). c.elements ++ l) (sym (used_next values to fits i 0 h)) ∙ c.left;
-    }
-
-    pub copied_all : to ≤ i → record { from = 0; to = count; values = copy } ≡ row_of (drop first (take to values))
-    unfolding row_of
-    copied_all h =
-        let all : c.elements ≡ drop first (take to values) =
-        sym (append-nil c.elements) ∙ ap (λ (l : List ℕ). c.elements ++ l) (sym (used_over values to fits i h)) ∙ c.left in
-        rw (← c.many, c.stored) (ap row_of all)
-
--- a row without its first number
-module _ (row : Numbers) (to : ℕ) (many : length row.values ≡ 13) (e : to ≡ min row.to 13) where
-  pub behind_one : drop (row.from + 1) (take to row.values) ≡ drop 1 (in_use row)
-  unfolding in_use
-  behind_one =
-      sym (drop-drop 1 row.from (take to row.values)) ∙ ap (λ (l : List ℕ). drop 1 (drop row.from l)) (sym (used_rows row.values row.to 13 to many e))
+pub row_full : (r : Numbers) (ns : List ℕ) → r ≡ row_of ns → length ns < 13 → r.count < 13
+unfolding row_of
+row_full r ns e h = omega (arith, ap (λ (x : Numbers). x.count) e)

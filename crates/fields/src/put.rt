@@ -1,13 +1,48 @@
 // Numbers as bytes, put into a buffer from a place on; what is past the buffer's end is dropped. The place behind them
 // is answered. Places stay far from overflow: beyond the last one of `Putting` nothing is put, and the place stays.
-ghost use Rattle.std.specs.Prelude.{◌≡◌, [], ◌∷◌, ◌+◌, ◌≤◌, length};
+ghost use Rattle.std.specs.Prelude.{◌≡◌, List, [], ◌∷◌, ◌++◌, ℕ, ◌+◌, ◌≤◌, ◌<◌, length, take};
 ghost use Rattle.numbers.specs.Numbers.{write_number};
 ghost use Rattle.timetable.specs.Outputs.{put};
-ghost use Rattle.fields.specs.between.Answers.{in_use};
+ghost use Rattle.fields.specs.between.Answers.{in_use, row_of};
 ghost use Rattle.fields.specs.between.Putting.{Puts, Places};
 
-use crate::field;
-use crate::field::Numbers;
+/// Up to thirteen numbers of a row: the first `count` of `values`.
+#[derive(Clone, Copy, Debug, PartialEq, Eq, Hash)]
+pub struct Numbers {
+    pub count: usize,
+    pub values: [u16; 13],
+}
+
+impl Numbers {
+    /// The row that holds these numbers, thirteen at most, and zeros behind them.
+    pub fn new(row: &[u16]) -> Numbers
+        ensures { result ≡ row_of (take 13 row.now) }
+    {
+        let count = row.len().min(13);
+        let mut values = [0; 13];
+        values[..count].copy_from_slice(&row[..count]);
+        Numbers { count, values }
+    }
+
+    /// One number more, where there is room for it.
+    pub fn with(self, x: u16) -> Numbers
+        ensures { (ns : List ℕ) → self ≡ row_of ns → length ns < 13 → result ≡ row_of (ns ++ (x ∷ [])) }
+    {
+        let mut row = self;
+        if row.count < 13 {
+            row.values[row.count] = x;
+            row.count += 1;
+        }
+        row
+    }
+
+    /// The numbers that are there.
+    pub fn in_use(&self) -> &[u16]
+        ensures { result.now ≡ in_use self.now }
+    {
+        &self.values[..self.count.min(13)]
+    }
+}
 
 fn put_byte(out: &mut [u8], at: usize, b: u8)
     ensures { out.new ≡ put at (b ∷ []) out.old }
@@ -35,37 +70,36 @@ fn put_bytes(out: &mut [u8], at: usize, x: u16) -> usize
     at + 3
 }
 
-fn put_all(out: &mut [u8], at: usize, row: Numbers) -> usize
-    requires { at ≤ 1000000000 }
-    ensures { Places at (in_use row) out.old result out.new 39 }
+fn put_all(out: &mut [u8], at: usize, row: &[u16]) -> usize
+    requires near { at ≤ 1000000000 }
+    requires few { length row.now ≤ 13 }
+    ensures { Places at row.now out.old result out.new 39 }
 {
-    let values = row.values;
-    let to = field::smaller(row.to, 13);
     let mut next = at;
-    let mut i: usize = row.from;
-    while i < to {
-        next = put_bytes(out, next, values[i]);
-        i += 1;
+    for x in row {
+        next = put_bytes(out, next, *x);
     }
     next
 }
 
-// One number.
+/// One number.
 pub fn put_number(out: &mut [u8], at: usize, x: u16) -> usize
     ensures { Puts at (x ∷ []) out.old result out.new 3 }
 {
     if at <= 1000000000 {
-        return put_bytes(out, at, x);
+        put_bytes(out, at, x)
+    } else {
+        at
     }
-    at
 }
 
-// A row of numbers.
-pub fn put_row(out: &mut [u8], at: usize, row: Numbers) -> usize
-    ensures { Puts at (in_use row) out.old result out.new 39 }
+/// A row of numbers, of which thirteen are put at most.
+pub fn put_row(out: &mut [u8], at: usize, row: &[u16]) -> usize
+    ensures { Puts at (take 13 row.now) out.old result out.new 39 }
 {
     if at <= 1000000000 {
-        return put_all(out, at, row);
+        put_all(out, at, &row[..row.len().min(13)])
+    } else {
+        at
     }
-    at
 }

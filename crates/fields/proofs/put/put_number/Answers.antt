@@ -10,5 +10,5 @@ returns-then-at-le1000000000 c =
     let w = c.put_bytes in
     one_puts s.at s.x s.out.now w.result w.new.out 3 (omega arith) w.ensures
 
-pub returns : goal.returns
-returns c = let s = c.args in far_puts s.at (s.x ∷ []) s.out.now 3 (omega arith)
+pub returns-else-at-le1000000000 : goal.returns-else-at-le1000000000
+returns-else-at-le1000000000 c = let s = c.args in far_puts s.at (s.x ∷ []) s.out.now 3 (omega arith)
