@@ -1,27 +1,38 @@
 -- Laws about the parts of the rules: trains ahead of one, one entry at a time; the relation of four places that each
 -- hold a train or none; the arrival of a train that comes towards a station. Assumes nothing.
-use Prim.Native.Nat.{ℕ, ◌+◌}
+use Prim.Native.Nat.{ℕ, ◌+◌, ◌<◌}
 use mathlib.Core.Path.{◌≡◌, refl, sym, ap, ap₂, ◌∙◌}
 use mathlib.Core.Bool.{Bool, true, false, not, ◌&&◌, ◌||◌}
 use mathlib.Core.List.{List, [], ◌∷◌, map}
 use mathlib.Core.Option.{Option, none, some}
 use native.Mathlib.Omega.{arith}
-use lib.ListN.{length}
+use lib.ListN.{length, drop}
 use Rattle.base.specs.Choice.{◌if◌else◌}
 use Rattle.std.specs.Prelude.{if◌then◌else◌}
-use Rattle.base.specs.Lists.{any, every, keep, each_two}
+use Rattle.base.specs.Lists.{any, every, keep, is, each_two}
 use Rattle.base.proofs.Tests.{T_true, every_true}
 use Rattle.railway.specs.Ranges.{same_train}
 use Rattle.railway.specs.Relations.{present, used}
-use Rattle.timetable.specs.Visits.{arr, stops, leaves, comes_from}
+use Rattle.timetable.specs.Visits.{arr, comes_from}
 use Rattle.timetable.specs.Tables.{Entry, Table, visit_of}
-use Rattle.timetable.specs.Rules.{both_visit, met, due, ahead, caught, others, breaks_6, arrival_of}
-use Rattle.visits.proofs.LinkLaws.{leaves_at, leaves_none}
-use Rattle.page_rules.specs.Types.{Station, Train, OutLink, Outward, Visit, Trains, Connection, Disconnection, Network}
-use Rattle.rules.specs.between.Parts.{entry, apart, leads, catches, arrival_by}
-use Rattle.page_rules.specs.between.Parts.{visits_so, one_met, two_met, each_met, first_met, pairs_met, group_met, leaders, crowds}
+use Rattle.timetable.specs.Rules.{both_visit, due, ahead, caught, others, arrival_of}
+use Rattle.records.specs.Records.{decode_train, decode_visit}
+use Rattle.page.specs.between.Changes.{table_in}
+use Rattle.page.specs.between.Entries.{entry_bytes}
+use Rattle.page.proofs.EntryLaws.{entries_next, entry_of, entry_parts}
+use Rattle.page_rules.specs.Types.{Station, Train, Outward, Visit, Trains}
+use Rattle.rules.specs.between.Parts.{entry, leads, catches, arrival_by}
+use Rattle.page_rules.specs.between.Parts.{one_met, two_met, leaders}
 
 -- rule 6
+
+-- the entries from an index on, by the record that is read there
+pub entries_at : (page : List ℕ) (i n : ℕ) (r : List ℕ) (u : Train) (w : Visit) → n ≡ length (table_in page).visits → i < n
+    → r ≡ entry_bytes i page → u ≡ decode_train r → w ≡ decode_visit r
+    → drop i (table_in page).visits ≡ entry u w ∷ drop (i + 1) (table_in page).visits
+entries_at page i n r u w many h read p q =
+    rw (entries_next page i n many h)
+    (ap (λ (e : Entry). e ∷ drop (i + 1) (table_in page).visits) (sym (entry_parts r u w p q ∙ entry_of r page i read)))
 
 module _ (t : Train) (v : Visit) (o : Outward) (e : Entry) (es : List Entry) where
   -- an entry comes before those that lead among the rest, or is left out
@@ -58,16 +69,6 @@ leaders_none t v o = refl
 pub none_caught : (t : Train) (v : Visit) (o : Outward) → any (caught v o) (leaders t v o []) ≡ false
 unfolding leaders others keep any
 none_caught t v o = refl
-
--- a visit whose departure is pending, by its link
-module _ (n : Network) (es : List Entry) (t : Train) (v : Visit) (pending : v.departed ≡ false) where
-  pub six_none : v.outward ≡ OutLink.Nothing → breaks_6 n es (entry t v) ≡ false
-  unfolding breaks_6 crowds leaders
-  six_none e = ap (λ b. not b && leaves (λ q. crowds n t v q es) v) pending ∙ leaves_none (λ q. crowds n t v q es) v e
-
-  pub six_at : (o : Outward) → v.outward ≡ OutLink.To o → breaks_6 n es (entry t v) ≡ crowds n t v o es
-  unfolding breaks_6 crowds leaders
-  six_at o e = ap (λ b. not b && leaves (λ q. crowds n t v q es) v) pending ∙ leaves_at (λ q. crowds n t v q es) v o e
 
 -- rule 10
 
@@ -112,14 +113,14 @@ module _ {A : Type 0} (p : A → Bool) where
       go true ih = ap₂ (λ c d. c && d) (every_passing (f x) xs) ih
       go false ih = ih ∙ ap (λ c. c && each_two (λ x y. not (p x) || (not (p y) || f x y)) xs) (sym (T_true (every (λ y. true) xs) (every_true xs)))
 
-four_tests : (a b c d : Bool) → (a && (b && (c && (d && true)))) ≡ (a && (b && (c && d)))
+four_tests : (a b c d : Bool) → (a && (b && (c && (d && true)))) ≡ (((a && b) && c) && d)
 four_tests false b c d = refl
 four_tests true false c d = refl
 four_tests true true false d = refl
 four_tests true true true false = refl
 four_tests true true true true = refl
 
-six_tests : (a b c d e f : Bool) → ((a && (b && (c && true))) && ((d && (e && true)) && ((f && true) && (true && true)))) ≡ ((a && (b && c)) && (d && (e && f)))
+six_tests : (a b c d e f : Bool) → ((a && (b && (c && true))) && ((d && (e && true)) && ((f && true) && (true && true)))) ≡ (((((a && b) && c) && d) && e) && f)
 six_tests false b c d e f = refl
 six_tests true false c d e f = refl
 six_tests true true false d e f = refl
@@ -128,43 +129,27 @@ six_tests true true true true false f = refl
 six_tests true true true true true false = refl
 six_tests true true true true true true = refl
 
-module _ (c : Bool) (i : ℕ) (tab : Table) (ts : Trains) where
-  group_every : every (visits_so c tab) (used ts) ≡ each_met c tab ts
-  unfolding used each_met one_met every
-  group_every =
-      every_passing present (visits_so c tab) (ts.a ∷ ts.b ∷ ts.c ∷ ts.d ∷ [])
-      ∙ four_tests (one_met c tab ts.a) (one_met c tab ts.b) (one_met c tab ts.c) (one_met c tab ts.d)
+-- a value of the code's `x && y`, where the second test is made only if the first holds
+pub and_then : {x a y b r : Bool} → x ≡ a → x ≡ true → y ≡ b → r ≡ y → r ≡ (a && b)
+and_then p t q e = e ∙ q ∙ rw (← p, t)
 
-  group_two : each_two (both_visit (apart c i) tab) (used ts) ≡ pairs_met c i tab ts
-  unfolding used pairs_met first_met two_met each_two every
-  group_two =
-      two_passing present (both_visit (apart c i) tab) (ts.a ∷ ts.b ∷ ts.c ∷ ts.d ∷ [])
-      ∙ six_tests (two_met c i tab ts.a ts.b) (two_met c i tab ts.a ts.c) (two_met c i tab ts.a ts.d)
-      (two_met c i tab ts.b ts.c) (two_met c i tab ts.b ts.d) (two_met c i tab ts.c ts.d)
+pub and_else : {x a r : Bool} (b : Bool) → x ≡ a → x ≡ false → r ≡ x → r ≡ (a && b)
+and_else b p t e = e ∙ t ∙ rw (← p, t)
 
-  group_is : (every (visits_so c tab) (used ts) && each_two (both_visit (apart c i) tab) (used ts)) ≡ group_met c i tab ts
-  unfolding group_met
-  group_is = ap₂ (λ x y. x && y) group_every group_two
+-- what is asked of the trains of four places, place by place
+module _ (tab : Table) (ts : Trains) where
+  pub each_place : (f : Visit → Bool) → every (λ t. is f (visit_of t tab)) (used ts)
+      ≡ (((one_met f tab ts.a && one_met f tab ts.b) && one_met f tab ts.c) && one_met f tab ts.d)
+  unfolding used one_met every
+  each_place f =
+      every_passing present (λ t. is f (visit_of t tab)) (ts.a ∷ ts.b ∷ ts.c ∷ ts.d ∷ [])
+      ∙ four_tests (one_met f tab ts.a) (one_met f tab ts.b) (one_met f tab ts.c) (one_met f tab ts.d)
 
-pub connection_met : (i : ℕ) (tab : Table) (ts : Trains) → met tab (Connection i ts) ≡ group_met true i tab ts
-unfolding met visits_so apart
-connection_met i tab ts = group_is true i tab ts
-
-pub disconnection_met : (i : ℕ) (tab : Table) (ts : Trains) → met tab (Disconnection i ts) ≡ group_met false i tab ts
-unfolding met visits_so apart
-disconnection_met i tab ts = group_is false i tab ts
-
--- a train of a connection, or of a disconnection, that visits or does not
-module _ (c : Bool) (tab : Table) (t : Train) where
-  pub so_some : (v : Visit) (b : Bool) → visit_of t tab ≡ some v → c ≡ b → (if b then stops v else true) ≡ visits_so c tab t
-  unfolding visits_so
-  so_some v true e p = sym (rw (p, e))
-  so_some v false e p = sym (rw (p, e))
-
-  pub so_none : visit_of t tab ≡ none → false ≡ visits_so c tab t
-  unfolding visits_so
-  so_none e = go c
-    where
-      go : (b : Bool) → false ≡ visits_so b tab t
-      go true = sym (rw e)
-      go false = sym (rw e)
+  pub each_two_places : (f : Visit → Visit → Bool) → each_two (both_visit f tab) (used ts)
+      ≡ (((((two_met f tab ts.a ts.b && two_met f tab ts.a ts.c) && two_met f tab ts.a ts.d) && two_met f tab ts.b ts.c)
+      && two_met f tab ts.b ts.d) && two_met f tab ts.c ts.d)
+  unfolding used two_met each_two every
+  each_two_places f =
+      two_passing present (both_visit f tab) (ts.a ∷ ts.b ∷ ts.c ∷ ts.d ∷ [])
+      ∙ six_tests (two_met f tab ts.a ts.b) (two_met f tab ts.a ts.c) (two_met f tab ts.a ts.d)
+      (two_met f tab ts.b ts.c) (two_met f tab ts.b ts.d) (two_met f tab ts.c ts.d)

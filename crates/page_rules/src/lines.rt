@@ -10,20 +10,18 @@ use network::{LineFound, LineRow, Network};
 use page::{VisitFound, entries};
 use railway::sorts::{Station, Train};
 use railway::visit::{OutLink, Outward, Visit};
-use records::{bytes, record};
+use records::record;
 use rules::{clock, trains};
 
 // How many trains are ahead of t.
 fn count_ahead(page: &[u8], t: Train, v: Visit, o: Outward) -> usize
     ensures { result ≡ length (leaders t v o (table_in page.now).visits) }
 {
-    let n = page::visit_count(page);
     let mut count: usize = 0;
-    let mut i: usize = 0;
-    while i < n {
+    for i in 0..page::visit_count(page) {
         let r = entries::entry_record(page, i);
-        count += trains::count_one(t, v, o, record::train_in(r), record::visit_in(r));
-        i += 1;
+        let leads = trains::does_lead(t, v, o, record::train_in(r), record::visit_in(r));
+        count += usize::from(leads);
     }
     count
 }
@@ -32,14 +30,11 @@ fn count_ahead(page: &[u8], t: Train, v: Visit, o: Outward) -> usize
 fn any_caught(page: &[u8], t: Train, v: Visit, o: Outward) -> bool
     ensures { result ≡ any (caught v o) (leaders t v o (table_in page.now).visits) }
 {
-    let n = page::visit_count(page);
-    let mut i: usize = 0;
-    while i < n {
+    for i in 0..page::visit_count(page) {
         let r = entries::entry_record(page, i);
         if trains::does_catch(t, v, o, record::train_in(r), record::visit_in(r)) {
             return true;
         }
-        i += 1;
     }
     false
 }
@@ -49,20 +44,13 @@ fn is_crowded(row: LineRow, page: &[u8], t: Train, v: Visit, o: Outward) -> bool
     ensures { result ≡ crowded row v o (leaders t v o (table_in page.now).visits) }
 {
     let k = count_ahead(page, t, v, o);
-    if k == 0 {
-        return false;
-    }
-    if bytes::size(row.capacity) <= k {
-        return true;
-    }
-    any_caught(page, t, v, o)
+    0 < k && (usize::from(row.capacity) <= k || any_caught(page, t, v, o))
 }
 
 fn does_crowd(n: Network, page: &[u8], t: Train, v: Visit, o: Outward) -> bool
     ensures { result ≡ crowds n t v o (table_in page.now).visits }
 {
-    let found = n.line_row(o.line);
-    match found {
+    match n.line_row(o.line) {
         LineFound::Row(row) => is_crowded(row, page, t, v, o),
         LineFound::Nothing => false,
     }
@@ -75,8 +63,7 @@ pub fn breaks_6(n: Network, page: &[u8], t: Train, v: Visit) -> bool
     if v.departed {
         return false;
     }
-    let link = v.outward;
-    match link {
+    match v.outward {
         OutLink::Nothing => false,
         OutLink::To(o) => does_crowd(n, page, t, v, o),
     }
@@ -86,8 +73,7 @@ pub fn breaks_6(n: Network, page: &[u8], t: Train, v: Visit) -> bool
 fn arrival_of(here: &[u8], p: Station, u: Train, w: Visit, q: Outward) -> u32
     ensures { result ≡ arrival_of (table_in here.now) p (entry u w) q }
 {
-    let found = page::visit_of(here, u);
-    match found {
+    match page::visit_of(here, u) {
         VisitFound::Is(x) => trains::arrival_by(x, p, w, q),
         VisitFound::Nothing => clock::due(w, q),
     }
@@ -106,10 +92,7 @@ fn comes_towards(
 ) -> bool
     ensures { result ≡ towards (table_in here.now) s v o (entry u w) q }
 {
-    if trains::is_towards(s, o, q) {
-        return trains::does_meet(arrival_of(here, o.station, u, w, q), v, o, w);
-    }
-    false
+    trains::is_towards(s, o, q) && trains::does_meet(arrival_of(here, o.station, u, w, q), v, o, w)
 }
 
 fn does_oppose(here: &[u8], s: Station, t: Train, v: Visit, o: Outward, u: Train, w: Visit) -> bool
@@ -118,8 +101,7 @@ fn does_oppose(here: &[u8], s: Station, t: Train, v: Visit, o: Outward, u: Train
     if t.0 == u.0 {
         return false;
     }
-    let link = w.outward;
-    match link {
+    match w.outward {
         OutLink::Nothing => false,
         OutLink::To(q) => comes_towards(here, s, v, o, u, w, q),
     }
@@ -138,11 +120,5 @@ pub fn breaks_10(
 ) -> bool
     ensures { result ≡ breaks_10 n s (table_in here.now) (entry t v) o (entry u w) }
 {
-    if v.departed {
-        return false;
-    }
-    if trains::is_both_ways(n, o) {
-        return does_oppose(here, s, t, v, o, u, w);
-    }
-    false
+    !v.departed && trains::is_both_ways(n, o) && does_oppose(here, s, t, v, o, u, w)
 }

@@ -13,8 +13,7 @@ use rules::trains;
 pub fn is_out_answered(s: Station, t: Train, o: Outward, there: &[u8]) -> bool
     ensures { result ≡ out_answered s t o (table_in there.now) }
 {
-    let found = page::visit_of(there, t);
-    match found {
+    match page::visit_of(there, t) {
         VisitFound::Is(w) => visits::is_from(w, s, o.line),
         VisitFound::Nothing => false,
     }
@@ -24,8 +23,7 @@ pub fn is_out_answered(s: Station, t: Train, o: Outward, there: &[u8]) -> bool
 pub fn is_in_answered(s: Station, t: Train, i: Inward, there: &[u8]) -> bool
     ensures { result ≡ in_answered s t i (table_in there.now) }
 {
-    let found = page::visit_of(there, t);
-    match found {
+    match page::visit_of(there, t) {
         VisitFound::Is(w) => visits::is_to(w, s, i.line),
         VisitFound::Nothing => false,
     }
@@ -35,14 +33,8 @@ pub fn is_in_answered(s: Station, t: Train, i: Inward, there: &[u8]) -> bool
 pub fn breaks_9(s: Station, t: Train, v: Visit, o: Outward, there: &[u8]) -> bool
     ensures { result ≡ breaks_9 s (entry t v) o (table_in there.now) }
 {
-    let found = page::visit_of(there, t);
-    match found {
-        VisitFound::Is(w) => {
-            if visits::is_from(w, s, o.line) {
-                return trains::does_miss(v, o, w);
-            }
-            false
-        }
+    match page::visit_of(there, t) {
+        VisitFound::Is(w) => visits::is_from(w, s, o.line) && trains::does_miss(v, o, w),
         VisitFound::Nothing => false,
     }
 }

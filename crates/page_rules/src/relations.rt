@@ -1,131 +1,75 @@
 // Rule 4: whether a relation is met by the visits of a page.
-ghost use Rattle.std.specs.Prelude.{◌≡◌};
-ghost use Rattle.timetable.specs.Rules.{depends, both_visit, met};
+ghost use Rattle.std.specs.Prelude.{◌≡◌, Bool};
+ghost use Rattle.base.specs.Lists.{every, is, each_two};
+ghost use Rattle.railway.specs.Relations.{used};
+ghost use Rattle.timetable.specs.Tables.{visit_of};
+ghost use Rattle.timetable.specs.Rules.{both_visit, met};
 ghost use Rattle.page.specs.between.Changes.{table_in};
-ghost use Rattle.rules.specs.between.Parts.{apart};
-ghost use Rattle.page_rules.specs.between.Parts.{visits_so, one_met, two_met, each_met, first_met, pairs_met, group_met};
+ghost use Rattle.page_rules.specs.Types.{Visit};
+ghost use Rattle.page_rules.specs.between.Parts.{one_met, two_met};
 
 use page::VisitFound;
 use railway::relation::{Relation, Trains};
 use railway::sorts::Train;
+use railway::visit::Visit;
 use rules::stays;
 
-// A train visits, and stops where the relation is a connection.
-fn does_visit(page: &[u8], connection: bool, t: Train) -> bool
-    ensures { result ≡ visits_so connection (table_in page.now) t }
+// The train visits, and the test holds of its visit. A place that holds no train asks nothing.
+fn one_met<F: Fn(Visit) -> bool>(page: &[u8], t: Train, test: &F) -> bool
+    requires { F.IsAlwaysCallable test.now }
+    ensures { (f : Visit → Bool) → ((v : Visit) (b : Bool) → F.post test.now v b → b ≡ f v) → result ≡ one_met f (table_in page.now) t }
 {
-    let found = page::visit_of(page, t);
-    match found {
-        VisitFound::Is(v) => {
-            if connection {
-                return visits::does_stop(v);
-            }
-            true
-        }
+    if t.0 == 0 {
+        return true;
+    }
+    match page::visit_of(page, t) {
+        VisitFound::Is(v) => test(v),
         VisitFound::Nothing => false,
     }
 }
 
-// Both trains visit, and their visits are apart.
-fn are_apart(page: &[u8], connection: bool, interval: u8, t: Train, u: Train) -> bool
-    ensures { result ≡ both_visit (apart connection interval) (table_in page.now) t u }
+// Both trains visit, and the test holds of their visits.
+fn both_visit<F: Fn(Visit, Visit) -> bool>(page: &[u8], t: Train, u: Train, test: &F) -> bool
+    requires { F.IsAlwaysCallable test.now }
+    ensures { (f : Visit → Visit → Bool) → ((v w : Visit) (b : Bool) → F.post test.now v w b → b ≡ f v w) → result ≡ both_visit f (table_in page.now) t u }
 {
-    let found = page::visit_of(page, t);
-    match found {
-        VisitFound::Is(v) => {
-            let other = page::visit_of(page, u);
-            match other {
-                VisitFound::Is(w) => stays::is_apart(connection, interval, v, w),
-                VisitFound::Nothing => false,
-            }
-        }
-        VisitFound::Nothing => false,
+    match (page::visit_of(page, t), page::visit_of(page, u)) {
+        (VisitFound::Is(v), VisitFound::Is(w)) => test(v, w),
+        _ => false,
     }
 }
 
-// A place of a relation, and two of them: a place that holds no train asks nothing.
-
-fn one_met(page: &[u8], connection: bool, t: Train) -> bool
-    ensures { result ≡ one_met connection (table_in page.now) t }
+// Two places of a relation: a place that holds no train asks nothing.
+fn two_met<F: Fn(Visit, Visit) -> bool>(page: &[u8], t: Train, u: Train, test: &F) -> bool
+    requires { F.IsAlwaysCallable test.now }
+    ensures { (f : Visit → Visit → Bool) → ((v w : Visit) (b : Bool) → F.post test.now v w b → b ≡ f v w) → result ≡ two_met f (table_in page.now) t u }
 {
-    if 0 < t.0 {
-        return does_visit(page, connection, t);
-    }
-    true
+    t.0 == 0 || u.0 == 0 || both_visit(page, t, u, test)
 }
 
-fn two_met(page: &[u8], connection: bool, interval: u8, t: Train, u: Train) -> bool
-    ensures { result ≡ two_met connection interval (table_in page.now) t u }
+#[tactic(auto, using(crate::proofs::RuleLaws::each_place))]
+// All visit, and the test holds of each visit.
+fn each_met<F: Fn(Visit) -> bool>(page: &[u8], ts: Trains, test: &F) -> bool
+    requires { F.IsAlwaysCallable test.now }
+    ensures { (f : Visit → Bool) → ((v : Visit) (b : Bool) → F.post test.now v b → b ≡ f v) → result ≡ every (λ t. is f (visit_of t (table_in page.now))) (used ts) }
 {
-    if 0 < t.0 {
-        if 0 < u.0 {
-            return are_apart(page, connection, interval, t, u);
-        }
-    }
-    true
+    one_met(page, ts.a, test)
+        && one_met(page, ts.b, test)
+        && one_met(page, ts.c, test)
+        && one_met(page, ts.d, test)
 }
 
-fn each_met(page: &[u8], connection: bool, ts: Trains) -> bool
-    ensures { result ≡ each_met connection (table_in page.now) ts }
+// Each two visit, and the test holds of their visits.
+fn pairs_met<F: Fn(Visit, Visit) -> bool>(page: &[u8], ts: Trains, test: &F) -> bool
+    requires { F.IsAlwaysCallable test.now }
+    ensures { (f : Visit → Visit → Bool) → ((v w : Visit) (b : Bool) → F.post test.now v w b → b ≡ f v w) → result ≡ each_two (both_visit f (table_in page.now)) (used ts) }
 {
-    if one_met(page, connection, ts.a) {
-        if one_met(page, connection, ts.b) {
-            if one_met(page, connection, ts.c) {
-                return one_met(page, connection, ts.d);
-            }
-        }
-    }
-    false
-}
-
-// The first train with each of the three others.
-fn first_met(page: &[u8], connection: bool, interval: u8, ts: Trains) -> bool
-    ensures { result ≡ first_met connection interval (table_in page.now) ts }
-{
-    if two_met(page, connection, interval, ts.a, ts.b) {
-        if two_met(page, connection, interval, ts.a, ts.c) {
-            return two_met(page, connection, interval, ts.a, ts.d);
-        }
-    }
-    false
-}
-
-fn pairs_met(page: &[u8], connection: bool, interval: u8, ts: Trains) -> bool
-    ensures { result ≡ pairs_met connection interval (table_in page.now) ts }
-{
-    if first_met(page, connection, interval, ts) {
-        if two_met(page, connection, interval, ts.b, ts.c) {
-            if two_met(page, connection, interval, ts.b, ts.d) {
-                return two_met(page, connection, interval, ts.c, ts.d);
-            }
-        }
-    }
-    false
-}
-
-fn dependency_met(page: &[u8], interval: u8, t: Train, u: Train) -> bool
-    ensures { result ≡ both_visit (depends interval) (table_in page.now) t u }
-{
-    let found = page::visit_of(page, t);
-    match found {
-        VisitFound::Is(v) => {
-            let other = page::visit_of(page, u);
-            match other {
-                VisitFound::Is(w) => stays::does_depend(interval, v, w),
-                VisitFound::Nothing => false,
-            }
-        }
-        VisitFound::Nothing => false,
-    }
-}
-
-fn group_met(page: &[u8], connection: bool, interval: u8, ts: Trains) -> bool
-    ensures { result ≡ group_met connection interval (table_in page.now) ts }
-{
-    if each_met(page, connection, ts) {
-        return pairs_met(page, connection, interval, ts);
-    }
-    false
+    two_met(page, ts.a, ts.b, test)
+        && two_met(page, ts.a, ts.c, test)
+        && two_met(page, ts.a, ts.d, test)
+        && two_met(page, ts.b, ts.c, test)
+        && two_met(page, ts.b, ts.d, test)
+        && two_met(page, ts.c, ts.d, test)
 }
 
 // 4. "Unmet" is its contrary.
@@ -133,8 +77,21 @@ pub fn is_met(page: &[u8], relation: Relation) -> bool
     ensures { result ≡ met (table_in page.now) relation }
 {
     match relation {
-        Relation::Connection(i, ts) => group_met(page, true, i, ts),
-        Relation::Disconnection(i, ts) => group_met(page, false, i, ts),
-        Relation::Dependency(i, p) => dependency_met(page, i, p.arriver, p.departer),
+        Relation::Connection(i, ts) => {
+            each_met(page, ts, &|v| visits::does_stop(v))
+                && pairs_met(page, ts, &|v, w| stays::is_connected(i, v, w))
+        }
+        Relation::Disconnection(i, ts) => {
+            each_met(page, ts, &|_| true)
+                && pairs_met(page, ts, &|v, w| stays::is_disconnected(i, v, w))
+        }
+        Relation::Dependency(i, p) => {
+            both_visit(
+                page,
+                p.arriver,
+                p.departer,
+                &|v, w| stays::does_depend(i, v, w),
+            )
+        }
     }
 }

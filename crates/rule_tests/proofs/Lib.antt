@@ -1,2 +1,1 @@
 pub mod HeldLaws
-pub mod NumbersBeside

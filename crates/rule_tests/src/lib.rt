@@ -1,6 +1,6 @@
 // Which rules are broken by the visits of a sheet: the rules that tell of one train, and those that tell of two. `here`
 // is the page of the station s.
-#![tactic(auto)]
+#![tactic(auto, unfolding(timetable::specs::Visits::comes, timetable::specs::Visits::leaves, timetable::specs::Rules::out_line, crate::specs::between::Tests::opened))]
 
 ghost use Rattle.std.specs.Prelude.{◌≡◌};
 ghost use Rattle.page.specs.between.Changes.{table_in};
@@ -29,24 +29,21 @@ fn is_out_broken(
 ) -> bool
     ensures { result ≡ out_broken n scope (held sheet.now) s rule (entry t v) o }
 {
-    if scope::is_taken(n, scope, s, o.station) {
-        let there = station_page::page_of(sheet, o.station);
-        if rule == 7 {
-            return !links::is_out_answered(s, t, o, there);
-        }
-        return links::breaks_9(s, t, v, o, there);
+    if !scope::is_taken(n, scope, s, o.station) {
+        return false;
     }
-    false
+    let there = station_page::page_of(sheet, o.station);
+    match rule {
+        7 => !links::is_out_answered(s, t, o, there),
+        _ => links::breaks_9(s, t, v, o, there),
+    }
 }
 
 fn is_in_broken(sheet: &[u8], n: Network, scope: Scope, s: Station, t: Train, i: Inward) -> bool
     ensures { result ≡ in_broken n scope (held sheet.now) s t i }
 {
-    if scope::is_taken(n, scope, s, i.station) {
-        let there = station_page::page_of(sheet, i.station);
-        return !links::is_in_answered(s, t, i, there);
-    }
-    false
+    scope::is_taken(n, scope, s, i.station)
+        && !links::is_in_answered(s, t, i, station_page::page_of(sheet, i.station))
 }
 
 // 7, 8 and 9, where the visit has the link and the list takes its far station.
@@ -62,20 +59,15 @@ fn is_far_broken(
     ensures { result ≡ far_broken n scope (held sheet.now) s rule (entry t v) }
 {
     if rule == 8 {
-        let link = v.inward;
-        match link {
-            InLink::Nothing => {
-                return false;
-            }
-            InLink::From(i) => {
-                return is_in_broken(sheet, n, scope, s, t, i);
-            }
+        match v.inward {
+            InLink::Nothing => false,
+            InLink::From(i) => is_in_broken(sheet, n, scope, s, t, i),
         }
-    }
-    let link = v.outward;
-    match link {
-        OutLink::Nothing => false,
-        OutLink::To(o) => is_out_broken(sheet, n, scope, s, rule, t, v, o),
+    } else {
+        match v.outward {
+            OutLink::Nothing => false,
+            OutLink::To(o) => is_out_broken(sheet, n, scope, s, rule, t, v, o),
+        }
     }
 }
 
@@ -124,15 +116,12 @@ pub fn does_clash(
 ) -> bool
     ensures { result ≡ clash n (table_in here.now) s rule (entry t v) (entry u w) }
 {
-    if rule == 2 {
-        return stays::breaks_2(v, w);
-    }
-    if rule == 3 {
-        return stays::breaks_3(n.headway, v, w);
-    }
-    let link = v.outward;
-    match link {
-        OutLink::Nothing => false,
-        OutLink::To(o) => lines::breaks_10(n, s, here, t, v, o, u, w),
+    match rule {
+        2 => stays::breaks_2(v, w),
+        3 => stays::breaks_3(n.headway, v, w),
+        _ => match v.outward {
+            OutLink::Nothing => false,
+            OutLink::To(o) => lines::breaks_10(n, s, here, t, v, o, u, w),
+        },
     }
 }

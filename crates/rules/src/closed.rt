@@ -12,12 +12,7 @@ use railway::visit::{OutLink, Outward, Visit};
 fn does_shut(c: Closure, v: Visit, o: Outward) -> bool
     ensures { result ≡ shuts v o c }
 {
-    if c.line.0 == o.line.0 {
-        if v.departure.0 < c.end.0 {
-            return clock::wide(c.start.0) < clock::due(v, o);
-        }
-    }
-    false
+    c.line.0 == o.line.0 && v.departure.0 < c.end.0 && u32::from(c.start.0) < clock::due(v, o)
 }
 
 // Some closure shuts the run.
@@ -44,8 +39,7 @@ pub fn breaks_11(n: Network, v: Visit) -> bool
     if v.departed {
         return false;
     }
-    let link = v.outward;
-    match link {
+    match v.outward {
         OutLink::Nothing => false,
         OutLink::To(o) => is_shut(n, v, o),
     }
@@ -55,9 +49,8 @@ pub fn breaks_11(n: Network, v: Visit) -> bool
 pub fn line_out(v: Visit) -> u16
     ensures { result ≡ out_line v.outward }
 {
-    let link = v.outward;
-    match link {
+    match v.outward {
         OutLink::Nothing => 0,
-        OutLink::To(o) => o.line.0 as u16,
+        OutLink::To(o) => u16::from(o.line.0),
     }
 }

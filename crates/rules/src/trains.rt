@@ -1,7 +1,6 @@
 // Rules 6, 9 and 10: trains on one line, or at the two ends of a link. t leaves by o and has the visit v; u has the
 // visit w, and leaves by q.
-ghost use Rattle.std.specs.Prelude.{◌≡◌, ◌≤◌};
-ghost use Rattle.base.specs.Choice.{◌if◌else◌};
+ghost use Rattle.std.specs.Prelude.{◌≡◌};
 ghost use Rattle.timetable.specs.Rules.{ahead, caught, misses};
 ghost use Rattle.rules.specs.between.Parts.{entry, leads, catches, kind_three, is_towards, meets, arrival_by};
 
@@ -16,16 +15,12 @@ use railway::visit::{OutLink, Outward, Visit};
 pub fn is_ahead(v: Visit, o: Outward, w: Visit) -> bool
     ensures { result ≡ ahead v o w }
 {
-    let link = w.outward;
-    match link {
+    match w.outward {
         OutLink::Nothing => false,
         OutLink::To(q) => {
-            if q.line.0 == o.line.0 {
-                if w.departure.0 < v.departure.0 {
-                    return clock::wide(v.departure.0) < clock::due(w, q);
-                }
-            }
-            false
+            q.line.0 == o.line.0
+                && w.departure.0 < v.departure.0
+                && u32::from(v.departure.0) < clock::due(w, q)
         }
     }
 }
@@ -34,41 +29,24 @@ pub fn is_ahead(v: Visit, o: Outward, w: Visit) -> bool
 pub fn is_caught(v: Visit, o: Outward, w: Visit) -> bool
     ensures { result ≡ caught v o w }
 {
-    let link = w.outward;
-    match link {
+    match w.outward {
         OutLink::Nothing => false,
         OutLink::To(q) => clock::due(v, o) <= clock::due(w, q),
     }
 }
 
 // Another train that is ahead of t.
-fn does_lead(t: Train, v: Visit, o: Outward, u: Train, w: Visit) -> bool
+pub fn does_lead(t: Train, v: Visit, o: Outward, u: Train, w: Visit) -> bool
     ensures { result ≡ leads t v o (entry u w) }
 {
-    if u.0 == t.0 {
-        return false;
-    }
-    is_ahead(v, o, w)
-}
-
-// The same as a count.
-pub fn count_one(t: Train, v: Visit, o: Outward, u: Train, w: Visit) -> usize
-    ensures { (result ≡ (1 if leads t v o (entry u w) else 0)) × (result ≤ 1) }
-{
-    if does_lead(t, v, o, u, w) {
-        return 1;
-    }
-    0
+    u.0 != t.0 && is_ahead(v, o, w)
 }
 
 // Another train that is ahead of t and is caught.
 pub fn does_catch(t: Train, v: Visit, o: Outward, u: Train, w: Visit) -> bool
     ensures { result ≡ catches t v o (entry u w) }
 {
-    if does_lead(t, v, o, u, w) {
-        return is_caught(v, o, w);
-    }
-    false
+    does_lead(t, v, o, u, w) && is_caught(v, o, w)
 }
 
 // 9
@@ -77,10 +55,7 @@ pub fn does_catch(t: Train, v: Visit, o: Outward, u: Train, w: Visit) -> bool
 pub fn does_miss(v: Visit, o: Outward, w: Visit) -> bool
     ensures { result ≡ misses v o w }
 {
-    if w.arrived {
-        return false;
-    }
-    clock::wide(w.arrival.0) != clock::due(v, o)
+    !w.arrived && u32::from(w.arrival.0) != clock::due(v, o)
 }
 
 // 10
@@ -100,23 +75,14 @@ pub fn is_both_ways(n: Network, o: Outward) -> bool
 pub fn is_towards(s: Station, o: Outward, q: Outward) -> bool
     ensures { result ≡ is_towards s o q }
 {
-    if q.line.0 == o.line.0 {
-        return q.station.0 == s.0;
-    }
-    false
+    q.line.0 == o.line.0 && q.station.0 == s.0
 }
 
 // u, which arrives at a, "neither arrives before t departs nor departs after t's departure + run"
 pub fn does_meet(a: u32, v: Visit, o: Outward, w: Visit) -> bool
     ensures { result ≡ meets a v o w }
 {
-    if a < clock::wide(v.departure.0) {
-        return false;
-    }
-    if clock::due(v, o) < clock::wide(w.departure.0) {
-        return false;
-    }
-    true
+    u32::from(v.departure.0) <= a && u32::from(w.departure.0) <= clock::due(v, o)
 }
 
 // "u's arrival is that at s if its link is answered, else departure + run": x is its visit at s, p the station that it
@@ -125,7 +91,8 @@ pub fn arrival_by(x: Visit, p: Station, w: Visit, q: Outward) -> u32
     ensures { result ≡ arrival_by x p w q }
 {
     if visits::is_from(x, p, q.line) {
-        return clock::wide(x.arrival.0);
+        u32::from(x.arrival.0)
+    } else {
+        clock::due(w, q)
     }
-    clock::due(w, q)
 }

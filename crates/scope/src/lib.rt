@@ -1,5 +1,5 @@
 // Which findings a list takes, by the station of a finding and its far station.
-#![tactic(auto)]
+#![tactic(auto, unfolding(timetable::specs::Groups::in_group, timetable::specs::Findings::is_far, crate::specs::Scopes::opened, crate::specs::Redone::opened))]
 
 ghost use Rattle.std.specs.Prelude.{◌≡◌, ◌&&◌};
 ghost use Rattle.network.specs.Networks.{area_of};
@@ -24,19 +24,13 @@ pub enum Scope {
 fn is_in(n: Network, a: Area, s: Station) -> bool
     ensures { result ≡ in_group (area_of n) a.0 s }
 {
-    if 0 < a.0 {
-        return a.0 == n.group_of(s);
-    }
-    false
+    0 < a.0 && a.0 == n.group_of(s)
 }
 
 fn are_in(n: Network, a: Area, s: Station, b: Area, p: Station) -> bool
     ensures { result ≡ (in_group (area_of n) a.0 s && in_group (area_of n) b.0 p) }
 {
-    if is_in(n, a, s) {
-        return is_in(n, b, p);
-    }
-    false
+    is_in(n, a, s) && is_in(n, b, p)
 }
 
 pub fn is_taken(n: Network, scope: Scope, s: Station, p: Station) -> bool
@@ -45,11 +39,6 @@ pub fn is_taken(n: Network, scope: Scope, s: Station, p: Station) -> bool
     match scope {
         Scope::Whole => true,
         Scope::Within(a) => are_in(n, a, s, a, p),
-        Scope::Between(a, b) => {
-            if are_in(n, a, s, b, p) {
-                return true;
-            }
-            are_in(n, b, s, a, p)
-        }
+        Scope::Between(a, b) => are_in(n, a, s, b, p) || are_in(n, b, s, a, p),
     }
 }

@@ -4,7 +4,7 @@ ghost use Rattle.timetable.specs.Findings.{is_far};
 ghost use Rattle.scope.specs.Redone.{all_redone, level, is_redone};
 
 // How much is redone at each station.
-#[derive(Clone, Copy)]
+#[derive(Clone, Copy, Debug, PartialEq, Eq, Hash)]
 pub struct Marks {
     // All findings, whatever their station.
     pub everywhere: bool,
@@ -26,10 +26,7 @@ pub fn everywhere() -> Marks
 pub fn is_far(rule: u16) -> bool
     ensures { result ≡ is_far rule }
 {
-    if rule < 7 {
-        return false;
-    }
-    rule <= 10
+    matches!(rule, 7..=10)
 }
 
 // The level of a station's number; 0 for a number that no station has.
@@ -37,27 +34,20 @@ pub fn level(marks: Marks, station: u16) -> u8
     ensures { result ≡ level marks station }
 {
     if marks.everywhere {
-        return 2;
+        2
+    } else if matches!(station, 1..=16) {
+        marks.levels[usize::from(station) - 1]
+    } else {
+        0
     }
-    if station < 1 {
-        return 0;
-    }
-    if 16 < station {
-        return 0;
-    }
-    let levels = marks.levels;
-    levels[station as usize - 1]
 }
 
 pub fn is_redone(marks: Marks, station: u16, rule: u16) -> bool
     ensures { result ≡ is_redone marks station rule }
 {
-    let k = level(marks, station);
-    if k == 2 {
-        return true;
+    match level(marks, station) {
+        2 => true,
+        1 => is_far(rule),
+        _ => false,
     }
-    if k == 1 {
-        return is_far(rule);
-    }
-    false
 }

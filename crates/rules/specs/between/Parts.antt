@@ -1,29 +1,20 @@
 -- Parts of the rules of timetable/specs/Rules.antt, as the functions on visits test them. Assumes nothing.
-use Rattle.std.specs.Prelude.{ℕ, Bool, true, false, not, ◌&&◌, ltb, eqb}
+use Rattle.std.specs.Prelude.{ℕ, Bool, not, ◌&&◌, ltb, eqb}
 use Rattle.std.specs.Prelude.{if◌then◌else◌}
 use Rattle.base.specs.Lists.{is}
 use Rattle.railway.specs.Ranges.{same_station, same_train, same_line}
 use Rattle.network.specs.Networks.{line_row, least_time}
-use Rattle.timetable.specs.Visits.{arr, dep, leaves, comes_from}
+use Rattle.timetable.specs.Visits.{arr, dep, comes_from}
 use Rattle.timetable.specs.Tables.{Entry}
-use Rattle.timetable.specs.Rules.{connected, disconnected, due, ahead, caught}
-use Rattle.rules.specs.Types.{Station, Train, Line, Outward, Visit, Network}
+use Rattle.timetable.specs.Rules.{due, ahead, caught}
+use Rattle.rules.specs.Types.{Station, Train, Outward, Visit, Network}
 
 abbrev pub entry : Train → Visit → Entry
 entry t v = record { train = t; visit = v }
 
--- rule 3: the visit leaves by the line
-unfoldable pub leaves_by : Line → Visit → Bool
-leaves_by l = leaves (λ q. same_line l q.line)
-
 -- rule 5: the running time is below the least of the link's line and the train
 unfoldable pub runs_below : Network → Train → Outward → Bool
 runs_below n t o = is (λ r. ltb o.run (least_time r t)) (line_row n o.line)
-
--- rule 4: the test of two visits, of a connection or of a disconnection
-unfoldable pub apart : Bool → ℕ → Visit → Visit → Bool
-apart true = connected
-apart false = disconnected
 
 -- rule 6: an entry of another train that is ahead of t, which leaves by o; and one that is caught
 unfoldable pub leads : Train → Visit → Outward → Entry → Bool
@@ -50,5 +41,5 @@ arrival_by x p w q = if comes_from p q.line x then arr x else due w q
 
 -- The key ring of this module: `unfolding opened` opens every definition above.
 unfoldable pub opened : Unit {0}
-unfolding leaves_by runs_below apart leads catches kind_three is_towards meets arrival_by
+unfolding runs_below leads catches kind_three is_towards meets arrival_by
 opened = tt

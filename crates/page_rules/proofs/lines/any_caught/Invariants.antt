@@ -1,6 +1,5 @@
 -- `page_rules::lines::any_caught` meets its contract. The loop's invariant: what is asked of all entries is asked of
 -- those from i on. Assumes nothing.
-use Prim.Native.Nat.{◌-◌, ◌≤◌}
 use mathlib.Core.Path.{◌≡◌}
 use lib.ListN.{drop}
 use Rattle.base.specs.Lists.{any}
@@ -10,7 +9,4 @@ use Rattle.page_rules.specs.between.Parts.{leaders}
 use Rattle.page_rules.proofs.lines.any_caught.Given as goal
 
 abbrev pub invariant-loop-i : goal.invariant-loop-i
-invariant-loop-i l = (l.i ≤ l.n) × (any (caught l.v l.o) (leaders l.t l.v l.o (table_in l.page).visits) ≡ any (caught l.v l.o) (leaders l.t l.v l.o (drop l.i (table_in l.page).visits)))
-
-abbrev pub decreases-loop-i : goal.decreases-loop-i
-decreases-loop-i l = l.n - l.i
+invariant-loop-i l = any (caught l.v l.o) (leaders l.t l.v l.o (table_in l.page).visits) ≡ any (caught l.v l.o) (leaders l.t l.v l.o (drop l.i (table_in l.page).visits))

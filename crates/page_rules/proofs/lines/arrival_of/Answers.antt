@@ -9,11 +9,11 @@ use Rattle.page_rules.proofs.lines.arrival_of.Goals as goal
 pub returns-in-Is : goal.returns-in-Is
 returns-in-Is c =
     let s = c.args in
-    let x = found_some (visit_of s.u (table_in s.here.now)) _ _ c.visit_of-found.ensures c.in-Is.is in
+    let x = found_some (visit_of s.u (table_in s.here.now)) _ _ c.visit_of.ensures c.in-Is.is in
     rw (arrival_some (table_in s.here.now) s.p (entry s.u s.w) s.q _ x) c.arrival_by.ensures
 
 pub returns-in-Nothing : goal.returns-in-Nothing
 returns-in-Nothing c =
     let s = c.args in
-    let x = found_none (visit_of s.u (table_in s.here.now)) _ c.visit_of-found.ensures c.in-Nothing.is in
+    let x = found_none (visit_of s.u (table_in s.here.now)) _ c.visit_of.ensures c.in-Nothing.is in
     rw (arrival_none (table_in s.here.now) s.p (entry s.u s.w) s.q x) c.due.ensures.0

@@ -1,6 +1,6 @@
 -- `page_rules::lines::count_ahead` meets its contract. The loop's invariant: those counted and those ahead among the
 -- entries from i on are all. Assumes nothing.
-use Prim.Native.Nat.{◌+◌, ◌-◌, ◌≤◌}
+use Prim.Native.Nat.{◌+◌, ◌≤◌}
 use mathlib.Core.Path.{◌≡◌}
 use lib.ListN.{length, drop}
 use Rattle.page.specs.between.Changes.{table_in}
@@ -8,7 +8,7 @@ use Rattle.page_rules.specs.between.Parts.{leaders}
 use Rattle.page_rules.proofs.lines.count_ahead.Given as goal
 
 abbrev pub invariant-loop-i : goal.invariant-loop-i
-invariant-loop-i l = (l.i ≤ l.n) × (l.count ≤ l.i) × (l.count + length (leaders l.t l.v l.o (drop l.i (table_in l.page).visits)) ≡ length (leaders l.t l.v l.o (table_in l.page).visits))
-
-abbrev pub decreases-loop-i : goal.decreases-loop-i
-decreases-loop-i l = l.n - l.i
+invariant-loop-i l = record {
+  counted : l.count ≤ l.i;
+  all : l.count + length (leaders l.t l.v l.o (drop l.i (table_in l.page).visits)) ≡ length (leaders l.t l.v l.o (table_in l.page).visits);
+}

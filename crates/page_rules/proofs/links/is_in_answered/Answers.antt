@@ -8,8 +8,8 @@ use Rattle.page_rules.proofs.links.is_in_answered.Goals as goal
 
 pub returns-in-Is : goal.returns-in-Is
 unfolding in_answered
-returns-in-Is c = let s = c.args in rw (found_some (visit_of s.t (table_in s.there.now)) _ _ c.visit_of-found.ensures c.in-Is.is) c.is_to.ensures
+returns-in-Is c = let s = c.args in rw (found_some (visit_of s.t (table_in s.there.now)) _ _ c.visit_of.ensures c.in-Is.is) c.is_to.ensures
 
 pub returns-in-Nothing : goal.returns-in-Nothing
 unfolding in_answered
-returns-in-Nothing c = let s = c.args in rw (found_none (visit_of s.t (table_in s.there.now)) _ c.visit_of-found.ensures c.in-Nothing.is)
+returns-in-Nothing c = let s = c.args in rw (found_none (visit_of s.t (table_in s.there.now)) _ c.visit_of.ensures c.in-Nothing.is)
