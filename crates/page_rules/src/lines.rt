@@ -6,8 +6,8 @@ ghost use Rattle.page.specs.between.Changes.{table_in};
 ghost use Rattle.rules.specs.between.Parts.{entry};
 ghost use Rattle.page_rules.specs.between.Parts.{leaders, crowds, towards};
 
-use network::{LineFound, LineRow, Network};
-use page::{VisitFound, entries};
+use network::{LineRow, Network};
+use page::entries;
 use railway::sorts::{Station, Train};
 use railway::visit::{OutLink, Outward, Visit};
 use records::record;
@@ -47,18 +47,16 @@ fn is_crowded(row: LineRow, page: &[u8], t: Train, v: Visit, o: Outward) -> bool
     0 < k && (usize::from(row.capacity) <= k || any_caught(page, t, v, o))
 }
 
-fn does_crowd(n: Network, page: &[u8], t: Train, v: Visit, o: Outward) -> bool
-    ensures { result ≡ crowds n t v o (table_in page.now).visits }
+fn does_crowd(n: &Network, page: &[u8], t: Train, v: Visit, o: Outward) -> bool
+    ensures { result ≡ crowds n.now t v o (table_in page.now).visits }
 {
-    match n.line_row(o.line) {
-        LineFound::Row(row) => is_crowded(row, page, t, v, o),
-        LineFound::Nothing => false,
-    }
+    n.line_row(o.line)
+        .is_some_and(|row| is_crowded(row, page, t, v, o))
 }
 
 // 6. "t's departure is pending; trains u .."
-pub fn breaks_6(n: Network, page: &[u8], t: Train, v: Visit) -> bool
-    ensures { result ≡ breaks_6 n (table_in page.now).visits (entry t v) }
+pub fn breaks_6(n: &Network, page: &[u8], t: Train, v: Visit) -> bool
+    ensures { result ≡ breaks_6 n.now (table_in page.now).visits (entry t v) }
 {
     if v.departed {
         return false;
@@ -74,8 +72,8 @@ fn arrival_of(here: &[u8], p: Station, u: Train, w: Visit, q: Outward) -> u32
     ensures { result ≡ arrival_of (table_in here.now) p (entry u w) q }
 {
     match page::visit_of(here, u) {
-        VisitFound::Is(x) => trains::arrival_by(x, p, w, q),
-        VisitFound::Nothing => clock::due(w, q),
+        Some(x) => trains::arrival_by(x, p, w, q),
+        None => clock::due(w, q),
     }
 }
 
@@ -98,7 +96,7 @@ fn comes_towards(
 fn does_oppose(here: &[u8], s: Station, t: Train, v: Visit, o: Outward, u: Train, w: Visit) -> bool
     ensures { result ≡ opposes (table_in here.now) s (entry t v) o (entry u w) }
 {
-    if t.0 == u.0 {
+    if t == u {
         return false;
     }
     match w.outward {
@@ -109,7 +107,7 @@ fn does_oppose(here: &[u8], s: Station, t: Train, v: Visit, o: Outward, u: Train
 
 // 10. "Line of kind 3, t's departure pending": t leaves s by o, u has the visit w at the far station.
 pub fn breaks_10(
-    n: Network,
+    n: &Network,
     s: Station,
     here: &[u8],
     t: Train,
@@ -118,7 +116,7 @@ pub fn breaks_10(
     u: Train,
     w: Visit,
 ) -> bool
-    ensures { result ≡ breaks_10 n s (table_in here.now) (entry t v) o (entry u w) }
+    ensures { result ≡ breaks_10 n.now s (table_in here.now) (entry t v) o (entry u w) }
 {
     !v.departed && trains::is_both_ways(n, o) && does_oppose(here, s, t, v, o, u, w)
 }

@@ -4,7 +4,6 @@ ghost use Rattle.timetable.specs.Rules.{out_answered, in_answered, breaks_9};
 ghost use Rattle.page.specs.between.Changes.{table_in};
 ghost use Rattle.rules.specs.between.Parts.{entry};
 
-use page::VisitFound;
 use railway::sorts::{Station, Train};
 use railway::visit::{Inward, Outward, Visit};
 use rules::trains;
@@ -13,28 +12,20 @@ use rules::trains;
 pub fn is_out_answered(s: Station, t: Train, o: Outward, there: &[u8]) -> bool
     ensures { result ≡ out_answered s t o (table_in there.now) }
 {
-    match page::visit_of(there, t) {
-        VisitFound::Is(w) => visits::is_from(w, s, o.line),
-        VisitFound::Nothing => false,
-    }
+    page::visit_of(there, t).is_some_and(|w| visits::is_from(w, s, o.line))
 }
 
 // 8. "The mirror for in-links."
 pub fn is_in_answered(s: Station, t: Train, i: Inward, there: &[u8]) -> bool
     ensures { result ≡ in_answered s t i (table_in there.now) }
 {
-    match page::visit_of(there, t) {
-        VisitFound::Is(w) => visits::is_to(w, s, i.line),
-        VisitFound::Nothing => false,
-    }
+    page::visit_of(there, t).is_some_and(|w| visits::is_to(w, s, i.line))
 }
 
 // 9. "The out-link is answered, the far arrival is pending and isn't departure + run."
 pub fn breaks_9(s: Station, t: Train, v: Visit, o: Outward, there: &[u8]) -> bool
     ensures { result ≡ breaks_9 s (entry t v) o (table_in there.now) }
 {
-    match page::visit_of(there, t) {
-        VisitFound::Is(w) => visits::is_from(w, s, o.line) && trains::does_miss(v, o, w),
-        VisitFound::Nothing => false,
-    }
+    page::visit_of(there, t).is_some_and(|w| visits::is_from(w, s, o.line)
+        && trains::does_miss(v, o, w))
 }

@@ -8,7 +8,6 @@ ghost use Rattle.page.specs.between.Changes.{table_in};
 ghost use Rattle.page_rules.specs.Types.{Visit};
 ghost use Rattle.page_rules.specs.between.Parts.{one_met, two_met};
 
-use page::VisitFound;
 use railway::relation::{Relation, Trains};
 use railway::sorts::Train;
 use railway::visit::Visit;
@@ -19,13 +18,7 @@ fn one_met<F: Fn(Visit) -> bool>(page: &[u8], t: Train, test: &F) -> bool
     requires { F.IsAlwaysCallable test.now }
     ensures { (f : Visit → Bool) → ((v : Visit) (b : Bool) → F.post test.now v b → b ≡ f v) → result ≡ one_met f (table_in page.now) t }
 {
-    if t.0 == 0 {
-        return true;
-    }
-    match page::visit_of(page, t) {
-        VisitFound::Is(v) => test(v),
-        VisitFound::Nothing => false,
-    }
+    t.0 == 0 || page::visit_of(page, t).is_some_and(|v| test(v))
 }
 
 // Both trains visit, and the test holds of their visits.
@@ -34,7 +27,7 @@ fn both_visit<F: Fn(Visit, Visit) -> bool>(page: &[u8], t: Train, u: Train, test
     ensures { (f : Visit → Visit → Bool) → ((v w : Visit) (b : Bool) → F.post test.now v w b → b ≡ f v w) → result ≡ both_visit f (table_in page.now) t u }
 {
     match (page::visit_of(page, t), page::visit_of(page, u)) {
-        (VisitFound::Is(v), VisitFound::Is(w)) => test(v, w),
+        (Some(v), Some(w)) => test(v, w),
         _ => false,
     }
 }

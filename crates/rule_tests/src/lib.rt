@@ -19,7 +19,7 @@ use sheet::station_page;
 
 fn is_out_broken(
     sheet: &[u8],
-    n: Network,
+    n: &Network,
     scope: Scope,
     s: Station,
     rule: u16,
@@ -27,7 +27,7 @@ fn is_out_broken(
     v: Visit,
     o: Outward,
 ) -> bool
-    ensures { result ≡ out_broken n scope (held sheet.now) s rule (entry t v) o }
+    ensures { result ≡ out_broken n.now scope (held sheet.now) s rule (entry t v) o }
 {
     if !scope::is_taken(n, scope, s, o.station) {
         return false;
@@ -39,8 +39,8 @@ fn is_out_broken(
     }
 }
 
-fn is_in_broken(sheet: &[u8], n: Network, scope: Scope, s: Station, t: Train, i: Inward) -> bool
-    ensures { result ≡ in_broken n scope (held sheet.now) s t i }
+fn is_in_broken(sheet: &[u8], n: &Network, scope: Scope, s: Station, t: Train, i: Inward) -> bool
+    ensures { result ≡ in_broken n.now scope (held sheet.now) s t i }
 {
     scope::is_taken(n, scope, s, i.station)
         && !links::is_in_answered(s, t, i, station_page::page_of(sheet, i.station))
@@ -49,14 +49,14 @@ fn is_in_broken(sheet: &[u8], n: Network, scope: Scope, s: Station, t: Train, i:
 // 7, 8 and 9, where the visit has the link and the list takes its far station.
 fn is_far_broken(
     sheet: &[u8],
-    n: Network,
+    n: &Network,
     scope: Scope,
     s: Station,
     rule: u16,
     t: Train,
     v: Visit,
 ) -> bool
-    ensures { result ≡ far_broken n scope (held sheet.now) s rule (entry t v) }
+    ensures { result ≡ far_broken n.now scope (held sheet.now) s rule (entry t v) }
 {
     if rule == 8 {
         match v.inward {
@@ -74,14 +74,14 @@ fn is_far_broken(
 pub fn is_broken(
     sheet: &[u8],
     here: &[u8],
-    n: Network,
+    n: &Network,
     scope: Scope,
     s: Station,
     rule: u16,
     t: Train,
     v: Visit,
 ) -> bool
-    ensures { result ≡ broken n scope (held sheet.now) (table_in here.now) s rule (entry t v) }
+    ensures { result ≡ broken n.now scope (held sheet.now) (table_in here.now) s rule (entry t v) }
 {
     match rule {
         1 => stays::breaks_1(v),
@@ -106,7 +106,7 @@ pub fn second_of(rule: u16, t: Train, v: Visit) -> u16
 
 pub fn does_clash(
     here: &[u8],
-    n: Network,
+    n: &Network,
     s: Station,
     rule: u16,
     t: Train,
@@ -114,7 +114,7 @@ pub fn does_clash(
     u: Train,
     w: Visit,
 ) -> bool
-    ensures { result ≡ clash n (table_in here.now) s rule (entry t v) (entry u w) }
+    ensures { result ≡ clash n.now (table_in here.now) s rule (entry t v) (entry u w) }
 {
     match rule {
         2 => stays::breaks_2(v, w),

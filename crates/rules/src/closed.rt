@@ -5,36 +5,27 @@ ghost use Rattle.network.specs.Networks.{closure_rows};
 ghost use Rattle.timetable.specs.Rules.{shuts, breaks_11, out_line};
 
 use crate::clock;
-use network::{Closure, Network, in_use};
+use network::{Closure, Network};
 use railway::visit::{OutLink, Outward, Visit};
 
 // The run from the departure on shares a minute with the closure, and its line is the run's.
 fn does_shut(c: Closure, v: Visit, o: Outward) -> bool
     ensures { result ≡ shuts v o c }
 {
-    c.line.0 == o.line.0 && v.departure.0 < c.end.0 && u32::from(c.start.0) < clock::due(v, o)
+    c.line == o.line && v.departure.0 < c.end.0 && u32::from(c.start.0) < clock::due(v, o)
 }
 
 // Some closure shuts the run.
-fn is_shut(n: Network, v: Visit, o: Outward) -> bool
-    ensures { result ≡ any (shuts v o) (closure_rows n) }
+#[tactic(auto, unfolding(base::specs::Lists::any))]
+fn is_shut(n: &Network, v: Visit, o: Outward) -> bool
+    ensures { result ≡ any (shuts v o) (closure_rows n.now) }
 {
-    let rows = n.closures;
-    let k = in_use(n.closurecount, 32);
-    let mut i: usize = 0;
-    while i < k {
-        let row = rows[i];
-        if does_shut(row, v, o) {
-            return true;
-        }
-        i += 1;
-    }
-    false
+    n.closure_rows().iter().any(|c| does_shut(*c, v, o))
 }
 
 // 11. "A pending departure whose occupation .. shares a minute with a closure of its line"
-pub fn breaks_11(n: Network, v: Visit) -> bool
-    ensures { result ≡ breaks_11 n v }
+pub fn breaks_11(n: &Network, v: Visit) -> bool
+    ensures { result ≡ breaks_11 n.now v }
 {
     if v.departed {
         return false;

@@ -3,7 +3,7 @@ ghost use Rattle.std.specs.Prelude.{◌≡◌, ◌+◌, leb};
 ghost use Rattle.timetable.specs.Rules.{breaks_1, comes_too_soon, both_too_soon, stands_for, breaks_2, on_one_line, breaks_3, connected, disconnected, depends, breaks_5};
 ghost use Rattle.rules.specs.between.Parts.{runs_below};
 
-use network::{LineFound, Network};
+use network::Network;
 use railway::minute::Minute;
 use railway::sorts::Train;
 use railway::visit::{OutLink, Outward, Visit};
@@ -12,14 +12,14 @@ use railway::visit::{OutLink, Outward, Visit};
 pub fn breaks_1(v: Visit) -> bool
     ensures { result ≡ breaks_1 v }
 {
-    v.departure.0 < v.arrival.0 || (v.departed && !v.arrived)
+    v.departure < v.arrival || (v.departed && !v.arrived)
 }
 
 // "u's arrival is pending and earlier than t's departure + 1"
 fn comes_too_soon(v: Visit, w: Visit) -> bool
     ensures { result ≡ comes_too_soon v w }
 {
-    !w.arrived && w.arrival.0 <= v.departure.0
+    !w.arrived && w.arrival <= v.departure
 }
 
 // "both: ..; the same with t and u exchanged."
@@ -40,7 +40,7 @@ fn stands_for(v: Visit, w: Visit) -> bool
 pub fn breaks_2(v: Visit, w: Visit) -> bool
     ensures { result ≡ breaks_2 v w }
 {
-    v.track.0 == w.track.0 && (both_too_soon(v, w) || stands_for(v, w) || stands_for(w, v))
+    v.track == w.track && (both_too_soon(v, w) || stands_for(v, w) || stands_for(w, v))
 }
 
 // "t < u leave on one line"
@@ -48,7 +48,7 @@ fn on_one_line(v: Visit, w: Visit) -> bool
     ensures { result ≡ on_one_line v w }
 {
     match (v.outward, w.outward) {
-        (OutLink::To(o), OutLink::To(q)) => o.line.0 == q.line.0,
+        (OutLink::To(o), OutLink::To(q)) => o.line == q.line,
         _ => false,
     }
 }
@@ -98,19 +98,16 @@ pub fn does_depend(interval: u8, v: Visit, w: Visit) -> bool
 }
 
 // The running time is below the least of the link's line and the train.
-fn runs_below(n: Network, t: Train, o: Outward) -> bool
-    ensures { result ≡ runs_below n t o }
+fn runs_below(n: &Network, t: Train, o: Outward) -> bool
+    ensures { result ≡ runs_below n.now t o }
 {
-    let found = n.line_row(o.line);
-    match found {
-        LineFound::Row(row) => o.run < row.least_time(t),
-        LineFound::Nothing => false,
-    }
+    n.line_row(o.line)
+        .is_some_and(|row| o.run < row.least_time(t))
 }
 
 // 5. "Run below the line's least."; W3: "The least time is then that of a line and a train, and rule 5 follows it."
-pub fn breaks_5(n: Network, t: Train, v: Visit) -> bool
-    ensures { result ≡ breaks_5 n t v }
+pub fn breaks_5(n: &Network, t: Train, v: Visit) -> bool
+    ensures { result ≡ breaks_5 n.now t v }
 {
     match v.outward {
         OutLink::Nothing => false,

@@ -5,7 +5,7 @@ ghost use Rattle.timetable.specs.Rules.{ahead, caught, misses};
 ghost use Rattle.rules.specs.between.Parts.{entry, leads, catches, kind_three, is_towards, meets, arrival_by};
 
 use crate::clock;
-use network::{LineFound, Network};
+use network::Network;
 use railway::sorts::{Station, Train};
 use railway::visit::{OutLink, Outward, Visit};
 
@@ -18,8 +18,8 @@ pub fn is_ahead(v: Visit, o: Outward, w: Visit) -> bool
     match w.outward {
         OutLink::Nothing => false,
         OutLink::To(q) => {
-            q.line.0 == o.line.0
-                && w.departure.0 < v.departure.0
+            q.line == o.line
+                && w.departure < v.departure
                 && u32::from(v.departure.0) < clock::due(w, q)
         }
     }
@@ -39,7 +39,7 @@ pub fn is_caught(v: Visit, o: Outward, w: Visit) -> bool
 pub fn does_lead(t: Train, v: Visit, o: Outward, u: Train, w: Visit) -> bool
     ensures { result ≡ leads t v o (entry u w) }
 {
-    u.0 != t.0 && is_ahead(v, o, w)
+    u != t && is_ahead(v, o, w)
 }
 
 // Another train that is ahead of t and is caught.
@@ -61,21 +61,17 @@ pub fn does_miss(v: Visit, o: Outward, w: Visit) -> bool
 // 10
 
 // The line is of kind 3.
-pub fn is_both_ways(n: Network, o: Outward) -> bool
-    ensures { result ≡ kind_three n o }
+pub fn is_both_ways(n: &Network, o: Outward) -> bool
+    ensures { result ≡ kind_three n.now o }
 {
-    let found = n.line_row(o.line);
-    match found {
-        LineFound::Row(row) => row.kind == 3,
-        LineFound::Nothing => false,
-    }
+    n.line_row(o.line).is_some_and(|row| row.kind == 3)
 }
 
 // u leaves "on it towards s"
 pub fn is_towards(s: Station, o: Outward, q: Outward) -> bool
     ensures { result ≡ is_towards s o q }
 {
-    q.line.0 == o.line.0 && q.station.0 == s.0
+    q.line == o.line && q.station == s
 }
 
 // u, which arrives at a, "neither arrives before t departs nor departs after t's departure + run"

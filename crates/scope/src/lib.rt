@@ -11,7 +11,7 @@ use railway::sorts::{Area, Station};
 
 pub mod redone; // which findings an edit has redone
 
-#[derive(Clone, Copy)]
+#[derive(Clone, Copy, Debug, PartialEq, Eq, Hash)]
 pub enum Scope {
     // All of them.
     Whole,
@@ -21,20 +21,20 @@ pub enum Scope {
     Between(Area, Area),
 }
 
-fn is_in(n: Network, a: Area, s: Station) -> bool
-    ensures { result ≡ in_group (area_of n) a.0 s }
+fn is_in(n: &Network, a: Area, s: Station) -> bool
+    ensures { result ≡ in_group (area_of n.now) a.0 s }
 {
     0 < a.0 && a.0 == n.group_of(s)
 }
 
-fn are_in(n: Network, a: Area, s: Station, b: Area, p: Station) -> bool
-    ensures { result ≡ (in_group (area_of n) a.0 s && in_group (area_of n) b.0 p) }
+fn are_in(n: &Network, a: Area, s: Station, b: Area, p: Station) -> bool
+    ensures { result ≡ (in_group (area_of n.now) a.0 s && in_group (area_of n.now) b.0 p) }
 {
     is_in(n, a, s) && is_in(n, b, p)
 }
 
-pub fn is_taken(n: Network, scope: Scope, s: Station, p: Station) -> bool
-    ensures { result ≡ takes n scope s p }
+pub fn is_taken(n: &Network, scope: Scope, s: Station, p: Station) -> bool
+    ensures { result ≡ takes n.now scope s p }
 {
     match scope {
         Scope::Whole => true,

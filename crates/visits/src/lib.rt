@@ -33,7 +33,7 @@ pub fn is_from(v: Visit, s: Station, l: Line) -> bool
 {
     match v.inward {
         InLink::Nothing => false,
-        InLink::From(i) => i.station.0 == s.0 && i.line.0 == l.0,
+        InLink::From(i) => i.station == s && i.line == l,
     }
 }
 
@@ -43,7 +43,7 @@ pub fn is_to(v: Visit, s: Station, l: Line) -> bool
 {
     match v.outward {
         OutLink::Nothing => false,
-        OutLink::To(o) => o.station.0 == s.0 && o.line.0 == l.0,
+        OutLink::To(o) => o.station == s && o.line == l,
     }
 }
 
@@ -51,7 +51,7 @@ pub fn is_to(v: Visit, s: Station, l: Line) -> bool
 pub fn stops_anyway(v: Visit) -> bool
     ensures { result ≡ stops_anyway v }
 {
-    v.arrival.0 < v.departure.0 || has_no_in(v) || has_no_out(v)
+    v.arrival < v.departure || has_no_in(v) || has_no_out(v)
 }
 
 // "A marked visit stops even if the old condition doesn't hold."
@@ -145,7 +145,7 @@ pub fn depart(time: Minute, v: Visit) -> Visit
 }
 
 // One change of a visit that stands, by edits 2 to 8.
-#[derive(Clone, Copy)]
+#[derive(Clone, Copy, Debug, PartialEq, Eq, Hash)]
 pub enum Change {
     In(InLink),
     Out(OutLink),
@@ -177,7 +177,7 @@ pub fn stands_first(s: Station, p: Station, v: Visit, w: Visit) -> bool
     }
     match v.outward {
         OutLink::Nothing => false,
-        OutLink::To(o) => o.station.0 == p.0 && is_from(w, s, o.line),
+        OutLink::To(o) => o.station == p && is_from(w, s, o.line),
     }
 }
 
@@ -190,7 +190,7 @@ pub fn stands_last(s: Station, p: Station, v: Visit, w: Visit) -> bool
     }
     match v.inward {
         InLink::Nothing => false,
-        InLink::From(i) => i.station.0 == p.0 && is_to(w, s, i.line),
+        InLink::From(i) => i.station == p && is_to(w, s, i.line),
     }
 }
 
@@ -198,14 +198,14 @@ pub fn stands_last(s: Station, p: Station, v: Visit, w: Visit) -> bool
 fn keeps_arrival(p: Plan, v: Visit) -> bool
     ensures { result ≡ keeps_arrival p v }
 {
-    p.arrival.0 == v.arrival.0 && p.track.0 == v.track.0
+    p.arrival == v.arrival && p.track == v.track
 }
 
 // The departure has occurred and the plan has another.
 fn alters_departure(p: Plan, v: Visit) -> bool
     ensures { result ≡ alters_departure p v }
 {
-    v.departed && p.departure.0 != v.departure.0
+    v.departed && p.departure != v.departure
 }
 
 // "11 an amendment alters an occurred time, or the track after an occurred arrival"
