@@ -11,7 +11,7 @@ use Rattle.base.specs.Lists.{keep}
 use Rattle.railway.specs.Relations.{present, used}
 use Rattle.railway.specs.declared.sorts.Train.{Train}
 use Rattle.railway.specs.declared.relation.Trains.{Trains}
-use Rattle.fields.specs.declared.field.Numbers.{Numbers}
+use Rattle.fields.specs.declared.put.Numbers.{Numbers}
 use Rattle.fields.specs.between.Answers.{row_of}
 use Rattle.fields.proofs.ReadLaws.{padded_next}
 
@@ -29,19 +29,19 @@ one_more ns t k h = go (present t)
 
 -- one train more in a row that holds these numbers
 module _ (f : Numbers) (t : Train) (ns : List ℕ) (e : f ≡ row_of ns) where
-  pub train_more : length ns < 13 → 0 < t.0 → record { from = f.from; to = f.to + 1; values = set f.values f.to t.0 } ≡ row_of (ns ++ one t)
+  pub train_more : length ns < 13 → 0 < t.0 → record { count = f.count + 1; values = set f.values f.count t.0 } ≡ row_of (ns ++ one t)
   unfolding row_of keep
   train_more room p =
-      ap (λ (g : Numbers). record { from = g.from; to = g.to + 1; values = set g.values g.to t.0 }) e
+      ap (λ (g : Numbers). record { count = g.count + 1; values = set g.values g.count t.0 }) e
       ∙ rw (lt-ltb 0 t.0 p, padded_next 13 0 ns (length ns) t.0 refl room, length-append ns (t.0 ∷ []))
 
   pub train_none : ¬ (0 < t.0) → f ≡ row_of (ns ++ one t)
   unfolding keep
   train_none p = let z : t.0 ≤ 0 = omega arith in rw (le-ltb 0 t.0 z) (e ∙ ap row_of (sym (append-nil ns)))
 
-  pub train_count : f.to ≡ length ns
+  pub train_count : f.count ≡ length ns
   unfolding row_of
-  train_count = ap (λ (g : Numbers). g.to) e
+  train_count = ap (λ (g : Numbers). g.count) e
 
 keep_cons : (x : Train) (xs : List Train) → map (λ u. u.0) (keep present (x ∷ xs)) ≡ one x ++ map (λ u. u.0) (keep present xs)
 unfolding keep

@@ -4,171 +4,100 @@
 ghost use Rattle.std.specs.Prelude.{◌≡◌, ◌+◌, ◌<◌, ◌≤◌};
 ghost use Rattle.std.specs.Prelude.{if◌then◌else◌};
 ghost use Rattle.timetable.specs.Formats.{read};
-ghost use Rattle.timetable.specs.EditsFile.{trains_format, most_trains, group_of, relation_of, station_relation_entry};
-ghost use Rattle.fields.specs.between.Answers.{in_use, row_read};
-ghost use Rattle.relation_files.specs.between.Answers.{relation_trains, relation_fields, relation_outcome};
+ghost use Rattle.timetable.specs.EditsFile.{trains_format, most_trains, relation_of, station_relation_entry};
+ghost use Rattle.fields.specs.between.Answers.{outcome};
+ghost use Rattle.relation_files.specs.between.Answers.{TellsTrains};
 
-use fields::field::{Numbers, RowRead, narrow, refused_row};
-use fields::floor;
+use base::refusal::FileError;
+use fields::field::narrow;
+use fields::floor::{compared, floor_after};
 use railway::edit::StationRelation;
 use railway::relation::{Pair, Relation, Trains};
 use railway::sorts::{Station, Train};
-
-// The relation at its station and the place behind it, or a refusal's number and place.
-#[derive(Clone, Copy)]
-pub enum RelationRead {
-    Entry(StationRelation, usize),
-    Refused(u8, usize),
-}
 
 // The least train behind another.
 fn least_train(rise: bool, before: u16) -> u32
     ensures { result ≡ (if rise then before + 1 else 1) }
 {
-    if rise {
-        return before as u32 + 1;
-    }
-    1
+    if rise { u32::from(before) + 1 } else { 1 }
 }
 
-// So many trains.
-fn trains(file: &[u8], at: usize, rise: bool, count: usize, floor: Numbers) -> RowRead
-    requires { count ≤ 13 }
-    ensures { result ≡ row_read (read (trains_format rise count 0 (in_use floor)) file.now at) }
+// Up to four trains, zeros behind them.
+fn trains(
+    file: &[u8],
+    at: usize,
+    rise: bool,
+    count: usize,
+    floor: &[u16],
+) -> Result<([u16; 4], usize), FileError>
+    requires { count ≤ 4 }
+    ensures { TellsTrains result (read (trains_format rise count 0 floor.now) file.now at) }
 {
-    let mut values: [u16; 13] = [0; 13];
+    let mut values = [0; 4];
     let mut place = at;
-    let mut before: u16 = 0;
+    let mut before = 0;
     let mut left = floor;
-    let mut i: usize = 0;
-    while i < count {
-        let t = floor::compared(file, place, least_train(rise, before), 9999, left);
-        if t.accepted {
-            values[i] = t.value;
-            left = floor::floor_after(left, t.value);
-            before = t.value;
-            place = t.place;
-        } else {
-            return refused_row(t.refusal, t.place);
-        }
-        i += 1;
+    for i in 0..count {
+        let (t, next) = compared(file, place, least_train(rise, before), 9999, left)?;
+        values[i] = t;
+        left = floor_after(left, t);
+        before = t;
+        place = next;
     }
-    RowRead {
-        accepted: true,
-        refusal: 0,
-        place: place,
-        values: values,
-    }
+    Ok((values, place))
 }
 
-fn group_from(v: [u16; 13]) -> Trains
-    ensures { result ≡ group_of v }
+// The relation of such trains, zeros where there are fewer.
+#[tactic(auto, using(crate::proofs::ReadingLaws::group_places), unfolding(timetable::specs::EditsFile::relation_of, timetable::specs::EditsFile::pair_of))]
+fn relation_from(kind: u16, i: u16, trains: [u16; 4]) -> Relation
+    ensures { i < 256 → result ≡ relation_of kind i trains }
 {
-    Trains {
-        a: Train(v[0]),
-        b: Train(v[1]),
-        c: Train(v[2]),
-        d: Train(v[3]),
+    let interval = narrow(i);
+    let [a, b, c, d] = trains;
+    let group = Trains {
+        a: Train(a),
+        b: Train(b),
+        c: Train(c),
+        d: Train(d),
+    };
+    let pair = Pair {
+        arriver: Train(a),
+        departer: Train(b),
+    };
+    match kind {
+        1 => Relation::Connection(interval, group),
+        2 => Relation::Disconnection(interval, group),
+        _ => Relation::Dependency(interval, pair),
     }
-}
-
-fn relation_from(kind: u16, i: u16, v: [u16; 13]) -> Relation
-    ensures { i < 256 → result ≡ relation_of kind i v }
-{
-    if kind == 1 {
-        return Relation::Connection(narrow(i), group_from(v));
-    }
-    if kind == 2 {
-        return Relation::Disconnection(narrow(i), group_from(v));
-    }
-    Relation::Dependency(
-        narrow(i),
-        Pair {
-            arriver: Train(v[0]),
-            departer: Train(v[1]),
-        },
-    )
 }
 
 // "a dependency an arriver and a departer": its count is 2.
 fn most_trains(kind: u16) -> u16
     ensures { (result ≡ most_trains kind) × (result ≤ 4) }
 {
-    if kind == 3 {
-        return 2;
-    }
-    4
+    if kind == 3 { 2 } else { 4 }
 }
 
-// Behind the station, the kind, the interval and the count.
-fn relation_trains(
+/// The relation entry at a place, behind the numbers of the entry before, and the place behind it.
+pub fn relation_entry(
     file: &[u8],
     at: usize,
-    s: u16,
-    kind: u16,
-    interval: u16,
-    count: u16,
-    floor: Numbers,
-) -> RelationRead
-    requires { count ≤ 13 }
-    ensures { s ≤ 16 → interval ≤ 240 → relation_outcome result ≡ read (relation_trains s kind interval count (in_use floor)) file.now at }
+    floor: &[u16],
+) -> Result<(StationRelation, usize), FileError>
+    ensures { outcome result ≡ read (station_relation_entry floor.now) file.now at }
 {
-    let found = trains(file, at, kind != 3, count as usize, floor);
-    if found.accepted {
-        let v = found.values;
-        return RelationRead::Entry(
-            StationRelation {
-                station: Station(narrow(s)),
-                relation: relation_from(kind, interval, v),
-            },
-            found.place,
-        );
-    }
-    RelationRead::Refused(found.refusal, found.place)
-}
-
-// Behind the station and the kind.
-fn relation_fields(file: &[u8], at: usize, s: u16, kind: u16, floor: Numbers) -> RelationRead
-    ensures { s ≤ 16 → relation_outcome result ≡ read (relation_fields s kind (in_use floor)) file.now at }
-{
-    let i = floor::compared(file, at, 0, 240, floor);
-    if i.accepted {
-        let left = floor::floor_after(floor, i.value);
-        let k = floor::compared(file, i.place, 2, most_trains(kind), left);
-        if k.accepted {
-            return relation_trains(
-                file,
-                k.place,
-                s,
-                kind,
-                i.value,
-                k.value,
-                floor::floor_after(left, k.value),
-            );
-        }
-        return RelationRead::Refused(k.refusal, k.place);
-    }
-    RelationRead::Refused(i.refusal, i.place)
-}
-
-// The relation entry at a place, behind the numbers of the entry before.
-pub fn relation_entry(file: &[u8], at: usize, floor: Numbers) -> RelationRead
-    ensures { relation_outcome result ≡ read (station_relation_entry (in_use floor)) file.now at }
-{
-    let s = floor::compared(file, at, 1, 16, floor);
-    if s.accepted {
-        let left = floor::floor_after(floor, s.value);
-        let kind = floor::compared(file, s.place, 1, 3, left);
-        if kind.accepted {
-            return relation_fields(
-                file,
-                kind.place,
-                s.value,
-                kind.value,
-                floor::floor_after(left, kind.value),
-            );
-        }
-        return RelationRead::Refused(kind.refusal, kind.place);
-    }
-    RelationRead::Refused(s.refusal, s.place)
+    let (s, next) = compared(file, at, 1, 16, floor)?;
+    let left = floor_after(floor, s);
+    let (kind, next) = compared(file, next, 1, 3, left)?;
+    let left = floor_after(left, kind);
+    let (interval, next) = compared(file, next, 0, 240, left)?;
+    let left = floor_after(left, interval);
+    let (count, next) = compared(file, next, 2, most_trains(kind), left)?;
+    let left = floor_after(left, count);
+    let (trains, next) = trains(file, next, kind != 3, usize::from(count), left)?;
+    let relation = StationRelation {
+        station: Station(narrow(s)),
+        relation: relation_from(kind, interval, trains),
+    };
+    Ok((relation, next))
 }

@@ -1,2 +1,1 @@
 pub mod VisitLaws
-pub mod VisitNumbers

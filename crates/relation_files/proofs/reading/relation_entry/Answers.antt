@@ -1,62 +1,53 @@
--- `relation_files::reading::relation_entry` meets its contract: station, kind and the fields behind them decide in this
+-- `relation_files::reading::relation_entry` meets its contract: station, kind, interval, count and trains decide in this
 -- order. Assumes nothing.
-use Prim.Native.Nat.{ℕ}
-use mathlib.Core.Path.{sym, ◌∙◌, ap}
-use mathlib.Core.List.{List}
-use Rattle.timetable.specs.Formats.{read, field_at, least, floor_after}
+use Prim.Native.Nat.{ℕ, ◌%◌}
+use mathlib.Core.Path.{◌≡◌, sym, ◌∙◌, ap}
+use native.Mathlib.Omega.{arith}
+use Rattle.std.proofs.lemmas.Result.{err_from_is_err_and}
+use Rattle.base.specs.RefusalNumbers.{number_of}
+use Rattle.timetable.specs.Formats.{accepted}
+use Rattle.timetable.specs.EditsFile.{relation_of}
+use Rattle.railway.specs.declared.relation.Relation.{Relation}
 use Rattle.fields.proofs.EntryLaws.{field_bounded}
-use Rattle.fields.specs.between.Answers.{in_use, number_read}
-use Rattle.relation_files.specs.between.Answers.{relation_fields, relation_outcome}
-use Rattle.fields.proofs.FloorLaws.{number_value, number_refusal}
-use Rattle.fields.proofs.RowHolds.{row_held}
-use Rattle.relation_files.proofs.ReadingLaws.{place_stop, kind_stop, kind_then}
-use borrow.Author.Rules.{rules}
+use Rattle.relation_files.proofs.ReadingLaws.{relation_padded, trains_stop, trains_some}
 use Rattle.relation_files.proofs.reading.relation_entry.Goals as goal
 
-pub compared-s-requires : goal.compared-s-requires
-compared-s-requires c = search rules
-
-pub floor_after-left-requires : goal.floor_after-left-requires
-floor_after-left-requires c = search rules
-
-pub compared-kind-requires : goal.compared-kind-requires
-compared-kind-requires c = search rules
-
-pub floor_after-requires : goal.floor_after-requires
-floor_after-requires c = search rules
-
-pub relation_fields-requires : goal.relation_fields-requires
-relation_fields-requires c = search rules
-
-pub returns-then-kind : goal.returns-then-kind
-returns-then-kind c =
+pub returns-in_err-trains : goal.returns-in_err-trains
+returns-in_err-trains c =
     let s = c.args in
-    let n = c.compared-s in
-    let o = number_value _ n.result n.ensures c.if-s.true in
-    let m = c.compared-kind in
-    let e = m.ensures ∙ ap (λ (l : List ℕ). number_read (field_at (least 1 l) 3 s.file.now n.result.place)) (row_held c.floor_after-left.ensures) in
-    let q = number_value _ m.result e c.if-kind.true in
-    let b = (field_bounded _ 16 s.file.now s.at n.result.value n.result.place o).1 in
-    c.relation_fields.ensures b
-    ∙ ap (λ (l : List ℕ). read (relation_fields n.result.value m.result.value l) s.file.now m.result.place)
-    (row_held c.floor_after.ensures ∙ ap (floor_after m.result.value) (row_held c.floor_after-left.ensures))
-    ∙ sym (kind_then (in_use s.floor) s.file.now s.at n.result.value n.result.place o m.result.value m.result.place q)
-
-pub returns-then-s : goal.returns-then-s
-unfolding relation_outcome
-returns-then-s c =
-    let s = c.args in
-    let n = c.compared-s in
-    let o = number_value _ n.result n.ensures c.if-s.true in
-    let m = c.compared-kind in
-    let e = m.ensures ∙ ap (λ (l : List ℕ). number_read (field_at (least 1 l) 3 s.file.now n.result.place)) (row_held c.floor_after-left.ensures) in
-    let q = number_refusal _ m.result e c.if-kind.false in
-    sym (kind_stop (in_use s.floor) s.file.now s.at n.result.value n.result.place o m.result.refusal m.result.place q)
+    let l1 = c.floor_after-left.ensures in
+    let l2 = c.floor_after-left-2.ensures in
+    let l3 = c.floor_after-left-3.ensures in
+    let l4 = c.floor_after-left-4.ensures in
+    let e = sym c.in_ok-s.ensures in
+    let f = rw l1 at (sym c.in_ok-kind.ensures) in
+    let g = rw (l2, l1) at (sym c.in_ok-interval.ensures) in
+    let h = rw (l3, l2, l1, c.most_trains.ensures.0) at (sym c.in_ok-count.ensures) in
+    let q = rw (l4, l3, l2, l1, c.from.ensures) at c.in_err-trains.ensures in
+    let r = c.in_err-trains.field-0.0 in
+    let p = err_from_is_err_and c.from_residual-in_err-trains.result c.from_residual-in_err-trains.ensures.1 in
+    rw (p.1, p.2)
+    (sym (trains_stop s.floor.now s.file.now s.at c.in_ok-s.s c.in_ok-s.next c.in_ok-kind.kind c.in_ok-kind.next c.in_ok-interval.interval c.in_ok-interval.next c.in_ok-count.count c.in_ok-count.next
+    e f g h (number_of r.refusal) r.place q))
 
 pub returns : goal.returns
-unfolding relation_outcome
 returns c =
     let s = c.args in
-    let n = c.compared-s in
-    let o = number_refusal _ n.result n.ensures c.if-s.false in
-    sym (place_stop (in_use s.floor) s.file.now s.at n.result.refusal n.result.place o)
+    let l1 = c.floor_after-left.ensures in
+    let l2 = c.floor_after-left-2.ensures in
+    let l3 = c.floor_after-left-3.ensures in
+    let l4 = c.floor_after-left-4.ensures in
+    let e = sym c.in_ok-s.ensures in
+    let f = rw l1 at (sym c.in_ok-kind.ensures) in
+    let g = rw (l2, l1) at (sym c.in_ok-interval.ensures) in
+    let h = rw (l3, l2, l1, c.most_trains.ensures.0) at (sym c.in_ok-count.ensures) in
+    let r = c.in_ok-trains in
+    let q = rw (l4, l3, l2, l1, c.from.ensures) at r.ensures.1 in
+    let a : c.in_ok-s.s % 256 ≡ c.in_ok-s.s = omega (arith, (field_bounded _ _ _ _ _ _ e).1) in
+    let v = c.relation_from.ensures (omega (arith, (field_bounded _ _ _ _ _ _ g).1)) ∙ ap (relation_of c.in_ok-kind.kind c.in_ok-interval.interval) r.ensures.2
+    ∙ relation_padded c.in_ok-kind.kind c.in_ok-interval.interval r.ensures.0 in
+    ap (λ (x : ℕ). accepted (record { station = record { 0 = x }; relation = c.relation_from.result }) r.next) (c.narrow.ensures ∙ a)
+    ∙ ap (λ (x : Relation). accepted (record { station = record { 0 = c.in_ok-s.s }; relation = x }) r.next) v
+    ∙ sym
+    (trains_some s.floor.now s.file.now s.at c.in_ok-s.s c.in_ok-s.next c.in_ok-kind.kind c.in_ok-kind.next c.in_ok-interval.interval c.in_ok-interval.next c.in_ok-count.count c.in_ok-count.next
+    e f g h r.ensures.0 r.next q)

@@ -8,7 +8,6 @@ use Rattle.timetable.specs.Formats.{Outcome, read}
 use Rattle.timetable.specs.EditsFile.{trains_format}
 use Rattle.fields.specs.between.Answers.{padded}
 use Rattle.fields.proofs.ReadLaws.{SoFar}
-use Rattle.fields.specs.between.Answers.{in_use}
 use Rattle.relation_files.proofs.reading.trains.Given as goal
 
 abbrev pub left_at : List ℕ → Bool → ℕ → ℕ → List ℕ → ℕ → Outcome (List ℕ)
@@ -16,7 +15,4 @@ left_at file rise k before floor place = read (trains_format rise k before floor
 
 abbrev pub invariant-loop-i : goal.invariant-loop-i
 invariant-loop-i l =
-    (l.i ≤ l.count) × ((s : SoFar (left_at l.file l.rise l.count 0 (in_use l.initial.left) l.at) l.i (left_at l.file l.rise (l.count - l.i) l.before (in_use l.left) l.place)) × (l.values ≡ padded 13 0 s.elements))
-
-abbrev pub decreases-loop-i : goal.decreases-loop-i
-decreases-loop-i l = l.count - l.i
+    (l.i ≤ l.count) × ((s : SoFar (left_at l.file l.rise l.count 0 l.initial.left l.at) l.i (left_at l.file l.rise (l.count - l.i) l.before l.left l.place)) × (l.values ≡ padded 4 0 s.elements))
