@@ -1,6 +1,5 @@
 -- What every call answers, and how a call goes on where the files that it is lent are read. Assumes nothing.
-use Rattle.std.specs.Prelude.{ℕ, ◌+◌, Bool}
-use Rattle.std.proofs.Math.Option.{Option, none, some}
+use Rattle.std.specs.Prelude.{ℕ, ◌+◌, Bool, Option, Some, None}
 use Rattle.base.specs.Choice.{◌if◌else◌}
 use Rattle.std.specs.Prelude.{if◌then◌else◌}
 use Rattle.timetable.specs.Outputs as outputs
@@ -22,12 +21,12 @@ of_answer a = record { refusal = a.refusal; removed = a.removed; file = 0; place
 
 -- document 01's number and what comes along, as they cross: a place is that of a file, 1 the network and 2 the other
 unfoldable pub file_of : ℕ → Option ℕ → ℕ
-file_of file none = 0
-file_of file (some p) = file
+file_of file None = 0
+file_of file (Some p) = file
 
 unfoldable pub or_nought : Option ℕ → ℕ
-or_nought none = 0
-or_nought (some k) = k
+or_nought None = 0
+or_nought (Some k) = k
 
 unfoldable pub of_reply_in : ℕ → outputs.Reply → Reply
 of_reply_in file r = record { refusal = r.number; removed = 0; file = file_of file r.place; place = or_nought r.place; length = or_nought r.size }

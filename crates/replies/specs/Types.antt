@@ -2,3 +2,4 @@
 pub use Rattle.network.specs.declared.Network.{Network}
 pub use Rattle.timetable.specs.declared.Answer.{Answer}
 pub use Rattle.replies.specs.declared.Reply.{Reply}
+pub use Rattle.replies.specs.declared.CallError.{CallError}
