@@ -4,12 +4,11 @@ use Prim.Native.Nat.{ℕ, ◌+◌, ◌*◌, ◌-◌, ◌≤◌, ◌<◌, min}
 use mathlib.Core.Path.{◌≡◌, refl, sym, ap, ◌∙◌}
 use mathlib.Core.Bool.{Bool, true, false, ◌||◌}
 use mathlib.Core.List.{List, [], ◌∷◌, ◌++◌, map, flat_map, append-nil}
-use mathlib.Core.Option.{Option, none, some}
+use Rattle.std.specs.Prelude.{Option, None, Some}
 use native.Mathlib.Omega.{arith}
 use lib.Dec.{T, ltb}
 use lib.ListN.{length, get_or, set, take, drop, length-append, length-drop, length-map, drop_of_length-le, get_or-map}
-use lib.Seq.{length-take-le}
-use borrow.Author.Tests.{eq-eqb}
+use lib.Seq.{length-take-le, take_all}
 use Rattle.std.specs.Prelude.{if◌then◌else◌}
 use Rattle.base.specs.Lists.{any, every, each_two, same}
 use Rattle.base.proofs.Lengths.{drop_next}
@@ -18,17 +17,15 @@ use Rattle.base.proofs.Tests.{T_false, true_T, by_value, every_head, every_tail}
 use Rattle.railway.specs.Relations.{key, precedes, same_relation}
 use Rattle.timetable.specs.Tables.{insert, insert_if, lose, lose_all}
 use Rattle.timetable.proofs.TableLaws.{lose_all_length, lose_all_order}
-use Rattle.records.specs.Bytes.{zeros, overwritten}
+use Rattle.records.specs.Bytes.{zeros}
 use Rattle.records.specs.Records.{encode_relation, decode_relation}
 use Rattle.records.proofs.RecordLaws.{relation_length}
 use Rattle.page.specs.Types.{Train, Relation}
-use Rattle.relation_loss.specs.declared.Left.{Left}
-use Rattle.relation_loss.specs.between.Left.{left}
 use Rattle.page.specs.Pages.{slots, records_of, relation_records, relations_of}
-use Rattle.page.specs.between.Changes.{index_of, put_in, is_slotted, slotted, slotted_count, slotted_left, left_count, page_lose_train}
-use Rattle.page.proofs.SlotLaws.{length_records, record_there, index_most, any_index, rest_of_page}
+use Rattle.page.specs.between.Changes.{index_of, counts_to, put_in, is_slotted, slotted, slotted_count, slotted_left, left_count, page_lose_train}
+use Rattle.page.proofs.SlotLaws.{length_records, record_there, index_most, any_index}
 use Rattle.page.proofs.RecordsPut.{counts_few}
-use Rattle.page.proofs.FlatLaws.{slots_length, records_slots, put_slots}
+use Rattle.page.proofs.FlatLaws.{records_slots, put_slots}
 use Rattle.page.proofs.ChangeLaws.{insert_cut, relations_read}
 
 -- what comes before the first of a list in order is not in it
@@ -97,16 +94,16 @@ module _ (q : Relation) (rs : List Relation) (o : T (each_two precedes rs)) (few
 -- what is left of a relation
 
 left_list : (m : Option Relation) (rs : List Relation) → T (each_two precedes rs) → length rs < 6
-    → slotted_left (left m) (length rs) (slots encode_relation 6 rs) ≡ slots encode_relation 6 (insert_if m rs)
-unfolding left slotted_left insert_if
-left_list none rs o few = refl
-left_list (some q) rs o few = slotted_list q rs o few
+    → slotted_left m (length rs) (slots encode_relation 6 rs) ≡ slots encode_relation 6 (insert_if m rs)
+unfolding slotted_left insert_if
+left_list None rs o few = refl
+left_list (Some q) rs o few = slotted_list q rs o few
 
 left_many : (m : Option Relation) (rs : List Relation) → T (each_two precedes rs) → length rs < 6
-    → left_count (left m) (length rs) (slots encode_relation 6 rs) ≡ length (insert_if m rs)
-unfolding left left_count insert_if
-left_many none rs o few = refl
-left_many (some q) rs o few = slotted_many q rs o few
+    → left_count m (length rs) (slots encode_relation 6 rs) ≡ length (insert_if m rs)
+unfolding left_count insert_if
+left_many None rs o few = refl
+left_many (Some q) rs o few = slotted_many q rs o few
 
 -- from the last record to the first
 
@@ -137,8 +134,8 @@ module _ (t : Train) (from : List ℕ) (n : ℕ) where
       rw (drop_next rs (k - 1) (decode_relation []) inside, here, one)
 
   -- a turn of the loop that goes from index k to k - 1
-  module _ (k : ℕ) (h : 0 < k) (l : k ≤ n) (six : n ≤ 6) (rest : Left) (b : List ℕ) (m : ℕ) (slots-is : b ≡ slots encode_relation 6 (rest_from k))
-      (count-is : m ≡ length (rest_from k)) (rest_is : rest ≡ left (lose t (decode_relation (take 16 (drop (16 * (k - 1)) from))))) where
+  module _ (k : ℕ) (h : 0 < k) (l : k ≤ n) (six : n ≤ 6) (rest : Option Relation) (b : List ℕ) (m : ℕ) (slots-is : b ≡ slots encode_relation 6 (rest_from k))
+      (count-is : m ≡ length (rest_from k)) (rest_is : rest ≡ lose t (decode_relation (take 16 (drop (16 * (k - 1)) from)))) where
     pub anew_list : slotted_left rest m b ≡ slots encode_relation 6 (rest_from (k - 1))
     anew_list =
         let rs = drop k (map decode_relation (records_of n from)) in
@@ -158,17 +155,22 @@ empty_slots = refl
 
 -- the page with the relations anew
 pub lose_done : (t : Train) (page x y : List ℕ) (n m : ℕ) → length page ≡ 512 → n ≡ get_or page 1 0 → n ≤ 6
-    → m ≡ length (rest_from t (take 96 (drop 416 page)) n 0) → x ≡ slots encode_relation 6 (rest_from t (take 96 (drop 416 page)) n 0)
-    → y ≡ overwritten (take 96 (drop 416 page)) x → set (take 416 page ++ (y ++ drop 96 (drop 416 page))) 1 m ≡ page_lose_train t page
-unfolding page_lose_train relations_of relation_records overwritten
+    → let b = take (length page - 416) (drop 416 page) in
+    m ≡ length (rest_from t b n 0) → x ≡ slots encode_relation 6 (rest_from t b n 0) → y ≡ x
+    → set (take 416 page ++ (y ++ drop (length page - 416) (drop 416 page))) 1 m ≡ page_lose_train t page
+unfolding page_lose_train relations_of relation_records
 lose_done t page x y n m whole count few many is over =
     let b = drop 416 page in
-    let l = rest_from t (take 96 b) n 0 in
-    let part : take 96 b ≡ b = rest_of_page page 416 96 whole refl in
+    let k = length page - 416 in
+    let l = rest_from t (take k b) n 0 in
+    let part : take k b ≡ b = take_all k b (omega (arith, length-drop 416 page)) in
     let six : n ≡ min (get_or page 1 0) 6 = omega arith in
     let same : l ≡ lose_all t (map decode_relation (records_of (min (get_or page 1 0) 6) b)) = λ i. lose_all t (map decode_relation (records_of (six i) (part i))) in
-    let long : length x ≡ 96 = ap length is ∙ slots_length encode_relation relation_length 6 l (omega (arith, rest_few t (take 96 b) n 0)) in
-    let wide : length (take 96 b) ≡ length x = length-take-le 96 b (omega (arith, length-drop 416 page)) ∙ sym long in
-    let new : y ≡ slots encode_relation 6 l = over ∙ rw (eq-eqb (length (take 96 b)) (length x) wide) is in
-    let end : drop 96 b ≡ [] = drop_of_length-le b {i = 96} (omega (arith, length-drop 416 page)) in
+    let new : y ≡ slots encode_relation 6 l = over ∙ is in
+    let end : drop k b ≡ [] = drop_of_length-le b {i = k} (omega (arith, length-drop 416 page)) in
     rw (new, end, append-nil (slots encode_relation 6 l), many, same, counts_few 1 6 page n whole count few)
+
+-- and where it counts too many
+pub lose_off : (t : Train) (page : List ℕ) → counts_to 1 6 page ≡ false → page ≡ page_lose_train t page
+unfolding page_lose_train
+lose_off t page q = rw q

@@ -1,5 +1,6 @@
 pub mod FlatLaws
 pub mod SlotLaws
+pub mod RowLaws
 pub mod FindLaws
 pub mod FoundLaws
 pub mod RecordsPut

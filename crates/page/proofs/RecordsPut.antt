@@ -10,7 +10,7 @@ use native.Mathlib.Omega.{arith}
 use lib.ListN.{length, get_or, set, take, drop, length-append, length-drop, length-replicate}
 use lib.Seq.{drop-drop, take-add, take-take, length-take-le}
 use borrow.Author.Tests.{le-leb, lt-leb, eq-eqb, ne_eqb}
-use Rattle.records.specs.Bytes.{zeros, splice, overwritten, fronted, closed}
+use Rattle.records.specs.Bytes.{zeros, splice, fronted, closed}
 use Rattle.page.specs.between.Changes.{put_in, take_out, with_record, without_record, counts_to}
 
 -- a write behind a front
@@ -89,13 +89,10 @@ take_done b y h from i n count inside room e =
     ∙ ap (λ (m : ℕ). set (take from b ++ take_out m i (drop from b)) h (m - 1)) count
 
 -- a record written over another
-pub written_over : (b new y : List ℕ) (at : ℕ) → length new ≡ 16 → at + 16 ≤ length b → y ≡ overwritten (take (at + 16 - at) (drop at b)) new
-    → take at b ++ (y ++ drop (at + 16 - at) (drop at b)) ≡ splice at new b
-unfolding splice overwritten
-written_over b new y at many room e =
+pub written_over : (b new y : List ℕ) (at : ℕ) → length new ≡ 16 → y ≡ new → take at b ++ (y ++ drop (at + 16 - at) (drop at b)) ≡ splice at new b
+unfolding splice
+written_over b new y at many is =
     let k : at + 16 - at ≡ 16 = omega arith in
-    let part : length (take 16 (drop at b)) ≡ length new = length-take-le 16 (drop at b) (omega (arith, length-drop at b)) ∙ sym many in
-    let is : y ≡ new = e ∙ rw (k, eq-eqb (length (take 16 (drop at b))) (length new) part) in
     rw (is, k, drop-drop 16 at b, many)
 
 -- whether the page counts few enough

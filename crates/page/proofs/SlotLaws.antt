@@ -4,12 +4,12 @@ use Prim.Native.Nat.{ℕ, zero, suc, ◌+◌, ◌*◌, ◌≤◌, ◌<◌, min}
 use mathlib.Core.Path.{◌≡◌, refl, sym, ap, ◌∙◌}
 use mathlib.Core.Bool.{Bool, true, false, ◌||◌}
 use mathlib.Core.List.{List, [], ◌∷◌, map}
-use mathlib.Core.Option.{none, some}
+use Rattle.std.specs.Prelude.{None, Some}
 use native.Mathlib.Nat.{le_of_suc-le-suc, not-suc-le-zero}
 use native.Mathlib.Omega.{arith}
 use lib.Dec.{ltb, leb-suc-suc}
-use lib.ListN.{length, get_or, take, drop, length-drop, length-map, drop_of_length-le}
-use lib.Seq.{drop-drop, take_all}
+use lib.ListN.{length, get_or, take, drop, length-map, drop_of_length-le}
+use lib.Seq.{drop-drop}
 use borrow.Author.Tests.{lt-ltb, eq-eqb, ne_eqb}
 use Rattle.std.specs.Prelude.{if◌then◌else◌}
 use Rattle.base.specs.Lists.{any, first}
@@ -105,24 +105,24 @@ relations_many page e = rw (table_of_page page e) (length-map (records_of (min (
 
 module _ {B : Type 0} (g : B → Bool) (read : List ℕ → B) where
   pub first_at : (rs : List (List ℕ)) → index_of (λ r. g (read r)) rs < length rs
-      → first g (map read rs) ≡ some (read (get_or rs (index_of (λ r. g (read r)) rs) []))
+      → first g (map read rs) ≡ Some (read (get_or rs (index_of (λ r. g (read r)) rs) []))
   unfolding first index_of
   first_at [] h = absurd (not-suc-le-zero h)
   first_at (r ∷ rs) h = go (g (read r)) h (first_at rs)
     where
       go : (b : Bool) → (if b then 0 else suc (index_of (λ r. g (read r)) rs)) < suc (length rs)
-          → (index_of (λ r. g (read r)) rs < length rs → first g (map read rs) ≡ some (read (get_or rs (index_of (λ r. g (read r)) rs) [])))
-          → (if b then some (read r) else first g (map read rs)) ≡ some (read (get_or (r ∷ rs) (if b then 0 else suc (index_of (λ r. g (read r)) rs)) []))
+          → (index_of (λ r. g (read r)) rs < length rs → first g (map read rs) ≡ Some (read (get_or rs (index_of (λ r. g (read r)) rs) [])))
+          → (if b then Some (read r) else first g (map read rs)) ≡ Some (read (get_or (r ∷ rs) (if b then 0 else suc (index_of (λ r. g (read r)) rs)) []))
       go true k ih = refl
       go false k ih = ih (omega arith)
 
-  pub first_nowhere : (rs : List (List ℕ)) → length rs ≤ index_of (λ r. g (read r)) rs → first g (map read rs) ≡ none
+  pub first_nowhere : (rs : List (List ℕ)) → length rs ≤ index_of (λ r. g (read r)) rs → first g (map read rs) ≡ None
   unfolding first index_of
   first_nowhere [] h = refl
   first_nowhere (r ∷ rs) h = go (g (read r)) h (first_nowhere rs)
     where
       go : (b : Bool) → suc (length rs) ≤ (if b then 0 else suc (index_of (λ r. g (read r)) rs))
-          → (length rs ≤ index_of (λ r. g (read r)) rs → first g (map read rs) ≡ none) → (if b then some (read r) else first g (map read rs)) ≡ none
+          → (length rs ≤ index_of (λ r. g (read r)) rs → first g (map read rs) ≡ None) → (if b then Some (read r) else first g (map read rs)) ≡ None
       go true k ih = absurd (not-suc-le-zero k)
       go false k ih = ih (omega arith)
 
@@ -135,17 +135,3 @@ module _ {B : Type 0} (g : B → Bool) (read : List ℕ → B) where
           → (b || any g (map read rs)) ≡ ltb (if b then 0 else suc (index_of (λ r. g (read r)) rs)) (suc (length rs))
       go true e = sym (lt-ltb 0 (suc (length rs)) (omega arith))
       go false e = e ∙ sym (leb-suc-suc (suc (index_of (λ r. g (read r)) rs)) (length rs))
-
--- a page's slots
-
-pub rest_of_page : (page : List ℕ) (from k : ℕ) → length page ≡ 512 → from + k ≡ 512 → take k (drop from page) ≡ drop from page
-rest_of_page page from k e h = take_all k (drop from page) (omega (arith, length-drop from page))
-
-module _ (f : List ℕ → Bool) (page : List ℕ) (n : ℕ) (e : length page ≡ 512) where
-  pub index_in_visits : n ≡ min (get_or page 0 0) 24 → index_of f (records_of n (take 480 (drop 32 page))) ≡ index_of f (visit_records page)
-  unfolding visit_records
-  index_in_visits m = rw (rest_of_page page 32 480 e refl, m)
-
-  pub index_in_relations : n ≡ min (get_or page 1 0) 6 → index_of f (records_of n (take 96 (drop 416 page))) ≡ index_of f (relation_records page)
-  unfolding relation_records
-  index_in_relations m = rw (rest_of_page page 416 96 e refl, m)

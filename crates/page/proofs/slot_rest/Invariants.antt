@@ -10,6 +10,3 @@ use Rattle.page.proofs.slot_rest.Given as goal
 
 abbrev pub invariant-loop-k : goal.invariant-loop-k
 invariant-loop-k l = (l.k ≤ l.n) × (l.part ≡ slots encode_relation 6 (rest_from l.train l.from l.n l.k)) × (l.m ≡ length (rest_from l.train l.from l.n l.k)) × (length l.part ≡ 96)
-
-abbrev pub decreases-loop-k : goal.decreases-loop-k
-decreases-loop-k l = l.k

@@ -3,16 +3,13 @@
 -- What is no page of 512 bytes, or counts more records than there is room for, is left as it was. On the page of a good
 -- table they do what the functions on tables do (proofs/ChangeLaws.antt). Assumes nothing.
 use Rattle.std.specs.Prelude.{ℕ, suc, ◌+◌, ◌*◌, ◌-◌, min, Bool, ◌&&◌, List, [], ◌∷◌, ◌++◌, ltb, leb, eqb, length, get_or, set, take, drop}
-use Rattle.std.proofs.Math.Option.{Option, none, some}
+use Rattle.std.specs.Prelude.{Option, Some, None}
 use Rattle.std.specs.Prelude.{if◌then◌else◌}
 use Rattle.railway.specs.Relations.{precedes, same_relation}
 use Rattle.timetable.specs.Tables.{Table, empty, lose_all}
 use Rattle.records.specs.Bytes.{word, splice, closed}
 use Rattle.records.specs.Records.{visit_bytes, encode_relation, decode_relation}
 use Rattle.page.specs.Types.{Train, Visit, Relation}
-use Rattle.relation_loss.specs.declared.Left.{Left}
-use Rattle.page.specs.declared.Found.{Found}
-use Rattle.page.specs.declared.VisitFound.{VisitFound}
 use Rattle.page.specs.Pages.{slots, records_of, visit_records, relation_records, relations_of, decode_page}
 
 -- the table that a page holds; none where it is no page
@@ -25,8 +22,8 @@ index_of f [] = 0
 index_of f (r ∷ rs) = if f r then 0 else suc (index_of f rs)
 
 -- the index where one was found among n
-unfoldable pub found : ℕ → ℕ → Found
-found i n = if ltb i n then Found.At i else Found.Nothing
+unfoldable pub found : ℕ → ℕ → Option ℕ
+found i n = if ltb i n then Some i else None
 
 -- on a part with n records in use
 
@@ -59,13 +56,8 @@ train_index t page = index_of (λ r. eqb (word r 0) t.0) (visit_records page)
 unfoldable pub train_place : Train → List ℕ → ℕ
 train_place t page = index_of (λ r. ltb t.0 (word r 0)) (visit_records page)
 
-unfoldable pub train_found : Train → List ℕ → Found
-train_found t page = if eqb (length page) 512 then found (train_index t page) (min (get_or page 0 0) 24) else Found.Nothing
-
--- a visit, if there is one, as an answer
-unfoldable pub visit_answer : Option Visit → VisitFound
-visit_answer none = VisitFound.Nothing
-visit_answer (some v) = VisitFound.Is v
+unfoldable pub train_found : Train → List ℕ → Option ℕ
+train_found t page = if eqb (length page) 512 then found (train_index t page) (min (get_or page 0 0) 24) else None
 
 unfoldable pub page_add_visit : Train → Visit → List ℕ → List ℕ
 page_add_visit t v page = if counts_to 0 23 page then with_record 0 32 (train_place t page) (visit_bytes t v) page else page
@@ -122,13 +114,13 @@ unfoldable pub slotted_count : Relation → ℕ → List ℕ → ℕ
 slotted_count q n b = if is_slotted q n b then n else (n + 1)
 
 -- the same of what is left of a relation
-unfoldable pub slotted_left : Left → ℕ → List ℕ → List ℕ
-slotted_left Left.Nothing n b = b
-slotted_left (Left.Is q) n b = slotted q n b
+unfoldable pub slotted_left : Option Relation → ℕ → List ℕ → List ℕ
+slotted_left None n b = b
+slotted_left (Some q) n b = slotted q n b
 
-unfoldable pub left_count : Left → ℕ → List ℕ → ℕ
-left_count Left.Nothing n b = n
-left_count (Left.Is q) n b = slotted_count q n b
+unfoldable pub left_count : Option Relation → ℕ → List ℕ → ℕ
+left_count None n b = n
+left_count (Some q) n b = slotted_count q n b
 
 -- the relations anew, the train taken out of them
 unfoldable pub page_lose_train : Train → List ℕ → List ℕ
@@ -139,6 +131,6 @@ page_lose_train t page =
 
 -- The key ring of this module: `unfolding opened` opens every definition above.
 unfoldable pub opened : Unit {0}
-unfolding table_in index_of found train_found visit_answer put_in take_out with_record without_record counts_to train_index train_place page_add_visit moved_by_visit page_write_visit
+unfolding table_in index_of found train_found put_in take_out with_record without_record counts_to train_index train_place page_add_visit moved_by_visit page_write_visit
     page_remove_visit relation_index relation_place page_add_relation moved_by_relation page_remove_relation is_slotted slotted slotted_count slotted_left left_count page_lose_train
 opened = tt
