@@ -1,6 +1,6 @@
 -- A closure read number by number behind the closure before: its line and its start are compared with that one's, its
 -- end with nothing. Assumes nothing.
-use Prim.Native.Nat.{ℕ, ◌≤◌}
+use Prim.Native.Nat.{ℕ, ◌%◌, ◌≤◌}
 use mathlib.Core.Path.{◌≡◌, refl, ap}
 use mathlib.Core.Bool.{Bool, true, false}
 use mathlib.Core.List.{List, [], ◌∷◌}
@@ -8,9 +8,9 @@ use native.Mathlib.Omega.{arith}
 use lib.Dec.{eqb}
 use Rattle.std.specs.Prelude.{if◌then◌else◌}
 use Rattle.railway.specs.Ranges.{last_minute, last_end}
-use Rattle.timetable.specs.Formats.{accepted, refused, ◌and_then◌, field_at, behind, read, least, floor_after, compared, row}
+use Rattle.timetable.specs.Formats.{Outcome, accepted, refused, ◌and_then◌, field_at, behind, read, least, floor_after, compared, row}
 use Rattle.timetable.specs.NetworkFile.{closure_ranges, closure_of, closure_fields}
-use Rattle.network_files.specs.between.Rows.{closure_with}
+use Rattle.network.specs.declared.Closure.{Closure}
 use Rattle.fields.proofs.EntryLaws.{small}
 
 -- nothing is left to compare an end with
@@ -44,8 +44,9 @@ module _ (a b : ℕ) (file : List ℕ) (at : ℕ) where
       unfolding closure_fields closure_ranges row compared ◌and_then◌ read behind
       end-stop k r g = rw (e, f, free, g)
 
-      pub closure-some : (k r : ℕ) → field_at 1 last_end file q ≡ accepted k r → l ≤ 32 → accepted (closure_with l s k) r ≡ read (closure_fields before) file at
-      unfolding closure_fields closure_ranges closure_of closure_with row compared ◌and_then◌ read behind
-      closure-some k r g h =
-          let w = small _ l refl (omega arith) in
-          rw (e, f, free, g, w)
+      pub closure-some : (k r : ℕ) → field_at 1 last_end file q ≡ accepted k r → l ≤ 32 → (n : ℕ) → n ≡ l % 256
+          → ◌≡◌ {A = Outcome Closure} (accepted (record { line = record { 0 = n }; start = record { 0 = s }; end = record { 0 = k } }) r) (read (closure_fields before) file at)
+      unfolding closure_fields closure_ranges closure_of row compared ◌and_then◌ read behind
+      closure-some k r g h n w =
+          let v = small n l w (omega arith) in
+          rw (e, f, free, g, v)

@@ -5,7 +5,7 @@ use Prim.Native.Nat.{ℕ, zero, suc, ◌+◌, ◌*◌, ◌-◌, ◌≤◌}
 use mathlib.Core.Path.{◌≡◌, refl, sym, ◌∙◌, subst}
 use mathlib.Core.Bool.{Bool, true, false, not}
 use mathlib.Core.List.{List, [], ◌∷◌}
-use mathlib.Core.Option.{Option, none, some}
+use Rattle.std.specs.Prelude.{Option, None, Some}
 use native.Mathlib.Omega.{arith}
 use lib.Dec.{T, ltb, leb, eqb, leb→le}
 use lib.ListN.{length, drop, length-drop}
@@ -123,12 +123,12 @@ entries_within entry floor_of file (suc k) floor at h ps next e =
     rw z (every_cons (λ p. leb p.place (length file)) a rest (rw (← s) (true_T (leb at (length file)) (le-leb at (length file) h)))
     (entries_within entry floor_of file k (floor_of a) p (next_within (placed (entry floor)) file at h a p u) rest q w))
 
-first_passes : {A : Type 0} (f g : A → Bool) (xs : List A) (x : A) → T (every g xs) → first f xs ≡ some x → T (g x)
+first_passes : {A : Type 0} (f g : A → Bool) (xs : List A) (x : A) → T (every g xs) → first f xs ≡ Some x → T (g x)
 unfolding first every
 first_passes f g [] x t e = let s : ◌≡◌ {A = ℕ} 0 1 = cc in absurd (omega (arith, s))
 first_passes f g (y ∷ ys) x t e = go (f y) e (first_passes f g ys x (every_tail g y ys t))
   where
-    go : (b : Bool) → (if b then some y else first f ys) ≡ some x → (first f ys ≡ some x → T (g x)) → T (g x)
+    go : (b : Bool) → (if b then Some y else first f ys) ≡ Some x → (first f ys ≡ Some x → T (g x)) → T (g x)
     go true q ih = let s : y ≡ x = cc in rw (← s) (every_head g y ys t)
     go false q ih = ih q
 
@@ -160,8 +160,8 @@ unfolding unless_fault fault_of Within PlacedWithin
 unless_within {A} {B} end k d f es o t h = go (first f es) refl
   where
     go : (e : Option (Placed B)) → first f es ≡ e → Within end (unless_fault (fault_of k e) o)
-    go none q = h
-    go (some e) q = rw (ne_eqb k 0 d) (d, leb→le e.place end (first_passes f (λ p. leb p.place end) es e t q))
+    go None q = h
+    go (Some e) q = rw (ne_eqb k 0 d) (d, leb→le e.place end (first_passes f (λ p. leb p.place end) es e t q))
 
 -- the one fault, and then the other
 unless_or : {A : Type 0} (f later : Fault) (o : Outcome A) → unless_fault (or_fault f later) o ≡ unless_fault f (unless_fault later o)

@@ -1,41 +1,23 @@
 // Faults that only the whole network shows, found entry by entry: the first stays.
 ghost use Rattle.std.specs.Prelude.{◌≡◌};
-ghost use Rattle.timetable.specs.NetworkFile.{or_fault};
-ghost use Rattle.network_files.specs.between.Faults.{fault_next, fault_free};
+ghost use Rattle.base.specs.RefusalNumbers.{number_of};
+ghost use Rattle.network_files.specs.between.Faults.{fault_told, fault_next};
 
-use timetable::Fault;
-
-pub fn no_fault() -> Fault
-    ensures { result ≡ fault_free }
-{
-    Fault {
-        number: 0,
-        place: 0,
-    }
-}
+use base::refusal::{FileError, Refusal};
 
 // One entry more, at a place, which is good or has a fault of this number.
-pub fn next_fault(number: u8, good: bool, at: usize, fault: Fault) -> Fault
-    ensures { result ≡ fault_next number good at fault }
+#[tactic(auto, unfolding(crate::specs::between::Faults::fault_next))]
+pub fn next_fault(
+    refusal: Refusal,
+    good: bool,
+    place: usize,
+    fault: Option<FileError>,
+) -> Option<FileError>
+    ensures { fault_told result ≡ fault_next (number_of refusal) good place (fault_told fault) }
 {
-    if fault.number != 0 {
-        return fault;
+    if fault.is_some() || good {
+        fault
+    } else {
+        Some(FileError { refusal, place })
     }
-    if good {
-        return fault;
-    }
-    Fault {
-        number: number,
-        place: at,
-    }
-}
-
-// The one, or what comes behind it.
-pub fn earlier(fault: Fault, later: Fault) -> Fault
-    ensures { result ≡ or_fault fault later }
-{
-    if fault.number == 0 {
-        return later;
-    }
-    fault
 }

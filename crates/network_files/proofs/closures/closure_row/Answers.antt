@@ -2,70 +2,53 @@
 -- stands behind them. Assumes nothing.
 use Prim.Native.Nat.{ℕ}
 use mathlib.Core.Path.{sym, ◌∙◌, ap}
-use mathlib.Core.List.{List}
+use mathlib.Core.List.{List, [], ◌∷◌}
 use Rattle.railway.specs.Ranges.{last_minute}
-use Rattle.network.specs.declared.Closure.{Closure}
-use Rattle.timetable.specs.Formats.{accepted, field_at, least, floor_after}
-use Rattle.fields.specs.between.Answers.{field_outcome, number_read}
+use Rattle.base.specs.RefusalNumbers.{number_of}
+use Rattle.timetable.specs.Formats.{field_at, least, floor_after}
+use Rattle.fields.proofs.ReadLaws.{refused_told}
 use Rattle.fields.proofs.EntryLaws.{field_bounded}
-use Rattle.fields.proofs.FloorLaws.{number_value, number_refusal}
-use Rattle.fields.proofs.RowHolds.{row_held}
-use Rattle.network_files.specs.Answers.{closure_outcome}
 use Rattle.network_files.proofs.ClosureLaws.{line_stop, start_stop, end-stop, closure-some}
 use Rattle.network_files.proofs.closures.closure_row.Goals as goal
 
-pub returns-in-Refused : goal.returns-in-Refused
-unfolding closure_outcome field_outcome
-returns-in-Refused c =
+pub returns-in_err-line : goal.returns-in_err-line
+returns-in_err-line c =
     let s = c.args in
-    let two = row_held c.closure_floor-before.ensures in
-    let n = c.compared-l in
-    let d = n.ensures ∙ ap (λ (l : List ℕ). number_read (field_at (least 1 l) 32 s.file.now s.at)) two in
-    let o = number_value _ n.result d c.if-l.true in
-    let m = c.compared-s in
-    let left = row_held c.floor_after.ensures ∙ ap (floor_after n.result.value) two in
-    let e = m.ensures ∙ ap (λ (l : List ℕ). number_read (field_at (least 0 l) last_minute s.file.now n.result.place)) left in
-    let q = number_value _ m.result e c.if-s.true in
-    let z = sym c.field-found.ensures ∙ ap field_outcome c.in-Refused.is in
-    sym (end-stop s.line.0 s.start.0 s.file.now s.at n.result.value n.result.place o m.result.value m.result.place q c.in-Refused.k c.in-Refused.p z)
+    let e = c.in_err-line.field-0.0 in
+    let o = sym (c.in_err-line.ensures ∙ ap (λ (l : ℕ). field_at (least 1 (l ∷ s.before.start.0 ∷ [])) 32 s.file.now s.at) c.from.ensures) in
+    refused_told c.from_residual.result e c.from_residual.ensures.1 ∙ sym (line_stop s.before.line.0 s.before.start.0 s.file.now s.at (number_of e.refusal) e.place o)
 
-pub returns-in-Value : goal.returns-in-Value
-unfolding closure_outcome field_outcome
-returns-in-Value c =
+pub returns-in_err-start : goal.returns-in_err-start
+returns-in_err-start c =
     let s = c.args in
-    let two = row_held c.closure_floor-before.ensures in
-    let n = c.compared-l in
-    let d = n.ensures ∙ ap (λ (l : List ℕ). number_read (field_at (least 1 l) 32 s.file.now s.at)) two in
-    let o = number_value _ n.result d c.if-l.true in
-    let m = c.compared-s in
-    let left = row_held c.floor_after.ensures ∙ ap (floor_after n.result.value) two in
-    let e = m.ensures ∙ ap (λ (l : List ℕ). number_read (field_at (least 0 l) last_minute s.file.now n.result.place)) left in
-    let q = number_value _ m.result e c.if-s.true in
-    let z = sym c.field-found.ensures ∙ ap field_outcome c.in-Value.is in
-    let b = (field_bounded _ 32 s.file.now s.at n.result.value n.result.place o).1 in
-    ap (λ (x : Closure). accepted x c.in-Value.next) c.closure_of.ensures
-    ∙ closure-some s.line.0 s.start.0 s.file.now s.at n.result.value n.result.place o m.result.value m.result.place q c.in-Value.e c.in-Value.next z b
+    let l = c.in_ok-line in
+    let e = c.in_err-start.field-0.0 in
+    let o = sym (l.ensures ∙ ap (λ (l : ℕ). field_at (least 1 (l ∷ s.before.start.0 ∷ [])) 32 s.file.now s.at) c.from.ensures) in
+    let left = c.floor_after-left.ensures ∙ ap (λ (m : ℕ). floor_after l.line (m ∷ s.before.start.0 ∷ [])) c.from.ensures in
+    let q = sym (c.in_err-start.ensures ∙ ap (λ (f : List ℕ). field_at (least 0 f) last_minute s.file.now l.place) left) in
+    refused_told c.from_residual-in_err-start.result e c.from_residual-in_err-start.ensures.1
+    ∙ sym (start_stop s.before.line.0 s.before.start.0 s.file.now s.at l.line l.place o (number_of e.refusal) e.place q)
 
-pub returns-then-l : goal.returns-then-l
-unfolding closure_outcome
-returns-then-l c =
+pub returns-in_err-end : goal.returns-in_err-end
+returns-in_err-end c =
     let s = c.args in
-    let two = row_held c.closure_floor-before.ensures in
-    let n = c.compared-l in
-    let d = n.ensures ∙ ap (λ (l : List ℕ). number_read (field_at (least 1 l) 32 s.file.now s.at)) two in
-    let o = number_value _ n.result d c.if-l.true in
-    let m = c.compared-s in
-    let left = row_held c.floor_after.ensures ∙ ap (floor_after n.result.value) two in
-    let e = m.ensures ∙ ap (λ (l : List ℕ). number_read (field_at (least 0 l) last_minute s.file.now n.result.place)) left in
-    let q = number_refusal _ m.result e c.if-s.false in
-    sym (start_stop s.line.0 s.start.0 s.file.now s.at n.result.value n.result.place o m.result.refusal m.result.place q)
+    let l = c.in_ok-line in
+    let m = c.in_ok-start in
+    let e = c.in_err-end.field-0.0 in
+    let o = sym (l.ensures ∙ ap (λ (l : ℕ). field_at (least 1 (l ∷ s.before.start.0 ∷ [])) 32 s.file.now s.at) c.from.ensures) in
+    let left = c.floor_after-left.ensures ∙ ap (λ (m : ℕ). floor_after l.line (m ∷ s.before.start.0 ∷ [])) c.from.ensures in
+    let q = sym (m.ensures ∙ ap (λ (f : List ℕ). field_at (least 0 f) last_minute s.file.now l.place) left) in
+    refused_told c.from_residual-in_err-end.result e c.from_residual-in_err-end.ensures.1
+    ∙ sym (end-stop s.before.line.0 s.before.start.0 s.file.now s.at l.line l.place o m.start m.place q (number_of e.refusal) e.place (sym c.in_err-end.ensures))
 
 pub returns : goal.returns
-unfolding closure_outcome
 returns c =
     let s = c.args in
-    let two = row_held c.closure_floor-before.ensures in
-    let n = c.compared-l in
-    let d = n.ensures ∙ ap (λ (l : List ℕ). number_read (field_at (least 1 l) 32 s.file.now s.at)) two in
-    let o = number_refusal _ n.result d c.if-l.false in
-    sym (line_stop s.line.0 s.start.0 s.file.now s.at n.result.refusal n.result.place o)
+    let l = c.in_ok-line in
+    let m = c.in_ok-start in
+    let n = c.in_ok-end in
+    let o = sym (l.ensures ∙ ap (λ (l : ℕ). field_at (least 1 (l ∷ s.before.start.0 ∷ [])) 32 s.file.now s.at) c.from.ensures) in
+    let left = c.floor_after-left.ensures ∙ ap (λ (m : ℕ). floor_after l.line (m ∷ s.before.start.0 ∷ [])) c.from.ensures in
+    let q = sym (m.ensures ∙ ap (λ (f : List ℕ). field_at (least 0 f) last_minute s.file.now l.place) left) in
+    let b = (field_bounded _ 32 s.file.now s.at l.line l.place o).1 in
+    closure-some s.before.line.0 s.before.start.0 s.file.now s.at l.line l.place o m.start m.place q n.end n.place (sym n.ensures) b c.narrow.result c.narrow.ensures

@@ -1,6 +1,6 @@
 -- `network_files::closures::closures` meets its contract. The loop's invariant: the rows read stand in the first
 -- places, the list is those rows and then what is left, and the two faults are those of the rows read. Assumes nothing.
-use Prim.Native.Nat.{ℕ, ◌-◌, ◌≤◌}
+use Prim.Native.Nat.{ℕ, ◌-◌}
 use mathlib.Core.Path.{◌≡◌}
 use mathlib.Core.Bool.{Bool, not}
 use mathlib.Core.List.{List, [], ◌∷◌, map}
@@ -12,6 +12,7 @@ use Rattle.timetable.specs.Formats.{Outcome, read, entries, Placed}
 use Rattle.timetable.specs.NetworkFile.{fault_of, closure_entry, closure_floor}
 use Rattle.fields.specs.between.Answers.{padded}
 use Rattle.fields.proofs.ReadLaws.{SoFar}
+use Rattle.network_files.specs.between.Faults.{fault_told}
 use Rattle.network_files.proofs.closures.closures.Given as goal
 
 abbrev pub left_at : List ℕ → ℕ → ℕ → ℕ → ℕ → Outcome (List (Placed Closure))
@@ -28,8 +29,6 @@ loose known c = not (line_listed known c.entry.line)
 
 abbrev pub invariant-loop-i : goal.invariant-loop-i
 invariant-loop-i l =
-    (l.i ≤ l.n) × ((s : SoFar (left_at l.file l.n 0 0 l.at) l.i (left_at l.file (l.n - l.i) l.line.0 l.start.0 l.place))
-    × (l.rows ≡ padded 32 blank_closure (rows_of s.elements)) × (l.unended ≡ fault_of 14 (first lasting s.elements)) × (l.unlisted ≡ fault_of 4 (first (loose l.known) s.elements)))
-
-abbrev pub decreases-loop-i : goal.decreases-loop-i
-decreases-loop-i l = l.n - l.i
+    (s : SoFar (left_at l.file l.count 0 0 l.at) l.i (left_at l.file (l.count - l.i) l.before.line.0 l.before.start.0 l.place))
+    × (l.rows ≡ padded 32 blank_closure (rows_of s.elements)) × (fault_told l.unended ≡ fault_of 14 (first lasting s.elements))
+    × (fault_told l.unlisted ≡ fault_of 4 (first (loose l.known) s.elements))

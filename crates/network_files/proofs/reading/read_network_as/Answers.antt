@@ -1,44 +1,34 @@
 -- `network_files::reading::read_network_as` meets its contract: each return is one law of the draft. Assumes nothing.
 use mathlib.Core.Path.{sym, ◌∙◌, ap}
-use borrow.Author.Rules.{rules}
-use Rattle.timetable.specs.Formats.{number, place_of, value_or}
-use Rattle.network_files.specs.Answers.{network_answer}
+use Rattle.base.specs.RefusalNumbers.{number_of}
+use Rattle.base.specs.declared.refusal.FileError.{FileError}
+use Rattle.timetable.specs.Formats.{refused}
+use Rattle.fields.proofs.ReadLaws.{refused_told}
 use Rattle.network_files.proofs.ReadingLaws.{network_goes_on, network_at_fault, network_stands, network_faulty}
 use Rattle.network_files.proofs.reading.read_network_as.Goals as goal
 
-pub read_draft_as-draft-requires : goal.read_draft_as-draft-requires
-read_draft_as-draft-requires c = search rules
-
-pub refused_network-requires : goal.refused_network-requires
-refused_network-requires c = search rules
-
-pub returns-then-place-file : goal.returns-then-place-file
-returns-then-place-file c =
+pub returns-in_err-draft : goal.returns-in_err-draft
+returns-in_err-draft c =
     let s = c.args in
-    let d = c.read_draft_as-draft in
-    c.refused_network.ensures ∙ sym (ap network_answer (network_goes_on s.form s.file.now d.result d.ensures c.if-draft.true c.if-place-file.true))
+    let e = c.in_err-draft.field-0.0 in
+    refused_told c.from_residual.result e c.from_residual.ensures.1 ∙ sym (network_faulty s.form s.file.now (number_of e.refusal) e.place c.in_err-draft.ensures)
 
-pub refused_network-requires-then-fault-ne0 : goal.refused_network-requires-then-fault-ne0
-refused_network-requires-then-fault-ne0 c = search rules
-
-pub returns-then-fault-ne0 : goal.returns-then-fault-ne0
-returns-then-fault-ne0 c =
+pub returns-in_err-ended : goal.returns-in_err-ended
+returns-in_err-ended c =
     let s = c.args in
-    let d = c.read_draft_as-draft in
-    c.refused_network-then-fault-ne0.ensures ∙ sym (ap network_answer (network_at_fault s.form s.file.now d.result d.ensures c.if-draft.true c.if-place-file.false c.if-fault-ne0.true))
+    let d = c.in_ok-draft in
+    let e = c.in_err-ended.field-0.0 in
+    refused_told c.from_residual-in_err-ended.result e c.from_residual-in_err-ended.ensures.1 ∙ ap (λ (x : FileError). refused (number_of x.refusal) x.place) c.in_err-ended.ensures.1
+    ∙ sym (network_goes_on s.form s.file.now d.ensures.0 d.place d.ensures.1 c.in_err-ended.ensures.0)
 
-pub returns-then-draft : goal.returns-then-draft
-unfolding network_answer number place_of value_or
-returns-then-draft c =
+pub returns-in-Some : goal.returns-in-Some
+returns-in-Some c =
     let s = c.args in
-    let d = c.read_draft_as-draft in
-    sym (ap network_answer (network_stands s.form s.file.now d.result d.ensures c.if-draft.true c.if-place-file.false c.if-fault-ne0.false))
+    let d = c.in_ok-draft in
+    sym (network_at_fault s.form s.file.now d.ensures.0 d.place d.ensures.1 c.in_ok-ended.ensures d.draft d.ensures.2 c.in-Some.fault c.in-Some.is)
 
-pub refused_network-requires-2 : goal.refused_network-requires-2
-refused_network-requires-2 c = search rules
-
-pub returns : goal.returns
-returns c =
+pub returns-in-None : goal.returns-in-None
+returns-in-None c =
     let s = c.args in
-    let d = c.read_draft_as-draft in
-    c.refused_network-2.ensures ∙ sym (ap network_answer (network_faulty s.form s.file.now d.result d.ensures c.if-draft.false))
+    let d = c.in_ok-draft in
+    sym (network_stands s.form s.file.now d.ensures.0 d.place d.ensures.1 c.in_ok-ended.ensures d.draft d.ensures.2 c.in-None.is)
