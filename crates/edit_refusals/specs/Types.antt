@@ -6,3 +6,4 @@ pub use Rattle.railway.specs.declared.edit.Deletion.{Deletion}
 pub use Rattle.railway.specs.declared.edit.Edit.{Edit}
 pub use Rattle.railway.specs.declared.edit.Edit.TheVariants.{Place, Prepend, Append, DeleteFirst, DeleteLast, Amend, ReportArrival, ReportDeparture, AddRelation, RemoveRelation, DeleteTrain}
 pub use Rattle.network.specs.declared.Network.{Network}
+pub use Rattle.edit_refusals.specs.declared.End.{End}
