@@ -1,12 +1,11 @@
 // What an edit makes of the page of its station s, and of that of p.
-#![tactic(auto)]
+#![tactic(auto, unfolding(crate::specs::between::EditPages::opened, visits::specs::between::Changes::change_by))]
 
 ghost use Rattle.std.specs.Prelude.{◌≡◌};
 ghost use Rattle.visits.specs.between.Changes.{change_by};
 ghost use Rattle.edit_changes.specs.Types.{Place, Prepend, Append};
 ghost use Rattle.edit_changes.specs.between.EditPages.{page_change, page_without, here_page, there_page};
 
-use page::VisitFound;
 use railway::edit::{Edit, Extension, Plan};
 use railway::sorts::Train;
 use railway::visit::{InLink, OutLink};
@@ -16,12 +15,8 @@ use visits::Change;
 fn change_visit(page: &mut [u8], t: Train, c: Change)
     ensures { page.new ≡ page_change t (change_by c) page.old }
 {
-    let found = page::visit_of(page, t);
-    match found {
-        VisitFound::Nothing => {}
-        VisitFound::Is(v) => {
-            page::write_visit(page, t, visits::changed(c, v));
-        }
+    if let Some(v) = page::visit_of(page, t) {
+        page::write_visit(page, t, visits::changed(c, v));
     }
 }
 
@@ -36,20 +31,17 @@ pub fn take_out(page: &mut [u8], t: Train)
 fn prepend(page: &mut [u8], x: Extension)
     ensures { page.new ≡ here_page (Prepend x) page.old }
 {
-    let p = x.plan;
-    let v = visits::linked_out(
-        visits::link_to(x.other, x.line, x.run),
-        visits::plan_visit(p),
-    );
-    page::add_visit(page, p.train, v);
+    let link = visits::link_to(x.other, x.line, x.run);
+    let v = visits::linked_out(link, visits::plan_visit(x.plan));
+    page::add_visit(page, x.plan.train, v);
 }
 
 fn append(page: &mut [u8], x: Extension)
     ensures { page.new ≡ here_page (Append x) page.old }
 {
-    let p = x.plan;
-    let v = visits::linked_in(visits::link_from(x.other, x.line), visits::plan_visit(p));
-    page::add_visit(page, p.train, v);
+    let link = visits::link_from(x.other, x.line);
+    let v = visits::linked_in(link, visits::plan_visit(x.plan));
+    page::add_visit(page, x.plan.train, v);
 }
 
 fn place(page: &mut [u8], p: Plan)
@@ -69,22 +61,12 @@ pub fn change_here(page: &mut [u8], e: Edit)
         Edit::DeleteFirst(d) => take_out(page, d.train),
         Edit::DeleteLast(d) => take_out(page, d.train),
         Edit::Amend(p) => change_visit(page, p.train, Change::Amend(p)),
-        Edit::ReportArrival(r) => {
-            let time = r.time;
-            change_visit(page, r.train, Change::Arrive(time))
-        }
-        Edit::ReportDeparture(r) => {
-            let time = r.time;
-            change_visit(page, r.train, Change::Depart(time))
-        }
+        Edit::ReportArrival(r) => change_visit(page, r.train, Change::Arrive(r.time)),
+        Edit::ReportDeparture(r) => change_visit(page, r.train, Change::Depart(r.time)),
         Edit::AddRelation(r) => {
-            let relation = r.relation;
-            page::add_relation(page, relation);
+            page::add_relation(page, r.relation);
         }
-        Edit::RemoveRelation(r) => {
-            let relation = r.relation;
-            page::remove_relation(page, relation)
-        }
+        Edit::RemoveRelation(r) => page::remove_relation(page, r.relation),
         Edit::DeleteTrain(c) => take_out(page, c.train),
     }
 }
@@ -95,17 +77,17 @@ pub fn change_there(page: &mut [u8], e: Edit)
 {
     match e {
         Edit::Prepend(x) => {
-            let p = x.plan;
-            let link = visits::link_from(p.station, x.line);
-            change_visit(page, p.train, Change::In(link))
+            let link = visits::link_from(x.plan.station, x.line);
+            change_visit(page, x.plan.train, Change::In(link))
         }
         Edit::Append(x) => {
-            let p = x.plan;
-            let link = visits::link_to(p.station, x.line, x.run);
-            change_visit(page, p.train, Change::Out(link))
+            let link = visits::link_to(x.plan.station, x.line, x.run);
+            change_visit(page, x.plan.train, Change::Out(link))
         }
         Edit::DeleteFirst(d) => change_visit(page, d.train, Change::In(InLink::Nothing)),
         Edit::DeleteLast(d) => change_visit(page, d.train, Change::Out(OutLink::Nothing)),
-        _ => {}
+        Edit::Place(_) | Edit::Amend(_) | Edit::DeleteTrain(_) => {}
+        Edit::ReportArrival(_) | Edit::ReportDeparture(_) => {}
+        Edit::AddRelation(_) | Edit::RemoveRelation(_) => {}
     }
 }

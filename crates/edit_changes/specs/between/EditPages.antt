@@ -1,7 +1,7 @@
 -- What an edit leaves of the pages of its two stations, whatever their bytes. On good pages these are the pages of the
 -- central machine's tables (machine/proofs/PageSteps.antt). Assumes nothing.
 use Rattle.std.specs.Prelude.{ℕ, List}
-use Rattle.std.proofs.Math.Option.{Option, none, some}
+use Rattle.std.specs.Prelude.{Option, None, Some}
 use Rattle.timetable.specs.Visits.{with_in, with_out, planned, amended, arrived_at, departed_at, from, onward}
 use Rattle.timetable.specs.Tables.{visit_of}
 use Rattle.page.specs.between.Changes.{table_in, page_add_visit, page_write_visit, page_remove_visit, page_add_relation, page_remove_relation, page_lose_train}
@@ -10,8 +10,8 @@ use Rattle.edit_changes.specs.Types.{ReportArrival, ReportDeparture, AddRelation
 
 -- the train's visit changed on the page, if it is there
 unfoldable pub page_changed : Train → (Visit → Visit) → Option Visit → List ℕ → List ℕ
-page_changed t f none page = page
-page_changed t f (some v) page = page_write_visit t (f v) page
+page_changed t f None page = page
+page_changed t f (Some v) page = page_write_visit t (f v) page
 
 unfoldable pub page_change : Train → (Visit → Visit) → List ℕ → List ℕ
 page_change t f page = page_changed t f (visit_of t (table_in page)) page
