@@ -4,7 +4,6 @@ use Prim.Native.Nat.{ℕ, ◌+◌, ◌<◌}
 use mathlib.Core.Path.{◌≡◌, refl, sym, ap, ap₂, ◌∙◌}
 use mathlib.Core.Bool.{Bool, true, false, not, ◌&&◌, ◌||◌}
 use mathlib.Core.List.{List, [], ◌∷◌, map}
-use mathlib.Core.Option.{Option, none, some}
 use native.Mathlib.Omega.{arith}
 use lib.ListN.{length, drop}
 use Rattle.base.specs.Choice.{◌if◌else◌}
@@ -13,26 +12,28 @@ use Rattle.base.specs.Lists.{any, every, keep, is, each_two}
 use Rattle.base.proofs.Tests.{T_true, every_true}
 use Rattle.railway.specs.Ranges.{same_train}
 use Rattle.railway.specs.Relations.{present, used}
-use Rattle.timetable.specs.Visits.{arr, comes_from}
 use Rattle.timetable.specs.Tables.{Entry, Table, visit_of}
-use Rattle.timetable.specs.Rules.{both_visit, due, ahead, caught, others, arrival_of}
+use Rattle.timetable.specs.Rules.{both_visit, ahead, caught, others}
 use Rattle.records.specs.Records.{decode_train, decode_visit}
 use Rattle.page.specs.between.Changes.{table_in}
-use Rattle.page.specs.between.Entries.{entry_bytes}
+use Rattle.page.specs.between.Entries.{entry_bytes, entry_at}
 use Rattle.page.proofs.EntryLaws.{entries_next, entry_of, entry_parts}
-use Rattle.page_rules.specs.Types.{Station, Train, Outward, Visit, Trains}
-use Rattle.rules.specs.between.Parts.{entry, leads, catches, arrival_by}
+use Rattle.page_rules.specs.Types.{Train, Outward, Visit, Trains}
+use Rattle.rules.specs.between.Parts.{entry, leads, catches}
 use Rattle.page_rules.specs.between.Parts.{one_met, two_met, leaders}
 
 -- rule 6
 
--- the entries from an index on, by the record that is read there
-pub entries_at : (page : List ℕ) (i n : ℕ) (r : List ℕ) (u : Train) (w : Visit) → n ≡ length (table_in page).visits → i < n
-    → r ≡ entry_bytes i page → u ≡ decode_train r → w ≡ decode_visit r
-    → drop i (table_in page).visits ≡ entry u w ∷ drop (i + 1) (table_in page).visits
-entries_at page i n r u w many h read p q =
-    rw (entries_next page i n many h)
-    (ap (λ (e : Entry). e ∷ drop (i + 1) (table_in page).visits) (sym (entry_parts r u w p q ∙ entry_of r page i read)))
+-- the visit at an index is read from its record
+pub entry_read : (page : List ℕ) (i : ℕ) (r : List ℕ) (u : Train) (w : Visit) → r ≡ entry_bytes i page → u ≡ decode_train r → w ≡ decode_visit r
+    → entry u w ≡ entry_at i page
+entry_read page i r u w read p q = entry_parts r u w p q ∙ entry_of r page i read
+
+-- the entries from an index on, by the one that is read there
+pub entries_at : (page : List ℕ) (i n : ℕ) (e : Entry) → n ≡ length (table_in page).visits → i < n → e ≡ entry_at i page
+    → drop i (table_in page).visits ≡ e ∷ drop (i + 1) (table_in page).visits
+entries_at page i n e many h read =
+    rw (entries_next page i n many h) (ap (λ (x : Entry). x ∷ drop (i + 1) (table_in page).visits) (sym read))
 
 module _ (t : Train) (v : Visit) (o : Outward) (e : Entry) (es : List Entry) where
   -- an entry comes before those that lead among the rest, or is left out
@@ -69,24 +70,6 @@ leaders_none t v o = refl
 pub none_caught : (t : Train) (v : Visit) (o : Outward) → any (caught v o) (leaders t v o []) ≡ false
 unfolding leaders others keep any
 none_caught t v o = refl
-
--- rule 10
-
-module _ (here : Table) (p : Station) (u : Entry) (q : Outward) where
-  -- by what the look-up of u's visit at s gives
-  arrival_found : Option Visit → ℕ
-  arrival_found x = elim x [
-    | none ↦ due u.visit q
-    | some w ↦ if comes_from p q.line w then arr w else due u.visit q
-  ]
-
-  pub arrival_none : visit_of u.train here ≡ none → arrival_of here p u q ≡ due u.visit q
-  unfolding arrival_of arrival_found
-  arrival_none e = ap arrival_found e
-
-  pub arrival_some : (w : Visit) → visit_of u.train here ≡ some w → arrival_of here p u q ≡ arrival_by w p u.visit q
-  unfolding arrival_of arrival_found arrival_by
-  arrival_some w e = ap arrival_found e
 
 -- rule 4
 

@@ -2,11 +2,12 @@
 ghost use Rattle.std.specs.Prelude.{◌≡◌};
 ghost use Rattle.timetable.specs.Rules.{out_answered, in_answered, breaks_9};
 ghost use Rattle.page.specs.between.Changes.{table_in};
-ghost use Rattle.rules.specs.between.Parts.{entry};
+ghost use Rattle.visits.specs.between.Entries.{entry_of};
 
 use railway::sorts::{Station, Train};
-use railway::visit::{Inward, Outward, Visit};
+use railway::visit::{Inward, Outward};
 use rules::trains;
+use visits::Entry;
 
 // 7. "Out-link whose far visit is missing or lacks this station and line as in-link (else the link is answered)."
 pub fn is_out_answered(s: Station, t: Train, o: Outward, there: &[u8]) -> bool
@@ -23,9 +24,9 @@ pub fn is_in_answered(s: Station, t: Train, i: Inward, there: &[u8]) -> bool
 }
 
 // 9. "The out-link is answered, the far arrival is pending and isn't departure + run."
-pub fn breaks_9(s: Station, t: Train, v: Visit, o: Outward, there: &[u8]) -> bool
-    ensures { result ≡ breaks_9 s (entry t v) o (table_in there.now) }
+pub fn breaks_9(s: Station, t: Entry, o: Outward, there: &[u8]) -> bool
+    ensures { result ≡ breaks_9 s (entry_of t) o (table_in there.now) }
 {
-    page::visit_of(there, t).is_some_and(|w| visits::is_from(w, s, o.line)
-        && trains::does_miss(v, o, w))
+    page::visit_of(there, t.train).is_some_and(|w| visits::is_from(w, s, o.line)
+        && trains::does_miss(t.visit, o, w))
 }

@@ -2,12 +2,14 @@
 // visit w, and leaves by q.
 ghost use Rattle.std.specs.Prelude.{◌≡◌};
 ghost use Rattle.timetable.specs.Rules.{ahead, caught, misses};
-ghost use Rattle.rules.specs.between.Parts.{entry, leads, catches, kind_three, is_towards, meets, arrival_by};
+ghost use Rattle.visits.specs.between.Entries.{entry_of};
+ghost use Rattle.rules.specs.between.Parts.{leads, catches, kind_three, is_towards, meets, arrival_by};
 
 use crate::clock;
 use network::Network;
-use railway::sorts::{Station, Train};
+use railway::sorts::Station;
 use railway::visit::{OutLink, Outward, Visit};
+use visits::Entry;
 
 // 6
 
@@ -36,17 +38,17 @@ pub fn is_caught(v: Visit, o: Outward, w: Visit) -> bool
 }
 
 // Another train that is ahead of t.
-pub fn does_lead(t: Train, v: Visit, o: Outward, u: Train, w: Visit) -> bool
-    ensures { result ≡ leads t v o (entry u w) }
+pub fn does_lead(t: Entry, o: Outward, u: Entry) -> bool
+    ensures { result ≡ leads t.train t.visit o (entry_of u) }
 {
-    u != t && is_ahead(v, o, w)
+    u.train != t.train && is_ahead(t.visit, o, u.visit)
 }
 
 // Another train that is ahead of t and is caught.
-pub fn does_catch(t: Train, v: Visit, o: Outward, u: Train, w: Visit) -> bool
-    ensures { result ≡ catches t v o (entry u w) }
+pub fn does_catch(t: Entry, o: Outward, u: Entry) -> bool
+    ensures { result ≡ catches t.train t.visit o (entry_of u) }
 {
-    does_lead(t, v, o, u, w) && is_caught(v, o, w)
+    does_lead(t, o, u) && is_caught(t.visit, o, u.visit)
 }
 
 // 9

@@ -10,8 +10,15 @@ ghost use Rattle.timetable.specs.Visits.{from, onward, first_stands, last_stands
 
 use railway::edit::Plan;
 use railway::minute::Minute;
-use railway::sorts::{Line, Station};
+use railway::sorts::{Line, Station, Train};
 use railway::visit::{InLink, Inward, OutLink, Outward, Visit};
+
+// A train's visit. "A visit belongs to a station and a train."
+#[derive(Clone, Copy, Debug, PartialEq, Eq, Hash)]
+pub struct Entry {
+    pub train: Train,
+    pub visit: Visit,
+}
 
 // Links.
 

@@ -9,4 +9,4 @@ use Rattle.page_rules.specs.between.Parts.{leaders}
 use Rattle.page_rules.proofs.lines.any_caught.Given as goal
 
 abbrev pub invariant-loop-i : goal.invariant-loop-i
-invariant-loop-i l = any (caught l.v l.o) (leaders l.t l.v l.o (table_in l.page).visits) ≡ any (caught l.v l.o) (leaders l.t l.v l.o (drop l.i (table_in l.page).visits))
+invariant-loop-i l = any (caught l.t.visit l.o) (leaders l.t.train l.t.visit l.o (table_in l.page).visits) ≡ any (caught l.t.visit l.o) (leaders l.t.train l.t.visit l.o (drop l.i (table_in l.page).visits))

@@ -10,5 +10,5 @@ use Rattle.page_rules.proofs.lines.count_ahead.Given as goal
 abbrev pub invariant-loop-i : goal.invariant-loop-i
 invariant-loop-i l = record {
   counted : l.count ≤ l.i;
-  all : l.count + length (leaders l.t l.v l.o (drop l.i (table_in l.page).visits)) ≡ length (leaders l.t l.v l.o (table_in l.page).visits);
+  all : l.count + length (leaders l.t.train l.t.visit l.o (drop l.i (table_in l.page).visits)) ≡ length (leaders l.t.train l.t.visit l.o (table_in l.page).visits);
 }
