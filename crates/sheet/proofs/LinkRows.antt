@@ -5,7 +5,7 @@ use Prim.Native.Nat.{ℕ, ◌+◌, ◌*◌, ◌-◌, ◌<◌, ◌≤◌}
 use mathlib.Core.Path.{◌≡◌, refl, sym, ◌∙◌, ap}
 use mathlib.Core.Bool.{Bool, true, false, ◌&&◌}
 use mathlib.Core.List.{List}
-use mathlib.Core.Option.{Option, none, some}
+use Rattle.std.specs.Prelude.{Option, None, Some}
 use native.Mathlib.Nat.{add-sub_cancel_left}
 use native.Mathlib.Omega.{arith}
 use lib.Dec.{T, leb, eqb, leb→le}
@@ -44,8 +44,8 @@ module _ (n : Network) (good : network_refusal n ≡ 0) where
       let few = leb→le n.linecount 32 (network_facts n good).line_count in
       let place : row_place l ≡ l.0 - 1 = rw (le-leb 1 l.0 (omega arith), le-leb l.0 32 (omega arith)) in
       let here : row ≡ get_or n.lines (l.0 - 1) blank_line = e ∙ ap (λ (i : ℕ). get_or n.lines i blank_line) place in
-      let found : line_row n l ≡ some row =
-      row_at n good l (l.0 - 1) blank_line (omega arith) (omega arith) (ap (λ (r : LineRow). r.line.0) (sym here) ∙ number) ∙ ap some (sym here) in
+      let found : line_row n l ≡ Some row =
+      row_at n good l (l.0 - 1) blank_line (omega arith) (omega arith) (ap (λ (r : LineRow). r.line.0) (sym here) ∙ number) ∙ ap Some (sym here) in
       rw found
 
   -- a link of a line that runs names a station that is listed, and is in range
@@ -113,5 +113,5 @@ values_known n s v k e = rw e (ap (λ (b : Bool). b && (minute_ok v.arrival && m
     nought false e = refl
 
     go : (o : Option StationRow) → (track_ok v.track && leb v.track.0 (row_tracks o)) ≡ (track_ok v.track && is (λ r. leb v.track.0 r.tracks) o)
-    go none = nought (leb 1 v.track.0) refl
-    go (some r) = refl
+    go None = nought (leb 1 v.track.0) refl
+    go (Some r) = refl

@@ -2,6 +2,7 @@
 // layout's order, with no visit or relation twice". A record is read, written anew and compared: what is not byte for
 // byte its own is found so.
 ghost use Rattle.std.specs.Prelude.{◌≡◌, true, not, ◌||◌, ◌*◌, ◌≤◌, eqb, length, get_or};
+ghost use Rattle.base.specs.RefusalNumbers.{refusal_number};
 ghost use Rattle.base.specs.Choice.{◌if◌else◌};
 ghost use Rattle.base.specs.Lists.{same};
 ghost use Rattle.network.specs.Networks.{runs, network_refusal};
@@ -14,7 +15,8 @@ ghost use Rattle.sheet.specs.between.Passes.{tracks_at, values_pass, row_place, 
 ghost use Rattle.sheet.specs.between.Passes.{in_passes, out_passes, passing_train, relation_passes, visit_run, relation_run};
 ghost use Rattle.sheet.specs.between.Passes.{visits_pass, relations_pass, covers, place_passes, sheet_passes, division_passes};
 
-use network::{LineRow, Network, StationFound};
+use base::refusal::Refusal;
+use network::{LineRow, Network};
 use railway::relation::{Pair, Relation};
 use railway::sorts::{Area, Line, Station, Train};
 use railway::visit;
@@ -40,8 +42,8 @@ pub fn is_same(a: &[u8], b: &[u8]) -> bool
 
 // A visit's values: "it has only values that an edit could carry under the network without 3 or 7"
 
-pub fn in_good(l: InLink, network: Network, s: Station) -> bool
-    ensures { result ≡ in_passes network s l }
+pub fn in_good(l: InLink, network: &Network, s: Station) -> bool
+    ensures { result ≡ in_passes network.now s l }
 {
     match l {
         InLink::Nothing => true,
@@ -58,8 +60,8 @@ pub fn in_good(l: InLink, network: Network, s: Station) -> bool
     }
 }
 
-pub fn out_good(l: OutLink, network: Network, s: Station) -> bool
-    ensures { result ≡ out_passes network s l }
+pub fn out_good(l: OutLink, network: &Network, s: Station) -> bool
+    ensures { result ≡ out_passes network.now s l }
 {
     match l {
         OutLink::Nothing => true,
@@ -92,10 +94,11 @@ fn place_of(l: Line) -> usize
 }
 
 // Searches only where another row stands there.
-fn runs_by(row: LineRow, network: Network, l: Line, from: Station, to: Station) -> bool
-    requires { (network_refusal network ≡ 0) × (row ≡ row_there network l) }
-    ensures { result ≡ runs network l from to }
+fn runs_by(row: LineRow, network: &Network, l: Line, from: Station, to: Station) -> bool
+    requires { (network_refusal network.now ≡ 0) × (row ≡ row_there network.now l) }
+    ensures { result ≡ runs network.now l from to }
 {
+    let _lines = &network.lines[..];
     if row.line.0 == l.0 {
         if 0 < l.0 {
             if l.0 <= network.linecount {
@@ -106,9 +109,9 @@ fn runs_by(row: LineRow, network: Network, l: Line, from: Station, to: Station) 
     network.runs(l, from, to)
 }
 
-fn in_runs(l: InLink, row: LineRow, network: Network, s: Station) -> bool
-    requires { (network_refusal network ≡ 0) × RowOfIn network l row }
-    ensures { result ≡ in_passes network s l }
+fn in_runs(l: InLink, row: LineRow, network: &Network, s: Station) -> bool
+    requires { (network_refusal network.now ≡ 0) × RowOfIn network.now l row }
+    ensures { result ≡ in_passes network.now s l }
 {
     match l {
         InLink::Nothing => true,
@@ -116,9 +119,9 @@ fn in_runs(l: InLink, row: LineRow, network: Network, s: Station) -> bool
     }
 }
 
-fn out_runs(l: OutLink, row: LineRow, network: Network, s: Station) -> bool
-    requires { (network_refusal network ≡ 0) × RowOfOut network l row }
-    ensures { result ≡ out_passes network s l }
+fn out_runs(l: OutLink, row: LineRow, network: &Network, s: Station) -> bool
+    requires { (network_refusal network.now ≡ 0) × RowOfOut network.now l row }
+    ensures { result ≡ out_passes network.now s l }
 {
     match l {
         OutLink::Nothing => true,
@@ -132,13 +135,12 @@ fn out_runs(l: OutLink, row: LineRow, network: Network, s: Station) -> bool
 }
 
 // The count of a station's tracks, 0 where it is not listed.
-fn tracks_of(network: Network, s: Station) -> u8
-    ensures { result ≡ tracks_at network s }
+fn tracks_of(network: &Network, s: Station) -> u8
+    ensures { result ≡ tracks_at network.now s }
 {
-    let found = network.station_row(s);
-    match found {
-        StationFound::Row(row) => row.tracks,
-        StationFound::Nothing => 0,
+    match network.station_row(s) {
+        Some(row) => row.tracks,
+        None => 0,
     }
 }
 
@@ -156,9 +158,9 @@ fn good_values(v: Visit, tracks: u8) -> bool
 }
 
 // In a good network, with the count of tracks and the rows of the two links' lines looked up before.
-fn known_visit(v: Visit, a: LineRow, b: LineRow, network: Network, s: Station, tracks: u8) -> bool
-    requires { (tracks ≡ tracks_at network s) × (network_refusal network ≡ 0) × RowOfIn network v.inward a × RowOfOut network v.outward b }
-    ensures { result ≡ visit_good network s v }
+fn known_visit(v: Visit, a: LineRow, b: LineRow, network: &Network, s: Station, tracks: u8) -> bool
+    requires { (tracks ≡ tracks_at network.now s) × (network_refusal network.now ≡ 0) × RowOfIn network.now v.inward a × RowOfOut network.now v.outward b }
+    ensures { result ≡ visit_good network.now s v }
 {
     let inward = v.inward;
     let outward = v.outward;
@@ -171,9 +173,9 @@ fn known_visit(v: Visit, a: LineRow, b: LineRow, network: Network, s: Station, t
 }
 
 // In any network.
-fn any_visit(v: Visit, network: Network, s: Station, tracks: u8) -> bool
-    requires { tracks ≡ tracks_at network s }
-    ensures { result ≡ visit_good network s v }
+fn any_visit(v: Visit, network: &Network, s: Station, tracks: u8) -> bool
+    requires { tracks ≡ tracks_at network.now s }
+    ensures { result ≡ visit_good network.now s v }
 {
     let inward = v.inward;
     let outward = v.outward;
@@ -207,17 +209,17 @@ fn own_train(r: &[u8], v: Visit, fits: bool) -> u16
 
 // The number of the train of a good visit record, and 0 for any other: in a good network, and in any.
 
-fn known_train(r: &[u8], a: LineRow, b: LineRow, network: Network, s: Station, tracks: u8) -> u16
-    requires { (tracks ≡ tracks_at network s) × (network_refusal network ≡ 0) × RowOfByte network (get_or r.now 10 0) a × RowOfByte network (get_or r.now 12 0) b }
-    ensures { result ≡ passing_train network s r.now }
+fn known_train(r: &[u8], a: LineRow, b: LineRow, network: &Network, s: Station, tracks: u8) -> u16
+    requires { (tracks ≡ tracks_at network.now s) × (network_refusal network.now ≡ 0) × RowOfByte network.now (get_or r.now 10 0) a × RowOfByte network.now (get_or r.now 12 0) b }
+    ensures { result ≡ passing_train network.now s r.now }
 {
     let v = record::visit_in(r);
     own_train(r, v, known_visit(v, a, b, network, s, tracks))
 }
 
-fn any_train(r: &[u8], network: Network, s: Station, tracks: u8) -> u16
-    requires { tracks ≡ tracks_at network s }
-    ensures { result ≡ passing_train network s r.now }
+fn any_train(r: &[u8], network: &Network, s: Station, tracks: u8) -> u16
+    requires { tracks ≡ tracks_at network.now s }
+    ensures { result ≡ passing_train network.now s r.now }
 {
     let v = record::visit_in(r);
     own_train(r, v, any_visit(v, network, s, tracks))
@@ -236,9 +238,9 @@ fn good_relation_record(r: &[u8], q: Relation) -> bool
 
 // The first n records: each is good and comes after the one before it, whose train or relation is kept. The two tests
 // are asked for here and not one function down, so that a good network is not copied for each record.
-fn visit_run(slots: &[u8], n: usize, network: Network, s: Station, good: bool) -> bool
-    requires { (16 * n ≤ length slots.now) × (good ≡ true → network_refusal network ≡ 0) }
-    ensures { result ≡ visit_run network s n slots.now }
+fn visit_run(slots: &[u8], n: usize, network: &Network, s: Station, good: bool) -> bool
+    requires { (16 * n ≤ length slots.now) × (good ≡ true → network_refusal network.now ≡ 0) }
+    ensures { result ≡ visit_run network.now s n slots.now }
 {
     let tracks = tracks_of(network, s);
     let mut last: u16 = 0;
@@ -307,9 +309,9 @@ fn relation_run(slots: &[u8], n: usize) -> bool
 }
 
 // The records of a row of slots, and zeros behind them.
-fn good_visits(slots: &[u8], n: usize, network: Network, s: Station, good: bool) -> bool
-    requires { (16 * n ≤ length slots.now) × (good ≡ true → network_refusal network ≡ 0) }
-    ensures { result ≡ visits_pass network s n slots.now }
+fn good_visits(slots: &[u8], n: usize, network: &Network, s: Station, good: bool) -> bool
+    requires { (16 * n ≤ length slots.now) × (good ≡ true → network_refusal network.now ≡ 0) }
+    ensures { result ≡ visits_pass network.now s n slots.now }
 {
     if visit_run(slots, n, network, s, good) {
         let at = 16 * n;
@@ -330,9 +332,9 @@ fn good_relations(slots: &[u8], n: usize) -> bool
 }
 
 // A station's page, where it may be known that the network is good.
-fn page_under(page: &[u8], network: Network, s: Station, good: bool) -> bool
-    requires { good ≡ true → network_refusal network ≡ 0 }
-    ensures { result ≡ good_page network s page.now }
+fn page_under(page: &[u8], network: &Network, s: Station, good: bool) -> bool
+    requires { good ≡ true → network_refusal network.now ≡ 0 }
+    ensures { result ≡ good_page network.now s page.now }
 {
     if page.len() != 512 {
         return false;
@@ -353,21 +355,21 @@ fn page_under(page: &[u8], network: Network, s: Station, good: bool) -> bool
     false
 }
 
-pub fn good_page(page: &[u8], network: Network, s: Station) -> bool
-    ensures { result ≡ good_page network s page.now }
+pub fn good_page(page: &[u8], network: &Network, s: Station) -> bool
+    ensures { result ≡ good_page network.now s page.now }
 {
     page_under(page, network, s, network.refusal() == 0)
 }
 
 // The stations that a sheet is over: all that are listed, or those of an area.
-#[derive(Clone, Copy)]
+#[derive(Clone, Copy, Debug, PartialEq, Eq, Hash)]
 pub enum Extent {
     Whole,
     Of(Area),
 }
 
-fn is_over(network: Network, extent: Extent, k: Station) -> bool
-    ensures { result ≡ covers network extent k }
+fn is_over(network: &Network, extent: Extent, k: Station) -> bool
+    ensures { result ≡ covers network.now extent k }
 {
     match extent {
         Extent::Whole => network.listed(k),
@@ -381,9 +383,9 @@ fn is_over(network: Network, extent: Extent, k: Station) -> bool
 }
 
 // The page of a station of the sheet is good, any other is zeros.
-fn good_place(page: &[u8], network: Network, extent: Extent, k: Station, good: bool) -> bool
-    requires { good ≡ true → network_refusal network ≡ 0 }
-    ensures { result ≡ place_passes network extent k page.now }
+fn good_place(page: &[u8], network: &Network, extent: Extent, k: Station, good: bool) -> bool
+    requires { good ≡ true → network_refusal network.now ≡ 0 }
+    ensures { result ≡ place_passes network.now extent k page.now }
 {
     if is_over(network, extent, k) {
         return page_under(page, network, k, good);
@@ -392,9 +394,9 @@ fn good_place(page: &[u8], network: Network, extent: Extent, k: Station, good: b
 }
 
 // A sheet over those stations.
-fn sheet_under(sheet: &[u8], network: Network, extent: Extent, good: bool) -> bool
-    requires { good ≡ true → network_refusal network ≡ 0 }
-    ensures { result ≡ sheet_passes network extent sheet.now }
+fn sheet_under(sheet: &[u8], network: &Network, extent: Extent, good: bool) -> bool
+    requires { good ≡ true → network_refusal network.now ≡ 0 }
+    ensures { result ≡ sheet_passes network.now extent sheet.now }
 {
     if sheet.len() != 8192 {
         return false;
@@ -413,28 +415,25 @@ fn sheet_under(sheet: &[u8], network: Network, extent: Extent, good: bool) -> bo
     true
 }
 
-pub fn good_sheet(sheet: &[u8], network: Network, extent: Extent) -> bool
-    ensures { result ≡ sheet_passes network extent sheet.now }
+pub fn good_sheet(sheet: &[u8], network: &Network, extent: Extent) -> bool
+    ensures { result ≡ sheet_passes network.now extent sheet.now }
 {
     sheet_under(sheet, network, extent, network.refusal() == 0)
 }
 
 // What refuses a sheet under a network, which is asked once: 3 and 4 of the network, then 6.
-pub fn sheet_refusal(sheet: &[u8], network: Network, extent: Extent) -> u8
-    ensures { result ≡ or_else (network_refusal network) (6 if not (sheet_passes network extent sheet.now) else 0) }
+pub fn sheet_refusal(sheet: &[u8], network: &Network, extent: Extent) -> Result<(), Refusal>
+    ensures { refusal_number result ≡ or_else (network_refusal network.now) (6 if not (sheet_passes network.now extent sheet.now) else 0) }
 {
-    let refused = network.refusal();
-    if refused != 0 {
-        return refused;
+    network.check()?;
+    if !sheet_under(sheet, network, extent, true) {
+        return Err(Refusal::BadSheet);
     }
-    if sheet_under(sheet, network, extent, true) {
-        return 0;
-    }
-    6
+    Ok(())
 }
 
-pub fn good_division(division: &[u8], network: Network) -> bool
-    ensures { result ≡ division_passes network division.now }
+pub fn good_division(division: &[u8], network: &Network) -> bool
+    ensures { result ≡ division_passes network.now division.now }
 {
     if division.len() != 49152 {
         return false;

@@ -2,7 +2,7 @@
 -- read, written anew and compared, so that a test never names a byte's meaning. proofs/PassLaws.antt has that these
 -- tests are `good_page`, `good_sheet` and `good_division`. Assumes nothing.
 use Rattle.std.specs.Prelude.{ℕ, zero, suc, ◌+◌, ◌*◌, ◌-◌, Bool, true, ◌&&◌, ◌||◌, List, ◌≡◌, ltb, leb, eqb, length, get_or, take, drop}
-use Rattle.std.proofs.Math.Option.{Option, none, some}
+use Rattle.std.specs.Prelude.{Option, None, Some}
 use Rattle.base.specs.Choice.{◌if◌else◌}
 use Rattle.std.specs.Prelude.{if◌then◌else◌}
 use Rattle.base.specs.Lists.{same}
@@ -32,8 +32,8 @@ out_passes n s (OutLink.To o) = out_good n s o
 
 -- 0 where the station is not listed
 abbrev pub row_tracks : Option StationRow → ℕ
-row_tracks none = 0
-row_tracks (some r) = r.tracks
+row_tracks None = 0
+row_tracks (Some r) = r.tracks
 
 unfoldable pub tracks_at : Network → Station → ℕ
 tracks_at n s = row_tracks (station_row n s)

@@ -18,4 +18,4 @@ returns c =
     let s = c.args in
     let v = c.visit_in-v in
     let k = c.any_visit in
-    c.own_train.ensures ∙ train_passing s.network s.s s.r.now v.result v.ensures k.result k.ensures
+    c.own_train.ensures ∙ train_passing s.network.now s.s s.r.now v.result v.ensures k.result k.ensures

@@ -12,7 +12,7 @@ returns-then-in_good c =
     let i = c.in_good in
     let o = c.out_good in
     rw (c.if-good_values.true, c.if-in_good.true) at
-    (visit_tests s.network s.s s.v g.result i.result o.result (g.ensures ∙ values_known s.network s.s s.v s.tracks c.requires) i.ensures o.ensures)
+    (visit_tests s.network.now s.s s.v g.result i.result o.result (g.ensures ∙ values_known s.network.now s.s s.v s.tracks c.requires) i.ensures o.ensures)
 
 pub returns-else-in_good : goal.returns-else-in_good
 returns-else-in_good c =
@@ -20,13 +20,13 @@ returns-else-in_good c =
     let g = c.good_values in
     let i = c.in_good in
     rw (c.if-good_values.true, c.if-in_good.false) at
-    (visit_tests s.network s.s s.v g.result i.result (out_passes s.network s.s s.v.outward)
-    (g.ensures ∙ values_known s.network s.s s.v s.tracks c.requires) i.ensures refl)
+    (visit_tests s.network.now s.s s.v g.result i.result (out_passes s.network.now s.s s.v.outward)
+    (g.ensures ∙ values_known s.network.now s.s s.v s.tracks c.requires) i.ensures refl)
 
 pub returns-else-good_values : goal.returns-else-good_values
 returns-else-good_values c =
     let s = c.args in
     let g = c.good_values in
     rw c.if-good_values.false at
-    (visit_tests s.network s.s s.v g.result (in_passes s.network s.s s.v.inward) (out_passes s.network s.s s.v.outward)
-    (g.ensures ∙ values_known s.network s.s s.v s.tracks c.requires) refl refl)
+    (visit_tests s.network.now s.s s.v g.result (in_passes s.network.now s.s s.v.inward) (out_passes s.network.now s.s s.v.outward)
+    (g.ensures ∙ values_known s.network.now s.s s.v s.tracks c.requires) refl refl)

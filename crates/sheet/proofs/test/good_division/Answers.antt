@@ -10,7 +10,7 @@ use Rattle.sheet.proofs.test.good_division.Goals as goal
 pub returns-then-division-ne49152 : goal.returns-then-division-ne49152
 returns-then-division-ne49152 c =
     let s = c.args in
-    division_short s.network s.division.now c.if-division-ne49152.true
+    division_short s.network.now s.division.now c.if-division-ne49152.true
 
 pub refusal-good-requires : goal.refusal-good-requires
 refusal-good-requires c = search rules
@@ -18,7 +18,7 @@ refusal-good-requires c = search rules
 pub loop-i-init : goal.loop-i-init
 loop-i-init c =
     let s = c.args in
-    (omega arith, refl, sheets_start s.network s.division.now c.if-division-ne49152.false)
+    (omega arith, refl, sheets_start s.network.now s.division.now c.if-division-ne49152.false)
 
 pub overflow_mul-at : goal.overflow_mul-at
 overflow_mul-at c = omega arith
@@ -51,16 +51,16 @@ pub loop-i-preserved : goal.loop-i-preserved
 loop-i-preserved c =
     let l = c.loop-i in
     let s = c.args in
-    (omega arith, omega arith, l.invariant.2 ∙ sheets_on s.network s.division.now c.if-division-ne49152.false l.i l.a l.invariant.1 (omega arith) (sym c.sheet_under.ensures ∙ c.if-sheet_under.true))
+    (omega arith, omega arith, l.invariant.2 ∙ sheets_on s.network.now s.division.now c.if-division-ne49152.false l.i l.a l.invariant.1 (omega arith) (sym c.sheet_under.ensures ∙ c.if-sheet_under.true))
 
 pub returns-else-sheet_under : goal.returns-else-sheet_under
 returns-else-sheet_under c =
     let l = c.loop-i in
     let s = c.args in
-    sym (l.invariant.2 ∙ sheets_not s.network s.division.now c.if-division-ne49152.false l.i l.a l.invariant.1 (omega arith) (sym c.sheet_under.ensures ∙ c.if-sheet_under.false))
+    sym (l.invariant.2 ∙ sheets_not s.network.now s.division.now c.if-division-ne49152.false l.i l.a l.invariant.1 (omega arith) (sym c.sheet_under.ensures ∙ c.if-sheet_under.false))
 
 pub returns : goal.returns
 returns c =
     let l = c.loop-i in
     let s = c.args in
-    sym (l.invariant.2 ∙ sheets_end s.network s.division.now l.i (omega arith))
+    sym (l.invariant.2 ∙ sheets_end s.network.now s.division.now l.i (omega arith))

@@ -14,7 +14,7 @@ pub returns-then-is_over : goal.returns-then-is_over
 returns-then-is_over c =
     let s = c.args in
     let o = c.is_over in
-    c.page_under.ensures ∙ place_over s.network s.extent s.k s.page.now o.result o.ensures c.if-is_over.true
+    c.page_under.ensures ∙ place_over s.network.now s.extent s.k s.page.now o.result o.ensures c.if-is_over.true
 
 pub is_blank-requires : goal.is_blank-requires
 is_blank-requires c = search rules
@@ -23,4 +23,4 @@ pub returns : goal.returns
 returns c =
     let s = c.args in
     let o = c.is_over in
-    c.is_blank.ensures ∙ place_bare s.network s.extent s.k s.page.now o.result o.ensures c.if-is_over.false
+    c.is_blank.ensures ∙ place_bare s.network.now s.extent s.k s.page.now o.result o.ensures c.if-is_over.false

@@ -29,11 +29,11 @@ pub returns-then-visit_run : goal.returns-then-visit_run
 returns-then-visit_run c =
     let s = c.args in
     let r = c.visit_run in
-    rw c.if-visit_run.true at (visits_tests s.network s.s s.n s.slots.now r.result c.is_blank.result r.ensures c.is_blank.ensures)
+    rw c.if-visit_run.true at (visits_tests s.network.now s.s s.n s.slots.now r.result c.is_blank.result r.ensures c.is_blank.ensures)
 
 pub returns : goal.returns
 returns c =
     let s = c.args in
     let r = c.visit_run in
     let b = s.slots.now in
-    rw c.if-visit_run.false at (visits_tests s.network s.s s.n s.slots.now r.result (blank (take (length b - 16 * s.n) (drop (16 * s.n) b))) r.ensures refl)
+    rw c.if-visit_run.false at (visits_tests s.network.now s.s s.n s.slots.now r.result (blank (take (length b - 16 * s.n) (drop (16 * s.n) b))) r.ensures refl)

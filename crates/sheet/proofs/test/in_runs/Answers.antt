@@ -12,4 +12,4 @@ pub returns-in-From : goal.returns-in-From
 unfolding in_passes
 returns-in-From c =
     let s = c.args in
-    rw c.in-From.is (c.runs_by.ensures ∙ in_good_runs s.network c.requires.0 s.s _)
+    rw c.in-From.is (c.runs_by.ensures ∙ in_good_runs s.network.now c.requires.0 s.s _)

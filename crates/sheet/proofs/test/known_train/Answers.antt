@@ -13,7 +13,7 @@ known_visit-requires c =
     let s = c.args in
     let p = c.requires in
     let v = c.visit_in-v in
-    (p.0, p.1, rw v.ensures (in_row s.network s.r.now s.a p.2), rw v.ensures (out_row s.network s.r.now s.b p.3))
+    (p.0, p.1, rw v.ensures (in_row s.network.now s.r.now s.a p.2), rw v.ensures (out_row s.network.now s.r.now s.b p.3))
 
 pub own_train-requires : goal.own_train-requires
 own_train-requires c = search rules
@@ -23,4 +23,4 @@ returns c =
     let s = c.args in
     let v = c.visit_in-v in
     let k = c.known_visit in
-    c.own_train.ensures ∙ train_passing s.network s.s s.r.now v.result v.ensures k.result k.ensures
+    c.own_train.ensures ∙ train_passing s.network.now s.s s.r.now v.result v.ensures k.result k.ensures

@@ -12,7 +12,7 @@ returns-then-in_runs c =
     let i = c.in_runs in
     let o = c.out_runs in
     rw (c.if-good_values.true, c.if-in_runs.true) at
-    (visit_tests s.network s.s s.v g.result i.result o.result (g.ensures ∙ values_known s.network s.s s.v s.tracks c.requires.0) i.ensures o.ensures)
+    (visit_tests s.network.now s.s s.v g.result i.result o.result (g.ensures ∙ values_known s.network.now s.s s.v s.tracks c.requires.0) i.ensures o.ensures)
 
 pub returns-else-in_runs : goal.returns-else-in_runs
 returns-else-in_runs c =
@@ -20,13 +20,13 @@ returns-else-in_runs c =
     let g = c.good_values in
     let i = c.in_runs in
     rw (c.if-good_values.true, c.if-in_runs.false) at
-    (visit_tests s.network s.s s.v g.result i.result (out_passes s.network s.s s.v.outward)
-    (g.ensures ∙ values_known s.network s.s s.v s.tracks c.requires.0) i.ensures refl)
+    (visit_tests s.network.now s.s s.v g.result i.result (out_passes s.network.now s.s s.v.outward)
+    (g.ensures ∙ values_known s.network.now s.s s.v s.tracks c.requires.0) i.ensures refl)
 
 pub returns-else-good_values : goal.returns-else-good_values
 returns-else-good_values c =
     let s = c.args in
     let g = c.good_values in
     rw c.if-good_values.false at
-    (visit_tests s.network s.s s.v g.result (in_passes s.network s.s s.v.inward) (out_passes s.network s.s s.v.outward)
-    (g.ensures ∙ values_known s.network s.s s.v s.tracks c.requires.0) refl refl)
+    (visit_tests s.network.now s.s s.v g.result (in_passes s.network.now s.s s.v.inward) (out_passes s.network.now s.s s.v.outward)
+    (g.ensures ∙ values_known s.network.now s.s s.v s.tracks c.requires.0) refl refl)

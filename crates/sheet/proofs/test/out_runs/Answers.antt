@@ -8,7 +8,7 @@ pub returns-then-run_valid : goal.returns-then-run_valid
 unfolding out_passes
 returns-then-run_valid c =
     let s = c.args in
-    rw (c.in-To.is, ← out_good_runs s.network c.requires.0 s.s _)
+    rw (c.in-To.is, ← out_good_runs s.network.now c.requires.0 s.s _)
     (simp (← c.run_valid.ensures, c.if-run_valid.true, ← c.runs_by.ensures))
 
 pub returns-in-Nothing : goal.returns-in-Nothing
@@ -19,5 +19,5 @@ pub returns-else-run_valid : goal.returns-else-run_valid
 unfolding out_passes
 returns-else-run_valid c =
     let s = c.args in
-    rw (c.in-To.is, ← out_good_runs s.network c.requires.0 s.s _)
+    rw (c.in-To.is, ← out_good_runs s.network.now c.requires.0 s.s _)
     (simp (← c.run_valid.ensures, c.if-run_valid.false))

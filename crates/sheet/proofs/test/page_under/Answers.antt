@@ -9,7 +9,7 @@ use Rattle.sheet.proofs.test.page_under.Goals as goal
 pub returns-then-page-ne512 : goal.returns-then-page-ne512
 returns-then-page-ne512 c =
     let s = c.args in
-    page_short s.network s.s s.page.now c.if-page-ne512.true
+    page_short s.network.now s.s s.page.now c.if-page-ne512.true
 
 pub bounds-page-0 : goal.bounds-page-0
 bounds-page-0 c = search rules
@@ -30,7 +30,7 @@ returns-then-n-gt24 c =
     let n = c.size-n in
     let m = c.size-m in
     let size = c.if-page-ne512.false in
-    page_many s.network s.s page size n.result m.result n.ensures.0 m.ensures.0 c.if-n-gt24.true
+    page_many s.network.now s.s page size n.result m.result n.ensures.0 m.ensures.0 c.if-n-gt24.true
 
 pub returns-then-m-gt6 : goal.returns-then-m-gt6
 returns-then-m-gt6 c =
@@ -39,7 +39,7 @@ returns-then-m-gt6 c =
     let n = c.size-n in
     let m = c.size-m in
     let size = c.if-page-ne512.false in
-    page_related s.network s.s page size n.result m.result n.ensures.0 m.ensures.0 c.if-n-gt24.false c.if-m-gt6.true
+    page_related s.network.now s.s page size n.result m.result n.ensures.0 m.ensures.0 c.if-n-gt24.false c.if-m-gt6.true
 
 pub slice_bounds-is_blank-count : goal.slice_bounds-is_blank-count
 slice_bounds-is_blank-count c = search rules
@@ -88,7 +88,7 @@ returns-then-good_visits c =
     let v = c.good_visits in
     let r = c.good_relations in
     rw (c.if-is_blank.true, c.if-good_visits.true) at
-    (page_tests s.network s.s page size n.result m.result n.ensures.0 m.ensures.0 c.if-n-gt24.false c.if-m-gt6.false b.result v.result r.result
+    (page_tests s.network.now s.s page size n.result m.result n.ensures.0 m.ensures.0 c.if-n-gt24.false c.if-m-gt6.false b.result v.result r.result
     b.ensures v.ensures r.ensures)
 
 pub returns-else-good_visits : goal.returns-else-good_visits
@@ -101,7 +101,7 @@ returns-else-good_visits c =
     let b = c.is_blank in
     let v = c.good_visits in
     rw (c.if-is_blank.true, c.if-good_visits.false) at
-    (page_tests s.network s.s page size n.result m.result n.ensures.0 m.ensures.0 c.if-n-gt24.false c.if-m-gt6.false b.result v.result (relations_pass m.result (take 96 (drop 416 page)))
+    (page_tests s.network.now s.s page size n.result m.result n.ensures.0 m.ensures.0 c.if-n-gt24.false c.if-m-gt6.false b.result v.result (relations_pass m.result (take 96 (drop 416 page)))
     b.ensures v.ensures refl)
 
 pub returns-else-is_blank : goal.returns-else-is_blank
@@ -113,5 +113,5 @@ returns-else-is_blank c =
     let size = c.if-page-ne512.false in
     let b = c.is_blank in
     rw c.if-is_blank.false at
-    (page_tests s.network s.s page size n.result m.result n.ensures.0 m.ensures.0 c.if-n-gt24.false c.if-m-gt6.false b.result (visits_pass s.network s.s n.result (take 384 (drop 32 page)))
+    (page_tests s.network.now s.s page size n.result m.result n.ensures.0 m.ensures.0 c.if-n-gt24.false c.if-m-gt6.false b.result (visits_pass s.network.now s.s n.result (take 384 (drop 32 page)))
     (relations_pass m.result (take 96 (drop 416 page))) b.ensures refl refl)

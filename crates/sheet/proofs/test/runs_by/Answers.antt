@@ -10,6 +10,6 @@ pub returns-then-l-network : goal.returns-then-l-network
 returns-then-l-network c =
     let s = c.args in
     let p = c.requires in
-    let many : length s.network.lines ≡ 32 = search rules in
+    let many : length s.network.now.lines ≡ 32 = search rules in
     c.runs.ensures
-    ∙ row_decides s.network p.0 many s.l s.row p.1 c.if-row-l.true c.if-l-gt0.true c.if-l-network.true s.from s.to
+    ∙ row_decides s.network.now p.0 many s.l s.row p.1 c.if-row-l.true c.if-l-gt0.true c.if-l-network.true s.from s.to

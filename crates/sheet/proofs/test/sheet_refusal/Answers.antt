@@ -1,27 +1,22 @@
--- `sheet::test::sheet_refusal` meets its contract: the network's refusal comes first, and a network that is not refused
--- is good. Assumes nothing.
-use mathlib.Core.Path.{sym, ◌∙◌}
-use borrow.Author.Rules.{rules}
+-- `sheet::test::sheet_refusal` meets its contract: the network's refusal comes first. Assumes nothing.
+use Rattle.std.proofs.Common.{sym, ◌∙◌, ap}
+use Rattle.std.proofs.lemmas.Result.{err_from_is_err_and}
+use Rattle.base.specs.RefusalNumbers.{refusal_number}
+use Rattle.network.specs.Networks.{network_refusal}
+use Rattle.timetable.proofs.OutputLaws.{number_there}
 use Rattle.timetable.proofs.RefusalLaws.{or_first, or_later}
 use Rattle.sheet.proofs.test.sheet_refusal.Goals as goal
 
-pub refusal-refused-requires : goal.refusal-refused-requires
-refusal-refused-requires c = search rules
+pub returns-in_err-check : goal.returns-in_err-check
+returns-in_err-check c =
+    let p = err_from_is_err_and c.from_residual.result c.from_residual.ensures.1 in
+    let r = c.in_err-check.field-0.0 in
+    rw (p.1, p.2) (c.in_err-check.ensures ∙ sym (or_first (network_refusal c.args.network.now) _ (λ z. number_there r (c.in_err-check.ensures ∙ z))))
 
-pub returns-then-refused-ne0 : goal.returns-then-refused-ne0
-returns-then-refused-ne0 c =
-    let r = c.refusal-refused in
-    r.ensures ∙ sym (or_first _ _ (λ z. c.if-refused-ne0.true (r.ensures ∙ z)))
-
-pub sheet_under-requires : goal.sheet_under-requires
-sheet_under-requires c = λ e. sym c.refusal-refused.ensures ∙ c.if-refused-ne0.false
-
-pub returns-then-sheet_under : goal.returns-then-sheet_under
-returns-then-sheet_under c =
-    let r = c.refusal-refused in
-    sym (or_later _ _ (sym r.ensures ∙ c.if-refused-ne0.false) ∙ rw (sym c.sheet_under.ensures ∙ c.if-sheet_under.true))
+pub returns-then-not-sheet_under : goal.returns-then-not-sheet_under
+returns-then-not-sheet_under c =
+    sym (or_later (network_refusal c.args.network.now) _ (sym c.check.ensures ∙ ap refusal_number c.in_ok-check.was) ∙ rw (← c.sheet_under.ensures, c.if-not-sheet_under.true))
 
 pub returns : goal.returns
 returns c =
-    let r = c.refusal-refused in
-    sym (or_later _ _ (sym r.ensures ∙ c.if-refused-ne0.false) ∙ rw (sym c.sheet_under.ensures ∙ c.if-sheet_under.false))
+    sym (or_later (network_refusal c.args.network.now) _ (sym c.check.ensures ∙ ap refusal_number c.in_ok-check.was) ∙ rw (← c.sheet_under.ensures, c.if-not-sheet_under.false))

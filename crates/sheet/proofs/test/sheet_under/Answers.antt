@@ -9,12 +9,12 @@ use Rattle.sheet.proofs.test.sheet_under.Goals as goal
 pub returns-then-sheet-ne8192 : goal.returns-then-sheet-ne8192
 returns-then-sheet-ne8192 c =
     let s = c.args in
-    sheet_short s.network s.extent s.sheet.now c.if-sheet-ne8192.true
+    sheet_short s.network.now s.extent s.sheet.now c.if-sheet-ne8192.true
 
 pub loop-i-init : goal.loop-i-init
 loop-i-init c =
     let s = c.args in
-    (omega arith, refl, places_start s.network s.extent s.sheet.now c.if-sheet-ne8192.false)
+    (omega arith, refl, places_start s.network.now s.extent s.sheet.now c.if-sheet-ne8192.false)
 
 pub overflow_mul-at : goal.overflow_mul-at
 overflow_mul-at c = omega arith
@@ -47,16 +47,16 @@ pub loop-i-preserved : goal.loop-i-preserved
 loop-i-preserved c =
     let l = c.loop-i in
     let s = c.args in
-    (omega arith, omega arith, l.invariant.2 ∙ places_on s.network s.extent s.sheet.now l.i l.k l.invariant.1 (omega arith) (sym c.good_place.ensures ∙ c.if-good_place.true))
+    (omega arith, omega arith, l.invariant.2 ∙ places_on s.network.now s.extent s.sheet.now l.i l.k l.invariant.1 (omega arith) (sym c.good_place.ensures ∙ c.if-good_place.true))
 
 pub returns-else-good_place : goal.returns-else-good_place
 returns-else-good_place c =
     let l = c.loop-i in
     let s = c.args in
-    sym (l.invariant.2 ∙ places_not s.network s.extent s.sheet.now l.i l.k l.invariant.1 (omega arith) (sym c.good_place.ensures ∙ c.if-good_place.false))
+    sym (l.invariant.2 ∙ places_not s.network.now s.extent s.sheet.now l.i l.k l.invariant.1 (omega arith) (sym c.good_place.ensures ∙ c.if-good_place.false))
 
 pub returns : goal.returns
 returns c =
     let l = c.loop-i in
     let s = c.args in
-    sym (l.invariant.2 ∙ places_end s.network s.extent s.sheet.now l.i (omega arith))
+    sym (l.invariant.2 ∙ places_end s.network.now s.extent s.sheet.now l.i (omega arith))

@@ -1,18 +1,11 @@
--- `sheet::test::tracks_of` meets its contract: the row that was found says it. Assumes nothing.
-use mathlib.Core.Path.{sym, ◌∙◌}
-use Rattle.network.specs.Networks.{station_row}
-use Rattle.network.proofs.RowsInUse.{station_some, station_none}
+-- `sheet::test::tracks_of` meets its contract: the row's tracks, where there is a row. Assumes nothing.
 use Rattle.sheet.specs.between.Passes.{tracks_at}
 use Rattle.sheet.proofs.test.tracks_of.Goals as goal
 
-pub returns-in-Row : goal.returns-in-Row
+pub returns-in-Some : goal.returns-in-Some
 unfolding tracks_at
-returns-in-Row c =
-    let s = c.args in
-    rw (station_some (station_row s.network s.s) _ (sym c.station_row-found.ensures ∙ c.in-Row.is))
+returns-in-Some c = rw (← c.station_row.ensures, c.in-Some.is)
 
-pub returns-in-Nothing : goal.returns-in-Nothing
+pub returns-in-None : goal.returns-in-None
 unfolding tracks_at
-returns-in-Nothing c =
-    let s = c.args in
-    rw (station_none (station_row s.network s.s) (sym c.station_row-found.ensures ∙ c.in-Nothing.is))
+returns-in-None c = rw (← c.station_row.ensures, c.in-None.is)

@@ -28,7 +28,7 @@ pub loop-i-init : goal.loop-i-init
 unfolding train_before
 loop-i-init c =
     let s = c.args in
-    (omega arith, refl, visit_run_start s.network s.s s.n s.slots.now)
+    (omega arith, refl, visit_run_start s.network.now s.s s.n s.slots.now)
 
 pub overflow_mul-at : goal.overflow_mul-at
 overflow_mul-at c = omega arith
@@ -81,8 +81,8 @@ known_train-t-requires c =
     let s = c.args in (
       c.tracks_of-tracks.ensures,
       c.requires.1 c.if-good.true,
-      row_read s.network s.slots.now l.i 10 c.place_of.result (omega arith) c.place_of.ensures,
-      row_read s.network s.slots.now l.i 12 c.place_of-in-loop-i.result (omega arith) c.place_of-in-loop-i.ensures,
+      row_read s.network.now s.slots.now l.i 10 c.place_of.result (omega arith) c.place_of.ensures,
+      row_read s.network.now s.slots.now l.i 12 c.place_of-in-loop-i.result (omega arith) c.place_of-in-loop-i.ensures,
     )
 
 pub overflow_add-at-else-good : goal.overflow_add-at-else-good
@@ -111,11 +111,11 @@ loop-i-preserved c =
     let l = c.loop-i in
     let s = c.args in
     let t = c.if-good in
-    let same : t.t ≡ passing_train s.network s.s (take (16 * l.i + 16 - 16 * l.i) (drop (16 * l.i) s.slots.now)) = elim t.branch [ then-good w ↦ w.t-is ∙ w.known_train-t.ensures | else-good w ↦ w.t-is ∙ w.any_train-t.ensures ] in
-    let good = passes l.last t.t s.slots.now l.i s.network s.s l.invariant.1 same true (lt-ltb _ _ c.if-last-t.true) in (
+    let same : t.t ≡ passing_train s.network.now s.s (take (16 * l.i + 16 - 16 * l.i) (drop (16 * l.i) s.slots.now)) = elim t.branch [ then-good w ↦ w.t-is ∙ w.known_train-t.ensures | else-good w ↦ w.t-is ∙ w.any_train-t.ensures ] in
+    let good = passes l.last t.t s.slots.now l.i s.network.now s.s l.invariant.1 same true (lt-ltb _ _ c.if-last-t.true) in (
       omega arith,
-      train_kept s.slots.now l.i s.network s.s t.t same good,
-      l.invariant.2 ∙ from_both (λ j. visit_passes s.network s.s (chunk j s.slots.now)) (train_after s.slots.now) s.n l.i (omega arith) good,
+      train_kept s.slots.now l.i s.network.now s.s t.t same good,
+      l.invariant.2 ∙ from_both (λ j. visit_passes s.network.now s.s (chunk j s.slots.now)) (train_after s.slots.now) s.n l.i (omega arith) good,
     )
 
 pub returns-else-last-t : goal.returns-else-last-t
@@ -123,12 +123,12 @@ returns-else-last-t c =
     let l = c.loop-i in
     let s = c.args in
     let t = c.if-good in
-    let same : t.t ≡ passing_train s.network s.s (take (16 * l.i + 16 - 16 * l.i) (drop (16 * l.i) s.slots.now)) = elim t.branch [ then-good w ↦ w.t-is ∙ w.known_train-t.ensures | else-good w ↦ w.t-is ∙ w.any_train-t.ensures ] in
-    let bad = passes l.last t.t s.slots.now l.i s.network s.s l.invariant.1 same false (le-ltb _ _ c.if-last-t.false) in
-    sym (l.invariant.2 ∙ from_not (λ j. visit_passes s.network s.s (chunk j s.slots.now)) (train_after s.slots.now) s.n l.i (omega arith) bad)
+    let same : t.t ≡ passing_train s.network.now s.s (take (16 * l.i + 16 - 16 * l.i) (drop (16 * l.i) s.slots.now)) = elim t.branch [ then-good w ↦ w.t-is ∙ w.known_train-t.ensures | else-good w ↦ w.t-is ∙ w.any_train-t.ensures ] in
+    let bad = passes l.last t.t s.slots.now l.i s.network.now s.s l.invariant.1 same false (le-ltb _ _ c.if-last-t.false) in
+    sym (l.invariant.2 ∙ from_not (λ j. visit_passes s.network.now s.s (chunk j s.slots.now)) (train_after s.slots.now) s.n l.i (omega arith) bad)
 
 pub returns : goal.returns
 returns c =
     let l = c.loop-i in
     let s = c.args in
-    sym (l.invariant.2 ∙ from_end (λ j. visit_passes s.network s.s (chunk j s.slots.now)) (train_after s.slots.now) s.n l.i (omega arith))
+    sym (l.invariant.2 ∙ from_end (λ j. visit_passes s.network.now s.s (chunk j s.slots.now)) (train_after s.slots.now) s.n l.i (omega arith))
