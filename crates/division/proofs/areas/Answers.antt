@@ -1,25 +1,23 @@
--- `division::areas` meets its contract: each element is what its call answers. Assumes nothing.
-use mathlib.Core.List.{[], ◌∷◌}
+-- `division::areas` meets its contract: the first i areas stand there. Assumes nothing.
+use Rattle.std.proofs.Common.{ℕ, ◌+◌, ◌∙◌, refl, arith, length-set}
+use Rattle.std.proofs.lemmas.List.FromFn.{fill_by_all}
+use Rattle.std.proofs.lemmas.List.Edits.{fill_by_more}
+use Rattle.network.specs.Networks.{area_of}
 use Rattle.sheet.specs.Sheets.{sixteen}
 use Rattle.division.specs.between.Copies.{areas_in}
 use Rattle.division.proofs.areas.Goals as goal
 
+pub loop-i-init : goal.loop-i-init
+loop-i-init c = (refl, λ k h. absurd (omega arith))
+
+pub loop-i-preserved : goal.loop-i-preserved
+loop-i-preserved c =
+    let f : ℕ → ℕ = (λ k. area_of c.args.network.now (record { 0 = k + 1 })) in
+    rw c.group_of.ensures (
+      simp length-set c.loop-i.invariant.0,
+      fill_by_more f c.loop-i.areas c.loop-i.i 0 (omega arith) c.loop-i.invariant.1,
+    )
+
 pub returns : goal.returns
 unfolding areas_in sixteen
-returns c =
-    λ i. c.group_of.ensures i
-    ∷ c.group_of-2.ensures i
-    ∷ c.group_of-3.ensures i
-    ∷ c.group_of-4.ensures i
-    ∷ c.group_of-5.ensures i
-    ∷ c.group_of-6.ensures i
-    ∷ c.group_of-7.ensures i
-    ∷ c.group_of-8.ensures i
-    ∷ c.group_of-9.ensures i
-    ∷ c.group_of-10.ensures i
-    ∷ c.group_of-11.ensures i
-    ∷ c.group_of-12.ensures i
-    ∷ c.group_of-13.ensures i
-    ∷ c.group_of-14.ensures i
-    ∷ c.group_of-15.ensures i
-    ∷ c.group_of-16.ensures i ∷ []
+returns c = fill_by_all (λ k. area_of c.args.network.now (record { 0 = k + 1 })) _ 16 0 c.loop-i.invariant.0 (λ k h. c.loop-i.invariant.1 k (omega arith)) ∙ refl

@@ -10,52 +10,27 @@ use Rattle.sheet.proofs.FillLaws.{filled_next, filled_length, part_size, filled}
 use Rattle.division.proofs.collect.Goals as goal
 
 pub loop-i-init : goal.loop-i-init
-loop-i-init c = (omega arith, c.requires.0, refl)
-
-pub overflow_mul-at : goal.overflow_mul-at
-overflow_mul-at c = omega arith
-
-pub overflow_add-end : goal.overflow_add-end
-overflow_add-end c = omega arith
-
-pub slice_bounds-collect_page-count : goal.slice_bounds-collect_page-count
-slice_bounds-collect_page-count c = omega arith
-
-pub slice_bounds-collect_page-start : goal.slice_bounds-collect_page-start
-slice_bounds-collect_page-start c = omega arith
-
-pub slice_bounds-collect_page-end : goal.slice_bounds-collect_page-end
-slice_bounds-collect_page-end c = omega arith
-
-pub bounds-areas-i : goal.bounds-areas-i
-bounds-areas-i c = omega arith
+loop-i-init c = (c.requires.0, refl)
 
 pub collect_page-requires : goal.collect_page-requires
 collect_page-requires c =
     let l = c.loop-i in
-    (part_size l.sheet (512 * l.i) 512 (omega arith), c.requires.1, omega arith, high_at c.args.areas c.requires.2 l.i)
-
-pub overflow_add-i : goal.overflow_add-i
-overflow_add-i c = omega arith
-
-pub loop-i-smaller : goal.loop-i-smaller
-loop-i-smaller c = omega arith
+    (part_size l.sheet (512 * l.i) 512 (omega arith), c.requires.1, omega arith, high_at c.args.areas.now c.requires.2 l.i)
 
 pub loop-i-preserved : goal.loop-i-preserved
 loop-i-preserved c =
     let l = c.loop-i in
     let page = c.collect_page.new.page in
-    let whole = collected c.args.areas c.args.division.now in
+    let whole = collected c.args.areas.now c.args.division.now in
     let size : length page ≡ 512 = c.collect_page.auto.page ∙ part_size l.sheet (512 * l.i) 512 (omega arith) in
     let is : page ≡ take 512 (drop (512 * l.i) whole) =
-    c.collect_page.ensures ∙ sym (collected_row c.args.areas c.args.division.now c.requires.2 c.requires.1 l.i (omega arith)) in (
-      omega arith,
-      filled_length 512 (512 * l.i) l.sheet page size (omega arith) ∙ l.invariant.1,
-      filled_next 512 l.i l.sheet page whole size (omega arith) l.invariant.2 is,
+    c.collect_page.ensures ∙ sym (collected_row c.args.areas.now c.args.division.now c.requires.2 c.requires.1 l.i (omega arith)) in (
+      filled_length 512 (512 * l.i) l.sheet page size (omega arith) ∙ l.invariant.0,
+      filled_next 512 l.i l.sheet page whole size (omega arith) l.invariant.1 is,
     )
 
 pub returns : goal.returns
 returns c =
     let l = c.loop-i in
-    filled 8192 l.sheet (collected c.args.areas c.args.division.now) (512 * l.i) (omega arith) l.invariant.1
-    (collected_size c.args.areas c.args.division.now c.requires.2 c.requires.1) l.invariant.2
+    filled 8192 l.sheet (collected c.args.areas.now c.args.division.now) (512 * l.i) (omega arith) l.invariant.0
+    (collected_size c.args.areas.now c.args.division.now c.requires.2 c.requires.1) l.invariant.1

@@ -1,13 +1,10 @@
 -- `division::fill` meets its contract. The loop's invariant: the first i pages are those of the sheet to be made. Each
 -- turn fills one page more; after the last turn all are filled. Assumes nothing.
-use Prim.Native.Nat.{◌*◌, ◌-◌, ◌≤◌}
+use Prim.Native.Nat.{◌*◌}
 use mathlib.Core.Path.{◌≡◌}
 use lib.ListN.{length, take}
 use Rattle.division.specs.between.Copies.{spread}
 use Rattle.division.proofs.fill.Given as goal
 
 abbrev pub invariant-loop-i : goal.invariant-loop-i
-invariant-loop-i l = (l.i ≤ 16) × (length l.part ≡ 8192) × (take (512 * l.i) l.part ≡ take (512 * l.i) (spread l.areas l.sheet l.a))
-
-abbrev pub decreases-loop-i : goal.decreases-loop-i
-decreases-loop-i l = 16 - l.i
+invariant-loop-i l = (length l.part ≡ 8192) × (take (512 * l.i) l.part ≡ take (512 * l.i) (spread l.areas l.sheet l.a))
