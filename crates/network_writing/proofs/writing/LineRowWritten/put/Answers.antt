@@ -1,0 +1,11 @@
+-- `put` of a line meets its contract: a row of its numbers is put. Assumes nothing.
+use native.Mathlib.Omega.{arith}
+use Rattle.timetable.specs.NetworkFile.{times, line_numbers}
+use Rattle.fields.proofs.NumbersPut.{near}
+use Rattle.network_writing.proofs.writing.LineRowWritten.put.Goals as goal
+
+pub returns : goal.returns
+unfolding times line_numbers
+returns c =
+    rw (c.from.ensures, c.from-2.ensures, c.from-3.ensures, c.from-4.ensures, c.from-5.ensures, c.from-6.ensures, c.from-7.ensures)
+    at (near _ _ _ _ _ 39 (omega arith) c.put_row.ensures)
