@@ -11,13 +11,14 @@ use native.Mathlib.Omega.{arith}
 use lib.Dec.{leb}
 use lib.ListN.{length, take, drop}
 use lib.Seq.{take-append_seam}
-use borrow.Author.Tests.{leb-true, leb-false}
+use borrow.Author.Tests.{leb-true, leb-false, ne_eqb}
 use Rattle.std.specs.Prelude.{if◌then◌else◌}
 use Rattle.base.specs.RefusalNumbers.{number_of}
 use Rattle.base.specs.declared.refusal.Refusal.{Refusal}
 use Rattle.base.specs.declared.refusal.OutputError.{OutputError}
-use Rattle.timetable.specs.Outputs.{Puts, Reply, written, needed, refused, reply, reply_of, output, output_after}
-use Rattle.timetable.proofs.BuffersFilled.{put_whole, too_short, fits_in, refused_so}
+use Rattle.timetable.specs.Outputs.{Puts, Reply, written, needed, refused, reply_of, output, output_after}
+use Rattle.timetable.proofs.BuffersFilled.{put_whole}
+use Rattle.timetable.proofs.OutputLaws.{short_of, filled}
 use Rattle.timetable.proofs.ReplyLaws.{clash, same_size}
 use Rattle.timetable.proofs.DraftsHandedOver.{draft_holds}
 
@@ -32,8 +33,8 @@ written_alone (Err (OutputError.TooShort j)) k e = let z : ◌≡◌ {A = ℕ} 1
 module _ {X : Type 0} (refusal : ℕ) (xs b : List X) (r : Result ℕ OutputError) (answered : reply_of r ≡ output refusal xs b) where
   -- what comes along with an answer to a call that is refused: nothing
   no_size : ¬ (refusal ≡ 0) → (reply_of r).size ≡ None
-  unfolding reply reply_of
-  no_size d = ap (λ (x : Reply). x.size) (answered ∙ sym (refused_so xs b refusal d).0)
+  unfolding output
+  no_size d = let so : output refusal xs b ≡ refused refusal = rw (ne_eqb refusal 0 d) in ap (λ (x : Reply). x.size) (answered ∙ so)
 
   pub written_unrefused : (k : ℕ) → r ≡ Ok k → refusal ≡ 0
   unfolding reply_of
@@ -78,12 +79,12 @@ module _ {X : Type 0} (refusal : ℕ) (xs b : List X) (r : Result ℕ OutputErro
 -- a call that is not refused, of numbers that there is room for
 module _ {X : Type 0} (refusal : ℕ) (xs b : List X) (free : refusal ≡ 0) (fits : length xs ≤ length b) where
   pub written_whole : take (length xs) (output_after refusal xs b) ≡ xs
-  written_whole = rw free (ap (take (length xs)) (sym (fits_in xs b (length xs) refl fits).1 ∙ put_whole xs b fits) ∙ take-append_seam xs (drop (length xs) b))
+  written_whole = rw free (ap (take (length xs)) (sym (filled xs b (length xs) refl fits).1 ∙ put_whole xs b fits) ∙ take-append_seam xs (drop (length xs) b))
 
   module _ (r : Result ℕ OutputError) (answered : reply_of r ≡ output refusal xs b) where
     is_written : r ≡ Ok (length xs)
-    unfolding reply reply_of
-    is_written = written_alone r (length xs) (answered ∙ rw free (sym (fits_in xs b (length xs) refl fits).0))
+    unfolding reply_of
+    is_written = written_alone r (length xs) (answered ∙ rw free (sym (filled xs b (length xs) refl fits).0))
 
     pub written_many : (k : ℕ) → r ≡ Ok k → k ≡ length xs
     written_many k e = let q : ◌≡◌ {A = Result ℕ OutputError} (Ok k) (Ok (length xs)) = sym e ∙ is_written in cc
@@ -97,24 +98,20 @@ module _ (xs b : List ℕ) (most : ℕ) where
   Answers r later = (reply_of r ≡ output 0 xs b) × (later ≡ output_after 0 xs b)
 
   pub put_at_once : (r : ℕ) (later : List ℕ) → Puts 0 xs b r later most → most ≤ length b → Answers (Ok r) later
-  unfolding reply reply_of
-  put_at_once r later w h = let x = fits_in xs b r (omega (arith, w.0)) (omega (arith, w.2, h)) in (x.0, w.1 ∙ x.1)
+  put_at_once r later w h = let x = filled xs b r (omega (arith, w.0)) (omega (arith, w.2, h)) in (x.0, w.1 ∙ x.1)
 
   -- so many bytes were counted in another buffer
   module _ (c d : List ℕ) (needed : ℕ) (counted : Puts 0 xs c needed d most) where
     pub left_short : length b < needed → Answers (Err (OutputError.TooShort needed)) b
-    unfolding reply reply_of
-    left_short h = too_short xs b needed (omega (arith, counted.0)) h
+    left_short h = short_of xs b needed (omega (arith, counted.0)) h
 
     pub put_counted : (r : ℕ) (later : List ℕ) → needed ≤ length b → Puts 0 xs b r later most → Answers (Ok needed) later
-    unfolding reply reply_of
-    put_counted r later h w = let x = fits_in xs b needed (omega (arith, counted.0)) h in (x.0, w.1 ∙ x.1)
+    put_counted r later h w = let x = filled xs b needed (omega (arith, counted.0)) h in (x.0, w.1 ∙ x.1)
 
     -- the other buffer is a draft that has room for the text, and its head is copied
     pub copied : needed ≤ length c → needed ≤ length b → Answers (Ok needed) (take needed d ++ drop needed b)
-    unfolding reply reply_of
     copied h l =
         let many : needed ≡ length xs = omega (arith, counted.0) in
         let held : take needed d ≡ xs = ap (take needed) counted.1 ∙ draft_holds xs c needed counted.0 h in
-        let x = fits_in xs b needed many l in
+        let x = filled xs b needed many l in
         (x.0, ap (λ (k : List ℕ). k ++ drop needed b) held ∙ ap (λ (j : ℕ). xs ++ drop j b) many ∙ sym (put_whole xs b (omega (arith, many, l))) ∙ x.1)
