@@ -7,6 +7,7 @@ use mathlib.Core.List.{List, [], ◌∷◌, map}
 use native.Mathlib.Omega.{arith}
 use lib.ListN.{length, drop}
 use Rattle.base.specs.Choice.{◌if◌else◌}
+use Rattle.std.specs.List.{list_all}
 use Rattle.std.specs.Prelude.{if◌then◌else◌}
 use Rattle.base.specs.Lists.{any, every, keep, is, each_two}
 use Rattle.base.proofs.Tests.{T_true, every_true}
@@ -96,14 +97,7 @@ module _ {A : Type 0} (p : A → Bool) where
       go true ih = ap₂ (λ c d. c && d) (every_passing (f x) xs) ih
       go false ih = ih ∙ ap (λ c. c && each_two (λ x y. not (p x) || (not (p y) || f x y)) xs) (sym (T_true (every (λ y. true) xs) (every_true xs)))
 
-four_tests : (a b c d : Bool) → (a && (b && (c && (d && true)))) ≡ (((a && b) && c) && d)
-four_tests false b c d = refl
-four_tests true false c d = refl
-four_tests true true false d = refl
-four_tests true true true false = refl
-four_tests true true true true = refl
-
-six_tests : (a b c d e f : Bool) → ((a && (b && (c && true))) && ((d && (e && true)) && ((f && true) && (true && true)))) ≡ (((((a && b) && c) && d) && e) && f)
+six_tests : (a b c d e f : Bool) → ((a && (b && (c && true))) && ((d && (e && true)) && ((f && true) && (true && true)))) ≡ (a && (b && (c && (d && (e && (f && true))))))
 six_tests false b c d e f = refl
 six_tests true false c d e f = refl
 six_tests true true false d e f = refl
@@ -121,18 +115,15 @@ and_else b p t e = e ∙ t ∙ rw (← p, t)
 
 -- what is asked of the trains of four places, place by place
 module _ (tab : Table) (ts : Trains) where
-  pub each_place : (f : Visit → Bool) → every (λ t. is f (visit_of t tab)) (used ts)
-      ≡ (((one_met f tab ts.a && one_met f tab ts.b) && one_met f tab ts.c) && one_met f tab ts.d)
+  pub each_place : (f : Visit → Bool) → list_all (one_met f tab) (ts.a ∷ ts.b ∷ ts.c ∷ ts.d ∷ []) ≡ every (λ t. is f (visit_of t tab)) (used ts)
   unfolding used one_met every
-  each_place f =
-      every_passing present (λ t. is f (visit_of t tab)) (ts.a ∷ ts.b ∷ ts.c ∷ ts.d ∷ [])
-      ∙ four_tests (one_met f tab ts.a) (one_met f tab ts.b) (one_met f tab ts.c) (one_met f tab ts.d)
+  each_place f = sym (every_passing present (λ t. is f (visit_of t tab)) (ts.a ∷ ts.b ∷ ts.c ∷ ts.d ∷ []))
 
-  pub each_two_places : (f : Visit → Visit → Bool) → each_two (both_visit f tab) (used ts)
-      ≡ (((((two_met f tab ts.a ts.b && two_met f tab ts.a ts.c) && two_met f tab ts.a ts.d) && two_met f tab ts.b ts.c)
-      && two_met f tab ts.b ts.d) && two_met f tab ts.c ts.d)
+  pub each_two_places : (f : Visit → Visit → Bool)
+      → list_all (λ (x : Train × Train). two_met f tab x.0 x.1) ((ts.a, ts.b) ∷ (ts.a, ts.c) ∷ (ts.a, ts.d) ∷ (ts.b, ts.c) ∷ (ts.b, ts.d) ∷ (ts.c, ts.d) ∷ [])
+      ≡ each_two (both_visit f tab) (used ts)
   unfolding used two_met each_two every
   each_two_places f =
-      two_passing present (both_visit f tab) (ts.a ∷ ts.b ∷ ts.c ∷ ts.d ∷ [])
+      sym (two_passing present (both_visit f tab) (ts.a ∷ ts.b ∷ ts.c ∷ ts.d ∷ [])
       ∙ six_tests (two_met f tab ts.a ts.b) (two_met f tab ts.a ts.c) (two_met f tab ts.a ts.d)
-      (two_met f tab ts.b ts.c) (two_met f tab ts.b ts.d) (two_met f tab ts.c ts.d)
+      (two_met f tab ts.b ts.c) (two_met f tab ts.b ts.d) (two_met f tab ts.c ts.d))

@@ -46,10 +46,9 @@ fn each_met<F: Fn(Visit) -> bool>(page: &[u8], ts: Trains, test: &F) -> bool
     requires { F.IsAlwaysCallable test.now }
     ensures { (f : Visit → Bool) → ((v : Visit) (b : Bool) → F.post test.now v b → b ≡ f v) → result ≡ every (λ t. is f (visit_of t (table_in page.now))) (used ts) }
 {
-    one_met(page, ts.a, test)
-        && one_met(page, ts.b, test)
-        && one_met(page, ts.c, test)
-        && one_met(page, ts.d, test)
+    [ts.a, ts.b, ts.c, ts.d]
+        .iter()
+        .all(|t| one_met(page, *t, test))
 }
 
 // Each two visit, and the test holds of their visits.
@@ -57,12 +56,16 @@ fn pairs_met<F: Fn(Visit, Visit) -> bool>(page: &[u8], ts: Trains, test: &F) -> 
     requires { F.IsAlwaysCallable test.now }
     ensures { (f : Visit → Visit → Bool) → ((v w : Visit) (b : Bool) → F.post test.now v w b → b ≡ f v w) → result ≡ each_two (both_visit f (table_in page.now)) (used ts) }
 {
-    two_met(page, ts.a, ts.b, test)
-        && two_met(page, ts.a, ts.c, test)
-        && two_met(page, ts.a, ts.d, test)
-        && two_met(page, ts.b, ts.c, test)
-        && two_met(page, ts.b, ts.d, test)
-        && two_met(page, ts.c, ts.d, test)
+    [
+        (ts.a, ts.b),
+        (ts.a, ts.c),
+        (ts.a, ts.d),
+        (ts.b, ts.c),
+        (ts.b, ts.d),
+        (ts.c, ts.d),
+    ]
+    .iter()
+    .all(|(t, u)| two_met(page, *t, *u, test))
 }
 
 // 4. "Unmet" is its contrary.
