@@ -1,3 +1,1 @@
-pub mod Types
 pub mod Reading
-pub mod between

@@ -3,7 +3,7 @@ use Rattle.std.specs.Prelude.{ℕ, List}
 use Rattle.timetable.specs.Formats.{Outcome, read_file}
 use Rattle.timetable.specs.FileForms.{newest_form}
 use Rattle.timetable.specs.EditsFile.{edit_entry}
-use Rattle.single_edit.specs.Types.{Edit}
+use Rattle.railway.specs.declared.edit.Edit.{Edit}
 
 unfoldable pub read_one : List ℕ → Outcome Edit
 read_one file = read_file (edit_entry newest_form) file

@@ -1,33 +1,42 @@
 -- `edit_files::list::edits_part` meets its contract: the count decides, and an accepted one is followed by the edits.
 -- Assumes nothing.
 use mathlib.Core.Path.{sym, ◌∙◌, ap}
-use borrow.Author.Rules.{rules}
+use Rattle.std.proofs.lemmas.Result.{err_from_is_err_and}
+use Rattle.base.specs.RefusalNumbers.{number_of}
 use Rattle.timetable.specs.Formats.{placed}
 use Rattle.timetable.specs.EditsFile.{edits_on, edits_format}
-use Rattle.fields.specs.between.Answers.{field_outcome}
-use Rattle.edit_files.specs.Answers.{edits_read}
-use Rattle.fields.proofs.EntryLaws.{field_on, field_stop}
+use Rattle.edit_files.specs.Answers.{listed}
+use Rattle.fields.proofs.EntryLaws.{field_on, field_stop, placed_some, placed_none}
+use Rattle.fields.proofs.EndLaws.{end_accepted, end_refused}
+use Rattle.edit_files.proofs.EditsParts.{edits_many}
 use Rattle.edit_files.proofs.list.edits_part.Goals as goal
 
-pub field-count-requires : goal.field-count-requires
-field-count-requires c = search rules
-
-pub refused_part-requires : goal.refused_part-requires
-refused_part-requires c = search rules
-
-pub scanned_part-requires : goal.scanned_part-requires
-scanned_part-requires c = search rules
-
-pub returns-in-Refused : goal.returns-in-Refused
-unfolding edits_format field_outcome
-returns-in-Refused c =
+pub returns-in_err-count : goal.returns-in_err-count
+unfolding edits_format listed
+returns-in_err-count c =
     let s = c.args in
-    let o = sym c.field-count.ensures ∙ ap field_outcome c.in-Refused.is in
-    c.refused_part.ensures ∙ sym (ap edits_read (field_stop 0 1000 (λ k. placed (edits_on s.form k)) s.file.now s.at c.in-Refused.k c.in-Refused.p o))
+    let e = c.in_err-count.field-0.0 in
+    let p = err_from_is_err_and c.from_residual.result c.from_residual.ensures.1 in
+    rw (p.1, p.2) (sym (ap listed (field_stop 0 1000 (λ k. placed (edits_on s.form k)) s.file.now s.at (number_of e.refusal) e.place (sym c.in_err-count.ensures))))
 
-pub returns-in-Value : goal.returns-in-Value
-unfolding edits_format field_outcome
-returns-in-Value c =
+pub returns-in_err-end : goal.returns-in_err-end
+unfolding edits_format listed
+returns-in_err-end c =
     let s = c.args in
-    let o = sym c.field-count.ensures ∙ ap field_outcome c.in-Value.is in
-    c.scanned_part.ensures ∙ sym (ap edits_read (field_on 0 1000 (λ k. placed (edits_on s.form k)) s.file.now s.at c.in-Value.n c.in-Value.next o))
+    let n = c.in_ok-count in
+    let e = c.in_err-end.field-0.0 in
+    let p = err_from_is_err_and c.from_residual-in_err-end.result c.from_residual-in_err-end.ensures.1 in
+    let o = end_refused _ (number_of e.refusal) e.place (sym c.in_err-end.ensures) in
+    rw (p.1, p.2)
+    (sym (ap listed (field_on 0 1000 (λ k. placed (edits_on s.form k)) s.file.now s.at n.count n.first (sym n.ensures)
+    ∙ placed_none (edits_on s.form n.count) s.file.now n.first (number_of e.refusal) e.place o)))
+
+pub returns : goal.returns
+unfolding edits_format listed
+returns c =
+    let s = c.args in
+    let n = c.in_ok-count in
+    let m = c.in_ok-end in
+    let (es, o) = end_accepted _ m.end (sym m.ensures) in
+    sym (ap listed (field_on 0 1000 (λ k. placed (edits_on s.form k)) s.file.now s.at n.count n.first (sym n.ensures)
+    ∙ placed_some (edits_on s.form n.count) s.file.now n.first es m.end o) ∙ rw (edits_many s.form n.count s.file.now n.first es m.end o))

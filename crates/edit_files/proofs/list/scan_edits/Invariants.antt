@@ -7,6 +7,3 @@ use Rattle.edit_files.proofs.list.scan_edits.Given as goal
 
 abbrev pub invariant-loop-i : goal.invariant-loop-i
 invariant-loop-i l = (l.i ≤ l.count) × SoFar (left_at l.form l.file l.count l.at) l.i (left_at l.form l.file (l.count - l.i) l.place)
-
-abbrev pub decreases-loop-i : goal.decreases-loop-i
-decreases-loop-i l = l.count - l.i
