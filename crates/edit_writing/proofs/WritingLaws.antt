@@ -1,41 +1,57 @@
 -- Edits written: the calls are refused, too short or write; the bytes of edits one behind the other, and of a whole
 -- file of them. Assumes nothing.
-use Prim.Native.Nat.{ℕ, ◌+◌, ◌<◌, ◌≤◌}
+use Prim.Native.Nat.{ℕ, ◌+◌, ◌-◌, ◌<◌, ◌≤◌}
 use mathlib.Core.Path.{◌≡◌, refl, sym, ◌∙◌, ap, subst}
 use mathlib.Core.Bool.{true, false}
 use mathlib.Core.List.{List, [], ◌∷◌, ◌++◌, flat_map, append-nil, append_assoc}
 use native.Mathlib.Omega.{arith}
-use lib.ListN.{length}
+use lib.ListN.{length, take, replicate, length-append}
 use Rattle.railway.specs.declared.edit.Edit.{Edit}
 use Rattle.railway.specs.Edits.{edit_ok}
 use Rattle.numbers.specs.Numbers.{write_number}
-use Rattle.timetable.specs.declared.Output.{Output}
-use Rattle.timetable.specs.Formats.{Outcome, accepted, refused, number, value_or, field_at, read, read_file, entries, bytes_of, Placed, placed}
+use Rattle.std.specs.Prelude.{Ok, Err}
+use Rattle.base.specs.RefusalNumbers.{number_of}
+use Rattle.base.specs.declared.refusal.OutputError.{OutputError}
+use Rattle.base.specs.declared.refusal.Refusal.{Refusal}
+use Rattle.base.specs.declared.refusal.Refusal.TheVariants.{OutOfRange}
+use Rattle.timetable.specs.Formats.{Outcome, accepted, refused, number, value_or, field_at, read, read_file, bytes_of, Placed, placed}
 use Rattle.timetable.specs.FileForms.{newest_form}
 use Rattle.timetable.specs.EditsFile.{edit_numbers, edits_on, edits_format, read_edits, read_edits_as, edits_numbers}
-use Rattle.timetable.specs.Outputs.{reply, put}
-use Rattle.timetable.proofs.BuffersFilled.{put_two, refused_so, too_short, fits_in}
+use Rattle.timetable.specs.Outputs.{reply_of, put}
+use Rattle.timetable.proofs.BuffersFilled.{put_two}
+use Rattle.timetable.proofs.OutputLaws.{refused_with, short_of, filled}
 use Rattle.timetable.proofs.OutcomeLaws.{behind_taken, ended_taken}
 use Rattle.fields.proofs.EntryLaws.{placed_read}
 use Rattle.fields.proofs.NumbersPut.{bytes_two}
-use Rattle.edit_files.specs.declared.list.EditsRead.{EditsRead}
-use Rattle.edit_files.specs.Answers.{no_edits, edits_answer}
+use Rattle.fields.specs.declared.put.Numbers.{Numbers}
+use Rattle.fields.specs.between.Answers.{in_use, padded, row_of}
+use Rattle.fields.proofs.RowHolds.{row_held}
+use Rattle.std.proofs.lemmas.List.{take_all}
 use Rattle.edit_writing.specs.Writing.{range_refusal, write_edit, edit_written, edits_bytes, write_edits, edits_written}
+use Rattle.edit_files.specs.declared.list.EditList.{EditList}
+use Rattle.edit_files.specs.Answers.{list_of}
 use Rattle.edit_files.proofs.EditsParts.{edits_many}
 
 module _ (e : Edit) (out : List ℕ) where
-  pub edit_bad : edit_ok e ≡ false → (reply (Output.Refused 3) ≡ write_edit e out) × (out ≡ edit_written e out)
+  pub edit_bad : edit_ok e ≡ false → (reply_of (Err (OutputError.Refused OutOfRange)) ≡ write_edit e out) × (out ≡ edit_written e out)
   unfolding write_edit edit_written range_refusal
-  edit_bad f = rw f (refused_so (bytes_of (edit_numbers newest_form e)) out 3 (λ z. omega arith))
+  edit_bad f = rw f (refused_with (bytes_of (edit_numbers newest_form e)) out OutOfRange)
 
   module _ (ok : edit_ok e ≡ true) (k : ℕ) (needed : k ≡ length (bytes_of (edit_numbers newest_form e))) where
-    pub edit_short : length out < k → (reply (Output.TooShort k) ≡ write_edit e out) × (out ≡ edit_written e out)
+    pub edit_short : length out < k → (reply_of (Err (OutputError.TooShort k)) ≡ write_edit e out) × (out ≡ edit_written e out)
     unfolding write_edit edit_written range_refusal
-    edit_short h = rw ok (too_short (bytes_of (edit_numbers newest_form e)) out k needed h)
+    edit_short h = rw ok (short_of (bytes_of (edit_numbers newest_form e)) out k needed h)
 
-    pub edit_fits : k ≤ length out → (reply (Output.Written k) ≡ write_edit e out) × (put 0 (bytes_of (edit_numbers newest_form e)) out ≡ edit_written e out)
+    pub edit_fits : k ≤ length out → (reply_of (Ok k) ≡ write_edit e out) × (put 0 (bytes_of (edit_numbers newest_form e)) out ≡ edit_written e out)
     unfolding write_edit edit_written range_refusal
-    edit_fits h = rw ok (fits_in (bytes_of (edit_numbers newest_form e)) out k needed h)
+    edit_fits h = rw ok (filled (bytes_of (edit_numbers newest_form e)) out k needed h)
+
+-- the numbers that a row holds are thirteen at most
+pub row_few : (r : Numbers) (ns : List ℕ) → r ≡ row_of ns → length r.values ≡ 13 → take 13 (in_use r) ≡ ns
+unfolding row_of padded
+row_few r ns e h =
+    let m : length ns ≤ 13 = omega (arith, h, ap (λ (x : Numbers). length x.values) e, length-append ns (replicate (13 - length ns) 0)) in
+    ap (take 13) (row_held e) ∙ take_all 13 ns m
 
 -- edits one behind the other
 
@@ -87,39 +103,29 @@ edits_there file x next e =
     let (es, q, w, y) = behind_taken (read (edits_on newest_form k) file p) (λ es q. accepted (record { place = p; entry = es }) q) x next (sym (placed_read (edits_on newest_form k) file p) ∙ v) in
     (q, there file k p q es x next y (edits_many newest_form k file p es q w) w)
 
--- beside a refusal there are none
-held_by : (file : List ℕ) (o : Outcome (Placed (List Edit))) → read_edits file ≡ o
-    → (end : ℕ) × (read (edits_on newest_form (length (value_or no_edits o).entry)) file (value_or no_edits o).place ≡ accepted (value_or no_edits o).entry end)
-unfolding value_or edits_on entries read
-held_by file (accepted x next) e = edits_there file x next e
-held_by file (refused k p) e = (0, refl)
+module _ (file out : List ℕ) where
+  pub list_refused : (r : Refusal) (p : ℕ) → read_edits file ≡ refused (number_of r) p → (reply_of (Err (OutputError.Refused r)) ≡ write_edits file out) × (out ≡ edits_written file out)
+  unfolding write_edits edits_written number
+  list_refused r p o = rw o (refused_with (edits_bytes file) out r)
 
-module _ (file out : List ℕ) (r : EditsRead) (e : r ≡ edits_answer (read_edits file)) where
-  abbrev pub held : List Edit
-  held = (value_or no_edits (read_edits file)).entry
+  -- the list that is read, by its place and its count
+  module _ (x : Placed (List Edit)) (next : ℕ) (o : read_edits file ≡ accepted x next) (l : EditList) (q : l ≡ list_of x) where
+    pub list_there : (end : ℕ) × (read (edits_on newest_form l.count) file l.first ≡ accepted x.entry end)
+    list_there = rw q (edits_there file x next o)
 
-  pub held_there : (end : ℕ) × (read (edits_on newest_form r.count) file r.first ≡ accepted held end)
-  unfolding edits_answer
-  held_there = subst (λ (r : EditsRead). (end : ℕ) × (read (edits_on newest_form r.count) file r.first ≡ accepted held end)) (sym e) (held_by file (read_edits file) refl)
+    list_is : bytes_of (l.count ∷ flat_map (edit_numbers newest_form) x.entry) ≡ edits_bytes file
+    unfolding edits_bytes edits_numbers value_or
+    list_is = rw (q, o) refl
 
-  list_is : bytes_of (r.count ∷ flat_map (edit_numbers newest_form) held) ≡ edits_bytes file
-  unfolding edits_answer edits_bytes edits_numbers
-  list_is = ap (λ (r : EditsRead). bytes_of (r.count ∷ flat_map (edit_numbers newest_form) held)) e
+    module _ (k : ℕ) (needed : k ≡ 0 + length (bytes_of (l.count ∷ flat_map (edit_numbers newest_form) x.entry))) where
+      many : k ≡ length (edits_bytes file)
+      many = omega (arith, needed, ap length list_is)
 
-  refusal_is : r.refusal ≡ number (read_edits file)
-  unfolding edits_answer
-  refusal_is = ap (λ (r : EditsRead). r.refusal) e
+      pub list_short : length out < k → (reply_of (Err (OutputError.TooShort k)) ≡ write_edits file out) × (out ≡ edits_written file out)
+      unfolding write_edits edits_written number
+      list_short h = rw o (short_of (edits_bytes file) out k many h)
 
-  pub list_refused : ¬ (r.refusal ≡ 0) → (reply (Output.Refused r.refusal) ≡ write_edits file out) × (out ≡ edits_written file out)
-  unfolding write_edits edits_written
-  list_refused z = rw (← refusal_is) (refused_so (edits_bytes file) out r.refusal z)
-
-  module _ (good : r.refusal ≡ 0) (k : ℕ) (needed : k ≡ length (bytes_of (r.count ∷ flat_map (edit_numbers newest_form) held))) where
-    pub list_short : length out < k → (reply (Output.TooShort k) ≡ write_edits file out) × (out ≡ edits_written file out)
-    unfolding write_edits edits_written
-    list_short h = rw (sym refusal_is ∙ good) (too_short (edits_bytes file) out k (needed ∙ ap length list_is) h)
-
-    pub list_fits : k ≤ length out
-        → (reply (Output.Written k) ≡ write_edits file out) × (put 0 (bytes_of (r.count ∷ flat_map (edit_numbers newest_form) held)) out ≡ edits_written file out)
-    unfolding write_edits edits_written
-    list_fits h = rw (sym refusal_is ∙ good, list_is) (fits_in (edits_bytes file) out k (needed ∙ ap length list_is) h)
+      pub list_fits : k ≤ length out
+          → (reply_of (Ok k) ≡ write_edits file out) × (put 0 (bytes_of (l.count ∷ flat_map (edit_numbers newest_form) x.entry)) out ≡ edits_written file out)
+      unfolding write_edits edits_written number
+      list_fits h = rw (o, list_is) (filled (edits_bytes file) out k many h)

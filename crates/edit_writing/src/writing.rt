@@ -1,115 +1,65 @@
 // Edits written: one, or a whole file, which is their count and then the edits, one behind the other.
-ghost use Rattle.std.specs.Prelude.{◌≡◌, ◌≤◌};
-ghost use Rattle.timetable.specs.Outputs.{reply};
-ghost use Rattle.timetable.specs.FileForms.{newest_form, status_number};
+ghost use Rattle.std.specs.Prelude.{◌≡◌, ◌≤◌, OnErr};
+ghost use Rattle.timetable.specs.Outputs.{reply_of};
+ghost use Rattle.timetable.specs.FileForms.{newest_form};
 ghost use Rattle.timetable.specs.EditsFile.{plan_numbers, extension_numbers, deletion_numbers, report_numbers, edit_numbers};
 ghost use Rattle.fields.specs.between.Answers.{row_of};
+ghost use Rattle.fields.specs.between.Putting.{Puts};
 ghost use Rattle.edit_writing.specs.Writing.{write_edit, edit_written, write_edits, edits_written, PutsList};
 ghost use mathlib.Core.List.{[], ◌∷◌, flat_map};
 
-use edit_files::edit::{EditRead, read_edit};
-use edit_files::list::read_edits;
-use fields::field::Numbers;
-use fields::put;
+use base::refusal::{OutputError, Refusal};
+use edit_files::edit::read_edit;
+use edit_files::list::{EditList, read_edits};
+use fields::put::{Numbers, put_number, put_row};
 use railway::edit::{Deletion, Edit, Extension, Plan, Report};
-use railway::sorts::Train;
 use relation_files::row::led_numbers;
-use timetable::{FileForm, Output};
+use timetable::FileForm;
 
-// "a stop mark, 0 or 1"
-fn mark_number(marked: bool) -> u16
-    ensures { result ≡ status_number marked }
+// "(s, t, track, mark, arrival, departure)"
+fn plan_numbers(p: Plan) -> [u16; 6]
+    ensures { result ≡ plan_numbers newest_form p }
 {
-    if marked {
-        return 1;
-    }
-    0
+    [
+        u16::from(p.station.0),
+        p.train.0,
+        u16::from(p.track.0),
+        u16::from(p.marked),
+        p.arrival.0,
+        p.departure.0,
+    ]
 }
 
 fn plan_row(kind: u16, p: Plan) -> Numbers
     ensures { result ≡ row_of (kind ∷ plan_numbers newest_form p) }
 {
-    Numbers {
-        from: 0,
-        to: 7,
-        values: [
-            kind,
-            p.station.0 as u16,
-            p.train.0,
-            p.track.0 as u16,
-            mark_number(p.marked),
-            p.arrival.0,
-            p.departure.0,
-            0,
-            0,
-            0,
-            0,
-            0,
-            0,
-        ],
-    }
+    let [s, t, k, mark, a, d] = plan_numbers(p);
+    Numbers::new(&[kind, s, t, k, mark, a, d])
 }
 
 fn extension_row(kind: u16, x: Extension) -> Numbers
     ensures { result ≡ row_of (kind ∷ extension_numbers newest_form x) }
 {
-    let plan = plan_row(kind, x.plan);
-    let mut values = plan.values;
-    values[7] = x.other.0 as u16;
-    values[8] = x.line.0 as u16;
-    values[9] = x.run as u16;
-    Numbers {
-        from: 0,
-        to: 10,
-        values: values,
-    }
+    let [s, t, k, mark, a, d] = plan_numbers(x.plan);
+    let p = u16::from(x.other.0);
+    let l = u16::from(x.line.0);
+    let r = u16::from(x.run);
+    Numbers::new(&[kind, s, t, k, mark, a, d, p, l, r])
 }
 
 fn deletion_row(kind: u16, d: Deletion) -> Numbers
     ensures { result ≡ row_of (kind ∷ deletion_numbers d) }
 {
-    let s = d.station.0 as u16;
-    let p = d.other.0 as u16;
-    Numbers {
-        from: 0,
-        to: 4,
-        values: [kind, s, d.train.0, p, 0, 0, 0, 0, 0, 0, 0, 0, 0],
-    }
+    let s = u16::from(d.station.0);
+    let p = u16::from(d.other.0);
+    Numbers::new(&[kind, s, d.train.0, p])
 }
 
 fn report_row(kind: u16, r: Report) -> Numbers
     ensures { result ≡ row_of (kind ∷ report_numbers newest_form r) }
 {
-    let s = r.station.0 as u16;
-    Numbers {
-        from: 0,
-        to: 5,
-        values: [
-            kind,
-            s,
-            r.train.0,
-            r.time.0,
-            r.present.0,
-            0,
-            0,
-            0,
-            0,
-            0,
-            0,
-            0,
-            0,
-        ],
-    }
-}
-
-fn cancellation_row(t: Train) -> Numbers
-    ensures { result ≡ row_of (11 ∷ t.0 ∷ []) }
-{
-    Numbers {
-        from: 0,
-        to: 2,
-        values: [11, t.0, 0, 0, 0, 0, 0, 0, 0, 0, 0, 0, 0],
-    }
+    let s = u16::from(r.station.0);
+    Numbers::new(&[kind, s, r.train.0, r.time.0, r.present.0])
 }
 
 // The numbers of an edit.
@@ -127,72 +77,76 @@ fn edit_row(e: Edit) -> Numbers
         Edit::ReportDeparture(r) => report_row(8, r),
         Edit::AddRelation(r) => led_numbers(9, r),
         Edit::RemoveRelation(r) => led_numbers(10, r),
-        Edit::DeleteTrain(c) => cancellation_row(c.train),
+        Edit::DeleteTrain(c) => Numbers::new(&[11, c.train.0]),
     }
 }
 
-// 3 for an edit whose values are out of range, 13.
-pub fn write_edit(e: Edit, out: &mut [u8]) -> Output
-    ensures { (reply result ≡ write_edit e out.old) × (out.new ≡ edit_written e out.old) }
+fn put_edit(out: &mut [u8], at: usize, e: Edit) -> usize
+    ensures { Puts at (edit_numbers newest_form e) out.old result out.new 39 }
 {
-    if e.valid() {
-        let row = edit_row(e);
-        let mut spare = [0u8; 1];
-        let needed = put::put_row(&mut spare, 0, row);
-        if out.len() < needed {
-            return Output::TooShort(needed);
-        }
-        put::put_row(out, 0, row);
-        return Output::Written(needed);
+    put_row(out, at, edit_row(e).in_use())
+}
+
+/// 3 for an edit whose values are out of range, 13.
+pub fn write_edit(e: Edit, out: &mut [u8]) -> Result<usize, OutputError>
+    ensures answer { reply_of result ≡ write_edit e out.old }
+    ensures after { out.new ≡ edit_written e out.old }
+    ensures err { OnErr result (out.new ≡ out.old) }
+{
+    if !e.valid() {
+        return Err(OutputError::Refused(Refusal::OutOfRange));
     }
-    Output::Refused(3)
+    let mut spare = [0u8; 1];
+    let needed = put_edit(&mut spare, 0, e);
+    if out.len() < needed {
+        return Err(OutputError::TooShort(needed));
+    }
+    put_edit(out, 0, e);
+    Ok(needed)
 }
 
 // So many edits of a file, from a place of it on, put one behind the other.
-fn put_edits(out: &mut [u8], at: usize, file: &[u8], first: usize, count: u16) -> usize
+fn put_edits(out: &mut [u8], at: usize, file: &[u8], list: EditList) -> usize
     requires { at ≤ 3 }
-    ensures { PutsList file.now first count (flat_map (edit_numbers newest_form)) at out.old result out.new }
+    ensures { PutsList file.now list.first list.count (flat_map (edit_numbers newest_form)) at out.old result out.new }
 {
     let mut next = at;
-    let mut place = first;
-    let mut i: u16 = 0;
-    while i < count {
-        let found = read_edit(file, place, FileForm::Newest);
-        match found {
-            EditRead::Refused(_k, _p) => {
-                return next;
-            }
-            EditRead::Entry(e, behind) => {
-                next = put::put_row(out, next, edit_row(e));
+    let mut place = list.first;
+    for i in 0..list.count {
+        match read_edit(file, place, FileForm::Newest) {
+            Ok((e, behind)) => {
+                next = put_edit(out, next, e);
                 place = behind;
             }
+            Err(_) => return next,
         }
-        i += 1;
     }
     next
 }
 
 // "count (0..1000), then kind and fields"
-fn put_list(out: &mut [u8], file: &[u8], first: usize, count: u16) -> usize
-    ensures { PutsList file.now first count (λ es. count ∷ flat_map (edit_numbers newest_form) es) 0 out.old result out.new }
+fn put_list(out: &mut [u8], file: &[u8], list: EditList) -> usize
+    ensures { PutsList file.now list.first list.count (λ es. list.count ∷ flat_map (edit_numbers newest_form) es) 0 out.old result out.new }
 {
-    let at = put::put_number(out, 0, count);
-    put_edits(out, at, file, first, count)
+    let at = put_number(out, 0, list.count);
+    put_edits(out, at, file, list)
 }
 
-// The list of edits that a file holds, lent as that file: what the file is refused with, 13.
-pub fn write_edits(file: &[u8], out: &mut [u8]) -> Output
-    ensures { (reply result ≡ write_edits file.now out.old) × (out.new ≡ edits_written file.now out.old) }
+/// The list of edits that a file holds, lent as that file: what the file is refused with, 13.
+pub fn write_edits(file: &[u8], out: &mut [u8]) -> Result<usize, OutputError>
+    ensures answer { reply_of result ≡ write_edits file.now out.old }
+    ensures after { out.new ≡ edits_written file.now out.old }
+    ensures err { OnErr result (out.new ≡ out.old) }
 {
-    let list = read_edits(file, FileForm::Newest);
-    if list.refusal == 0 {
-        let mut spare = [0u8; 1];
-        let needed = put_list(&mut spare, file, list.first, list.count);
-        if out.len() < needed {
-            return Output::TooShort(needed);
-        }
-        put_list(out, file, list.first, list.count);
-        return Output::Written(needed);
+    let list = match read_edits(file, FileForm::Newest) {
+        Ok(list) => list,
+        Err(e) => return Err(OutputError::Refused(e.refusal)),
+    };
+    let mut spare = [0u8; 1];
+    let needed = put_list(&mut spare, file, list);
+    if out.len() < needed {
+        return Err(OutputError::TooShort(needed));
     }
-    Output::Refused(list.refusal)
+    put_list(out, file, list);
+    Ok(needed)
 }

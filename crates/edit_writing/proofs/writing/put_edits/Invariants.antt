@@ -12,8 +12,5 @@ use Rattle.edit_writing.proofs.writing.put_edits.Given as goal
 
 abbrev pub invariant-loop-i : goal.invariant-loop-i
 invariant-loop-i l =
-    (l.i ≤ l.count) × (l.next ≤ l.at + 39 * l.i) × (length l.out ≡ length l.initial.out)
-    × ((s : SoFar (left_at newest_form l.file l.count l.first) l.i (left_at newest_form l.file (l.count - l.i) l.place)) × (l.next ≡ l.at + length (list_bytes s.elements)) × (l.out ≡ put l.at (list_bytes s.elements) l.initial.out))
-
-abbrev pub decreases-loop-i : goal.decreases-loop-i
-decreases-loop-i l = l.count - l.i
+    (l.i ≤ l.fn.list.count) × (l.next ≤ l.at + 39 * l.i) × (length l.out ≡ length l.initial.out)
+    × ((s : SoFar (left_at newest_form l.file l.fn.list.count l.fn.list.first) l.i (left_at newest_form l.file (l.fn.list.count - l.i) l.place)) × (l.next ≡ l.at + length (list_bytes s.elements)) × (l.out ≡ put l.at (list_bytes s.elements) l.initial.out))
