@@ -2,13 +2,15 @@
 -- The order of the refusals is that of every call (timetable RefusalLaws). Assumes nothing.
 use Prim.Native.Nat.{ℕ}
 use mathlib.Core.Path.{◌≡◌, sym, ◌∙◌, ap}
-use mathlib.Core.Bool.{Bool, true, false, ◌&&◌}
+use mathlib.Core.Bool.{Bool, true, false, not, ◌&&◌}
 use mathlib.Core.List.{List}
 use native.Mathlib.Omega.{arith}
 use lib.Dec.{eqb}
 use lib.ListN.{length}
 use borrow.Author.Tests.{eq-eqb, ne_eqb}
 use Rattle.network.specs.Networks.{network_refusal, listed}
+use Rattle.base.specs.Choice.{◌if◌else◌}
+use Rattle.timetable.specs.Refusals.{or_else, call_refusal}
 use Rattle.timetable.proofs.RefusalLaws.{call_short, call_early, call_bad, call_late}
 use Rattle.division.specs.Types.{Network}
 use Rattle.sheet.specs.Sheets.{good_sheet, good_division, divide_refusal, after_divide, merge_refusal, after_merge}
@@ -49,21 +51,22 @@ module _ (n : Network) (sheet division : List ℕ) where
       lent : fits ≡ true
       lent = rw (eq-eqb (length sheet) 8192 size, eq-eqb (length division) 49152 long)
 
-      pub divide-bad-network : (r : ℕ) → r ≡ network_refusal n → ¬ (r ≡ 0) → Divides r division
-      unfolding divide_refusal
-      divide-bad-network r e d = divide_refused r (call_early fits (network_refusal n) fine 0 lent (λ z. d (e ∙ z)) ∙ sym e) d
+      -- what refuses the sheet, of which the network comes first
+      abbrev refused : ℕ
+      refused = or_else (network_refusal n) (6 if not (sheet_passes n Extent.Whole sheet) else 0)
 
-      module _ (good : network_refusal n ≡ 0) where
-        pub divide-bad-sheet : sheet_passes n Extent.Whole sheet ≡ false → Divides 6 division
-        unfolding divide_refusal
-        divide-bad-sheet e =
-            divide_refused 6 (call_bad fits (network_refusal n) fine 0 lent good (sym (whole_test n sheet size) ∙ e)) (λ z. absurd (omega arith))
+      asked : divide_refusal n sheet division ≡ refused
+      unfolding divide_refusal call_refusal
+      asked = rw (lent, whole_test n sheet size)
 
-        pub divide-done : sheet_passes n Extent.Whole sheet ≡ true → (areas later : List ℕ) → areas ≡ areas_in n → later ≡ spread_all areas sheet → Divides 0 later
-        unfolding divide_refusal after_divide
-        divide-done e areas later a p =
-            let r = call_late fits (network_refusal n) fine 0 lent good (sym (whole_test n sheet size) ∙ e) in
-            (sym r, p ∙ ap (λ (l : List ℕ). spread_all l sheet) a ∙ spread_divided n sheet ∙ sym (rw r))
+      pub divide-refused : (r : ℕ) → r ≡ refused → ¬ (r ≡ 0) → Divides r division
+      divide-refused r e d = divide_refused r (asked ∙ sym e) d
+
+      pub divide-done : refused ≡ 0 → (areas later : List ℕ) → areas ≡ areas_in n → later ≡ spread_all areas sheet → Divides 0 later
+      unfolding after_divide
+      divide-done e areas later a p =
+          let r = asked ∙ e in
+          (sym r, p ∙ ap (λ (l : List ℕ). spread_all l sheet) a ∙ spread_divided n sheet ∙ sym (rw r))
 
 module _ (n : Network) (division sheet : List ℕ) where
   abbrev lends : Bool

@@ -13,6 +13,7 @@ use sheet::test;
 use sheet::test::Extent;
 
 // "One call gives back the part of the division that is one area's sheet, or an empty part on 5 or 3."
+// A part and no Option: a rule of the project, as the definition's `area_part` has it.
 pub fn area_sheet(division: &[u8], a: Area) -> &[u8]
     ensures { result.now ≡ area_part division.now a }
 {
@@ -36,25 +37,23 @@ fn keep_page(page: &mut [u8], from: &[u8], kept: bool)
 }
 
 // The sheet of area a: the pages of its stations, zeros for every other.
-fn fill(part: &mut [u8], sheet: &[u8], areas: &[u8; 16], a: u8)
+fn fill(part: &mut [u8], sheet: &[u8], areas: [u8; 16], a: u8)
     requires { (length part.old ≡ 8192) × (length sheet.now ≡ 8192) }
-    ensures { part.new ≡ spread areas.now sheet.now a }
+    ensures { part.new ≡ spread areas sheet.now a }
 {
     for i in 0..16 {
         let at = 512 * i;
-        let end = at + 512;
-        keep_page(&mut part[at..end], &sheet[at..end], a == areas[i]);
+        keep_page(&mut part[at..at + 512], &sheet[at..at + 512], a == areas[i]);
     }
 }
 
-fn fill_all(division: &mut [u8], sheet: &[u8], areas: &[u8; 16])
+fn fill_all(division: &mut [u8], sheet: &[u8], areas: [u8; 16])
     requires { (length division.old ≡ 49152) × (length sheet.now ≡ 8192) }
-    ensures { division.new ≡ spread_all areas.now sheet.now }
+    ensures { division.new ≡ spread_all areas sheet.now }
 {
-    for i in 0..6 {
-        let at = 8192 * i;
-        let end = at + 8192;
-        fill(&mut division[at..end], sheet, areas, i as u8 + 1);
+    for a in 0..6u8 {
+        let at = 8192 * usize::from(a);
+        fill(&mut division[at..at + 8192], sheet, areas, a + 1);
     }
 }
 
@@ -71,9 +70,9 @@ fn collect_page(page: &mut [u8], division: &[u8], i: usize, a: u8)
     page.copy_from_slice(&division[at..at + 512]);
 }
 
-fn collect(sheet: &mut [u8], division: &[u8], areas: &[u8; 16])
-    requires { (length sheet.old ≡ 8192) × (length division.now ≡ 49152) × T (areas_high areas.now) }
-    ensures { sheet.new ≡ collected areas.now division.now }
+fn collect(sheet: &mut [u8], division: &[u8], areas: [u8; 16])
+    requires { (length sheet.old ≡ 8192) × (length division.now ≡ 49152) × T (areas_high areas) }
+    ensures { sheet.new ≡ collected areas division.now }
 {
     for i in 0..16 {
         let at = 512 * i;
@@ -85,15 +84,10 @@ fn collect(sheet: &mut [u8], division: &[u8], areas: &[u8; 16])
 fn areas(network: &Network) -> [u8; 16]
     ensures { result ≡ areas_in network.now }
 {
-    let mut areas = [0; 16];
-    for i in 0..16 {
-        areas[i] = network.group_of(Station(i as u8 + 1));
-    }
-    areas
+    [1, 2, 3, 4, 5, 6, 7, 8, 9, 10, 11, 12, 13, 14, 15, 16].map(|k| network.group_of(Station(k)))
 }
 
 // "Dividing puts each station's entries in its area's sheet": 5, 3, 14, 4 or 6, and the division is left as it was.
-#[tactic(auto, unfolding(sheet::specs::Sheets::divide_refusal, sheet::specs::Sheets::after_divide, sheet::specs::between::Passes::sheet_passes, timetable::specs::Refusals::call_refusal))]
 pub fn divide(sheet: &[u8], division: &mut [u8], network: &Network) -> Result<(), Refusal>
     ensures { (refusal_number result ≡ divide_refusal network.now sheet.now division.old)
         × (division.new ≡ after_divide network.now sheet.now division.old) }
@@ -101,16 +95,12 @@ pub fn divide(sheet: &[u8], division: &mut [u8], network: &Network) -> Result<()
     if sheet.len() != 8192 || division.len() != 49152 {
         return Err(Refusal::WrongLength);
     }
-    network.check()?;
-    if !test::good_sheet(sheet, network, Extent::Whole) {
-        return Err(Refusal::BadSheet);
-    }
-    fill_all(division, sheet, &areas(network));
+    test::sheet_refusal(sheet, network, Extent::Whole)?;
+    fill_all(division, sheet, areas(network));
     Ok(())
 }
 
 // "merging collects them"
-#[tactic(auto, unfolding(sheet::specs::Sheets::merge_refusal, sheet::specs::Sheets::after_merge, sheet::specs::between::Passes::division_passes, timetable::specs::Refusals::call_refusal))]
 pub fn merge(division: &[u8], sheet: &mut [u8], network: &Network) -> Result<(), Refusal>
     ensures { (refusal_number result ≡ merge_refusal network.now division.now sheet.old)
         × (sheet.new ≡ after_merge network.now division.now sheet.old) }
@@ -122,6 +112,6 @@ pub fn merge(division: &[u8], sheet: &mut [u8], network: &Network) -> Result<(),
     if !test::good_division(division, network) {
         return Err(Refusal::BadSheet);
     }
-    collect(sheet, division, &areas(network));
+    collect(sheet, division, areas(network));
     Ok(())
 }

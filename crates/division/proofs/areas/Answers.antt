@@ -1,23 +1,21 @@
--- `division::areas` meets its contract: the first i areas stand there. Assumes nothing.
-use Rattle.std.proofs.Common.{ℕ, ◌+◌, ◌∙◌, refl, arith, length-set}
-use Rattle.std.proofs.lemmas.List.FromFn.{fill_by_all}
-use Rattle.std.proofs.lemmas.List.Edits.{fill_by_more}
+-- `division::areas` meets its contract: each element is the area of the station with that number. Assumes nothing.
+use Rattle.std.proofs.Common.{ℕ, List, [], ◌∷◌, map, ◌≡◌, sym, ◌∙◌, arith, rules}
+use Rattle.std.proofs.lemmas.List.{ext_get_or}
+use Rattle.std.proofs.lemmas.Grind.{get_or_default_zero}
+use lib.ListN.{get_or, get_or-map}
 use Rattle.network.specs.Networks.{area_of}
 use Rattle.sheet.specs.Sheets.{sixteen}
 use Rattle.division.specs.between.Copies.{areas_in}
 use Rattle.division.proofs.areas.Goals as goal
 
-pub loop-i-init : goal.loop-i-init
-loop-i-init c = (refl, λ k h. absurd (omega arith))
-
-pub loop-i-preserved : goal.loop-i-preserved
-loop-i-preserved c =
-    let f : ℕ → ℕ = (λ k. area_of c.args.network.now (record { 0 = k + 1 })) in
-    rw c.group_of.ensures (
-      simp length-set c.loop-i.invariant.0,
-      fill_by_more f c.loop-i.areas c.loop-i.i 0 (omega arith) c.loop-i.invariant.1,
-    )
-
 pub returns : goal.returns
 unfolding areas_in sixteen
-returns c = fill_by_all (λ k. area_of c.args.network.now (record { 0 = k + 1 })) _ 16 0 c.loop-i.invariant.0 (λ k h. c.loop-i.invariant.1 k (omega arith)) ∙ refl
+returns c =
+    let z = c.map.ensures.items in
+    let n = c.args.network.now in
+    let ks : List ℕ = 1 ∷ 2 ∷ 3 ∷ 4 ∷ 5 ∷ 6 ∷ 7 ∷ 8 ∷ 9 ∷ 10 ∷ 11 ∷ 12 ∷ 13 ∷ 14 ∷ 15 ∷ 16 ∷ [] in
+    let f : ℕ → ℕ = λ k. area_of n (record { 0 = k }) in
+    ext_get_or 0 c.map.result (areas_in n) z.long (λ i h.
+    let (p, r, q) = z.at i 0 0 (omega (arith, h, z.long)) in
+    let e : get_or c.map.result i 0 ≡ f (get_or ks i 0) = search (rules, q.met) in
+    e ∙ sym (get_or-map f ks i 0) ∙ get_or_default_zero (map f ks) i (f 0) (omega (arith, h, z.long)))

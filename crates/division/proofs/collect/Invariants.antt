@@ -1,8 +1,6 @@
 -- `division::collect` meets its contract. The loop's invariant: the first i pages are those of the sheet to be made.
 -- Assumes nothing.
-use Prim.Native.Nat.{◌*◌}
-use mathlib.Core.Path.{◌≡◌}
-use lib.ListN.{length, take}
+use Rattle.std.proofs.Common.{◌*◌, ◌≡◌, length, take}
 use Rattle.division.specs.between.Copies.{collected}
 use Rattle.division.proofs.collect.Given as goal
 

@@ -1,8 +1,6 @@
--- `division::fill` meets its contract. The loop's invariant: the first i pages are those of the sheet to be made. Each
--- turn fills one page more; after the last turn all are filled. Assumes nothing.
-use Prim.Native.Nat.{◌*◌}
-use mathlib.Core.Path.{◌≡◌}
-use lib.ListN.{length, take}
+-- `division::fill` meets its contract. The loop's invariant: the first i pages are those of the sheet to be made.
+-- Assumes nothing.
+use Rattle.std.proofs.Common.{◌*◌, ◌≡◌, length, take}
 use Rattle.division.specs.between.Copies.{spread}
 use Rattle.division.proofs.fill.Given as goal
 
