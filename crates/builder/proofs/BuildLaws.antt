@@ -1,19 +1,18 @@
 -- The lists that the builder puts, gone through from an index on: one entry or relation, then the rest. Assumes
 -- nothing.
-use Prim.Native.Nat.{ℕ, zero, suc, ◌+◌, ◌<◌, ◌≤◌, min}
+use Prim.Native.Nat.{ℕ, zero, suc, ◌+◌, ◌<◌, ◌≤◌}
 use mathlib.Core.Path.{◌≡◌, refl, sym, ap, ◌∙◌}
 use mathlib.Core.Bool.{Bool, true, false, not, ◌||◌}
 use mathlib.Core.List.{List, [], ◌∷◌, ◌++◌, map, flat_map, append-nil}
 use native.Mathlib.Omega.{arith}
 use lib.Dec.{eqb}
-use lib.ListN.{length, take, drop, get_or, drop_of_length-le}
+use lib.ListN.{length, drop, get_or, length-take, drop_of_length-le}
 use borrow.Author.Tests.{eqb-true, eq-eqb, ne_eqb}
 use Rattle.base.specs.Choice.{◌if◌else◌}
 use Rattle.std.specs.Prelude.{if◌then◌else◌}
 use Rattle.base.proofs.Tests.{by_value}
 use Rattle.base.proofs.Lengths.{drop_next}
 use Rattle.network.specs.Networks.{station_rows, stations_of}
-use Rattle.network.proofs.RowsInUse.{used_rows}
 use Rattle.network.specs.declared.StationRow.{StationRow}
 use Rattle.timetable.specs.Visits.{with_out, outs}
 use Rattle.timetable.specs.Tables.{Entry, Table}
@@ -21,11 +20,10 @@ use Rattle.timetable.specs.Machine.{Timetable}
 use Rattle.timetable.specs.Rules.{met}
 use Rattle.timetable.specs.Findings.{is_far, rules}
 use Rattle.page.specs.between.Changes.{table_in}
-use Rattle.rules.specs.between.Parts.{entry}
 use Rattle.page.specs.between.Entries.{entry_at, relation_at}
 use Rattle.page.proofs.EntryLaws.{entries_next, relations_next}
 use Rattle.railway.specs.declared.visit.OutLink.{OutLink}
-use Rattle.builder.specs.Types.{Station, Train, Outward, Visit, Relation, Network}
+use Rattle.builder.specs.Types.{Station, Outward, Visit, Relation, Network}
 use Rattle.scope.specs.declared.Scope.{Scope}
 use Rattle.scope.specs.declared.redone.Marks.{Marks}
 use Rattle.rule_tests.specs.between.Tests.{clash, broken, second_of}
@@ -44,14 +42,14 @@ rules_counted n s here = refl
 -- entries
 
 module _ (n : Network) (here : Table) (s : Station) (rule : ℕ) (t : Entry) (page : List ℕ) (i k : ℕ) (many : k ≡ length (table_in page).visits) (h : i < k) where
-  pub against_next : (u : Train) (w : Visit) (found : Bool) → entry u w ≡ entry_at i page → found ≡ clash n here s rule t (entry u w)
+  pub against_next : (u : Entry) (found : Bool) → u ≡ entry_at i page → found ≡ clash n here s rule t u
       → against n here s rule t (drop i (table_in page).visits)
-      ≡ told found s rule t.train.0 u.0 ++ against n here s rule t (drop (i + 1) (table_in page).visits)
+      ≡ told found s rule t.train.0 u.train.0 ++ against n here s rule t (drop (i + 1) (table_in page).visits)
   unfolding against flat_map
-  against_next u w found e f =
+  against_next u found e f =
       ap (against n here s rule t) (entries_next page i k many h)
       ∙ ap (λ (xs : List ℕ). xs ++ against n here s rule t (drop (i + 1) (table_in page).visits))
-      (sym (ap (λ (b : Bool). told b s rule t.train.0 u.0) f ∙ ap (λ (x : Entry). told (clash n here s rule t x) s rule t.train.0 x.train.0) e))
+      (sym (ap (λ (b : Bool). told b s rule t.train.0 u.train.0) f ∙ ap (λ (x : Entry). told (clash n here s rule t x) s rule t.train.0 x.train.0) e))
 
 pub against_none : (n : Network) (here : Table) (s : Station) (rule : ℕ) (t : Entry) (us : List Entry) → us ≡ [] → against n here s rule t us ≡ []
 unfolding against flat_map
@@ -84,22 +82,22 @@ unfolding outs with_out
 outs_none v e = ap (λ (l : OutLink). outs (with_out l v)) e
 
 module _ (n : Network) (scope : Scope) (m : Timetable) (here : Table) (s : Station) where
-  pub facing_none : (t : Train) (v : Visit) → v.outward ≡ OutLink.Nothing → facing n scope m here s (entry t v) ≡ []
+  pub facing_none : (t : Entry) → t.visit.outward ≡ OutLink.Nothing → facing n scope m here s t ≡ []
   unfolding facing flat_map
-  facing_none t v e = rw (outs_none v e)
+  facing_none t e = rw (outs_none t.visit e)
 
-  facing_by : (t : Train) (v : Visit) (o : Outward) → v.outward ≡ OutLink.To o
-      → facing n scope m here s (entry t v) ≡ (if takes n scope s o.station then against n here s 10 (entry t v) (m o.station).visits else [])
+  facing_by : (t : Entry) (o : Outward) → t.visit.outward ≡ OutLink.To o
+      → facing n scope m here s t ≡ (if takes n scope s o.station then against n here s 10 t (m o.station).visits else [])
   unfolding facing flat_map
-  facing_by t v o e = rw (outs_at v o e) (append-nil (if takes n scope s o.station then against n here s 10 (entry t v) (m o.station).visits else []))
+  facing_by t o e = rw (outs_at t.visit o e) (append-nil (if takes n scope s o.station then against n here s 10 t (m o.station).visits else []))
 
-  pub facing_at : (t : Train) (v : Visit) (o : Outward) (b : Bool) → v.outward ≡ OutLink.To o → b ≡ takes n scope s o.station → b ≡ true
-      → (there : Table) → there ≡ m o.station → against n here s 10 (entry t v) there.visits ≡ facing n scope m here s (entry t v)
-  facing_at t v o b e f g there q = sym (facing_by t v o e ∙ rw (← f, g, ← q))
+  pub facing_at : (t : Entry) (o : Outward) (b : Bool) → t.visit.outward ≡ OutLink.To o → b ≡ takes n scope s o.station → b ≡ true
+      → (there : Table) → there ≡ m o.station → against n here s 10 t there.visits ≡ facing n scope m here s t
+  facing_at t o b e f g there q = sym (facing_by t o e ∙ rw (← f, g, ← q))
 
-  pub facing_not : (t : Train) (v : Visit) (o : Outward) (b : Bool) → v.outward ≡ OutLink.To o → b ≡ takes n scope s o.station → b ≡ false
-      → [] ≡ facing n scope m here s (entry t v)
-  facing_not t v o b e f g = sym (facing_by t v o e ∙ rw (← f, g))
+  pub facing_not : (t : Entry) (o : Outward) (b : Bool) → t.visit.outward ≡ OutLink.To o → b ≡ takes n scope s o.station → b ≡ false
+      → [] ≡ facing n scope m here s t
+  facing_not t o b e f g = sym (facing_by t o e ∙ rw (← f, g))
 
   -- a rule of one visit, which is read as x
 
@@ -197,11 +195,11 @@ pub all_redone_is : (n : Network) (scope : Scope) (m : Timetable) → redone_num
 unfolding redone_numbers redone_station all_numbers station_numbers level first_rule rules_redone
 all_redone_is n scope m = refl
 
--- all stations, by the rows in use
-pub stations_are : (f : Station → List ℕ) (n : Network) (k : ℕ) → length n.stations ≡ 16 → k ≡ min n.stationcount 16
-    → flat_map (λ r. f r.station) (take k n.stations) ≡ flat_map f (stations_of n)
-unfolding stations_of station_rows
-stations_are f n k many e =
-    sym
-    (flat_map_lem f (λ (r : StationRow). r.station) (take n.stationcount n.stations)
-    ∙ ap (flat_map (λ r. f r.station)) (used_rows n.stations n.stationcount 16 k many e))
+-- all stations, by their rows
+pub stations_are : (f : Station → List ℕ) (n : Network) → flat_map (λ r. f r.station) (station_rows n) ≡ flat_map f (stations_of n)
+unfolding stations_of
+stations_are f n = sym (flat_map_lem f (λ (r : StationRow). r.station) (station_rows n))
+
+pub stations_few : (n : Network) → length n.stations ≡ 16 → length (station_rows n) ≤ 16
+unfolding station_rows
+stations_few n h = omega (arith, h, length-take {A = StationRow})

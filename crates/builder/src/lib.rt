@@ -8,7 +8,7 @@ ghost use Rattle.timetable.specs.Findings.{is_far};
 ghost use Rattle.timetable.specs.Outputs.{Puts};
 ghost use Rattle.page.specs.between.Changes.{table_in};
 ghost use Rattle.page.specs.between.Entries.{entry_at};
-ghost use Rattle.rules.specs.between.Parts.{entry};
+ghost use Rattle.visits.specs.between.Entries.{entry_of};
 ghost use Rattle.rule_tests.specs.between.Tests.{held};
 ghost use Rattle.scope.specs.Scopes.{takes};
 ghost use Rattle.builder.specs.between.Builder.{visit_most, visits_most, relations_most, station_most, list_most};
@@ -19,12 +19,13 @@ use kinds::Rule;
 use network::Network;
 use page::entries;
 use page_rules::relations;
-use railway::sorts::{Station, Train};
-use railway::visit::{OutLink, Visit};
+use railway::sorts::Station;
+use railway::visit::OutLink;
 use records::record;
 use scope::redone::Marks;
 use scope::{Scope, redone};
 use sheet::station_page;
+use visits::Entry;
 
 mod kinds; // the rules, and which of them are redone
 mod put; // numbers put into the lent buffer
@@ -33,7 +34,7 @@ mod put; // numbers put into the lent buffer
 pub const RULES: u16 = 11;
 
 // A station of a sheet, with its page there, and which findings the list takes.
-#[derive(Clone, Copy)]
+#[derive(Clone, Copy, Debug, PartialEq, Eq, Hash)]
 struct Lister<'a> {
     sheet: &'a [u8],
     here: &'a [u8],
@@ -51,44 +52,32 @@ impl<'a> Lister<'a> {
         there: &[u8],
         from: usize,
         rule: Rule,
-        t: Train,
-        v: Visit,
+        t: Entry,
     ) -> usize
         requires { at ≤ 2 * list_most }
-        ensures { Puts at (against self.now.n.now (table_in self.now.here.now) self.now.s (rule_number rule) (entry t v) (drop from (table_in there.now).visits)) out.old result out.new visit_most }
+        ensures { Puts at (against self.now.n.now (table_in self.now.here.now) self.now.s (rule_number rule) (entry_of t) (drop from (table_in there.now).visits)) out.old result out.new visit_most }
     {
         let k = page::visit_count(there);
         let mut to = at;
         for i in from..k {
-            let r = entries::entry_record(there, i);
-            let u = record::train_in(r);
-            let w = record::visit_in(r);
-            let found = rule_tests::does_clash(
-                self.here,
-                *self.n,
-                self.s,
-                u16::from(rule),
-                t,
-                v,
-                u,
-                w,
-            );
-            to = put::finding(out, to, found, self.s, rule, t.0, u.0);
+            let u = page_rules::entry_at(there, i);
+            let found = rule_tests::does_clash(self.here, self.n, self.s, u16::from(rule), t, u);
+            to = put::finding(out, to, found, self.s, rule, t.train.0, u.train.0);
         }
         to
     }
 
     // 10: t with each train at the far station of its out-link, where the list takes that.
-    fn list_facing(&self, out: &mut [u16], at: usize, t: Train, v: Visit) -> usize
+    fn list_facing(&self, out: &mut [u16], at: usize, t: Entry) -> usize
         requires { at ≤ 2 * list_most }
-        ensures { Puts at (facing self.now.n.now self.now.scope (held self.now.sheet.now) (table_in self.now.here.now) self.now.s (entry t v)) out.old result out.new visit_most }
+        ensures { Puts at (facing self.now.n.now self.now.scope (held self.now.sheet.now) (table_in self.now.here.now) self.now.s (entry_of t)) out.old result out.new visit_most }
     {
-        let OutLink::To(o) = v.outward else {
+        let OutLink::To(o) = t.visit.outward else {
             return at;
         };
-        if scope::is_taken(*self.n, self.scope, self.s, o.station) {
+        if scope::is_taken(self.n, self.scope, self.s, o.station) {
             let there = station_page::page_of(self.sheet, o.station);
-            return self.list_against(out, at, there, 0, Rule::Opposed, t, v);
+            return self.list_against(out, at, there, 0, Rule::Opposed, t);
         }
         at
     }
@@ -98,21 +87,19 @@ impl<'a> Lister<'a> {
         requires { (at ≤ 2 * list_most) × (i ≤ 24) }
         ensures { Puts at (step self.now.n.now self.now.scope (held self.now.sheet.now) (table_in self.now.here.now) self.now.s (rule_number rule) (entry_at i self.now.here.now) (drop (i + 1) (table_in self.now.here.now).visits)) out.old result out.new visit_most }
     {
-        let r = entries::entry_record(self.here, i);
-        let t = record::train_in(r);
-        let v = record::visit_in(r);
+        let t = page_rules::entry_at(self.here, i);
         match rule {
             Rule::TrackTaken | Rule::Headway => {
-                self.list_against(out, at, self.here, i + 1, rule, t, v)
+                self.list_against(out, at, self.here, i + 1, rule, t)
             }
-            Rule::Opposed => self.list_facing(out, at, t, v),
+            Rule::Opposed => self.list_facing(out, at, t),
             _ => {
                 let number = u16::from(rule);
                 let found = rule_tests::is_broken(
-                    self.sheet, self.here, *self.n, self.scope, self.s, number, t, v,
+                    self.sheet, self.here, self.n, self.scope, self.s, number, t,
                 );
-                let second = rule_tests::second_of(number, t, v);
-                put::finding(out, at, found, self.s, rule, t.0, second)
+                let second = rule_tests::second_of(number, t);
+                put::finding(out, at, found, self.s, rule, t.train.0, second)
             }
         }
     }
@@ -150,7 +137,7 @@ impl<'a> Lister<'a> {
     fn is_asked(&self, rule: Rule) -> bool
         ensures { result ≡ (is_far (rule_number rule) || takes self.now.n.now self.now.scope self.now.s self.now.s) }
     {
-        redone::is_far(u16::from(rule)) || scope::is_taken(*self.n, self.scope, self.s, self.s)
+        redone::is_far(u16::from(rule)) || scope::is_taken(self.n, self.scope, self.s, self.s)
     }
 
     fn list_rule(&self, out: &mut [u16], at: usize, rule: Rule) -> usize
@@ -205,20 +192,22 @@ fn list_redone_at(
 }
 
 // What is redone, station by station, from the buffer's start.
-pub fn list_redone(out: &mut [u16], sheet: &[u8], n: Network, scope: Scope, marks: Marks) -> usize
-    ensures { Puts 0 (redone_numbers n scope marks (held sheet.now)) out.old result out.new list_most }
+pub fn list_redone(out: &mut [u16], sheet: &[u8], n: &Network, scope: Scope, marks: Marks) -> usize
+    ensures { Puts 0 (redone_numbers n.now scope marks (held sheet.now)) out.old result out.new list_most }
 {
-    let rows = &n.stations[..network::in_use(n.stationcount, 16)];
+    // Read as a slice, the array is known to have 16 rows.
+    let _all = &n.stations[..];
+    let rows = n.station_rows();
     let mut to: usize = 0;
     for row in rows {
-        to = list_redone_at(out, to, sheet, &n, scope, marks, row.station);
+        to = list_redone_at(out, to, sheet, n, scope, marks, row.station);
     }
     to
 }
 
 // A whole list: what is redone where all is.
-pub fn list_all(out: &mut [u16], sheet: &[u8], n: Network, scope: Scope) -> usize
-    ensures { Puts 0 (all_numbers n scope (held sheet.now)) out.old result out.new list_most }
+pub fn list_all(out: &mut [u16], sheet: &[u8], n: &Network, scope: Scope) -> usize
+    ensures { Puts 0 (all_numbers n.now scope (held sheet.now)) out.old result out.new list_most }
 {
     list_redone(out, sheet, n, scope, redone::everywhere())
 }

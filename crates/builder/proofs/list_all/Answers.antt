@@ -12,5 +12,5 @@ returns c =
     let s = c.args in
     let w = c.list_redone in
     let marks = c.everywhere in
-    let all = ap (λ (x : Marks). redone_numbers s.n s.scope x (held s.sheet.now)) marks.ensures ∙ all_redone_is s.n s.scope (held s.sheet.now) in
+    let all = ap (λ (x : Marks). redone_numbers s.n.now s.scope x (held s.sheet.now)) marks.ensures ∙ all_redone_is s.n.now s.scope (held s.sheet.now) in
     puts_as 0 w.result _ _ s.out.now _ list_most all w.ensures

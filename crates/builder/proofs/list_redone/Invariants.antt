@@ -9,5 +9,5 @@ use Rattle.builder.proofs.list_redone.Given as goal
 
 abbrev pub invariant-loop-row : goal.invariant-loop-row
 invariant-loop-row l =
-    let left = flat_map (λ r. redone_station l.fn.n l.scope l.marks (held l.sheet) r.station) in
+    let left = flat_map (λ r. redone_station l.n l.scope l.marks (held l.sheet) r.station) in
     (l.to ≤ station_most * l.row-index) × Left 0 (left l.rows) l.initial.out l.to (left (drop l.row-index l.rows)) l.out
