@@ -1,7 +1,7 @@
 -- The lists of findings of sheets, and what refuses them. Document 01, "Findings": "A whole timetable's findings: all
 -- rules at all stations. An area's findings, at its stations: rules 1 to 6, and 7 to 10 where the far station is its
 -- own too. A pair's (unordered): 7 to 10 across the two, which differ (else 3)." Assumes nothing.
-use Rattle.std.specs.Prelude.{ℕ, ◌≡◌, Bool, not, ◌&&◌, List, eqb, length}
+use Rattle.std.specs.Prelude.{ℕ, ◌≡◌, Bool, not, ◌&&◌, List, eqb, length, Result}
 use Rattle.base.specs.Choice.{◌if◌else◌}
 use Rattle.std.specs.Prelude.{if◌then◌else◌}
 use Rattle.railway.specs.Ranges.{area_ok}
@@ -10,9 +10,9 @@ use Rattle.timetable.specs.Tables.{empty}
 use Rattle.timetable.specs.Groups.{Divided, in_group}
 use Rattle.timetable.specs.Findings.{numbers_of, findings, group_findings, pair_list}
 use Rattle.timetable.specs.Refusals.{early, call_refusal}
-use Rattle.timetable.specs.Outputs.{reply, output, output_after}
+use Rattle.timetable.specs.Outputs.{reply_of, output, output_after}
 use Rattle.sheet.specs.Sheets.{decode_sheet, good_sheet, whole_refusal}
-use Rattle.findings.specs.Types.{Area, Network, Output}
+use Rattle.findings.specs.Types.{Area, Network, OutputError}
 
 -- the lists
 
@@ -32,8 +32,8 @@ unfoldable pub two_list : Network → List ℕ → List ℕ → Area → Area �
 two_list n first second a b = numbers_of (pair_list n (area_of n) (two_parts first second a b) (a.0, b.0))
 
 -- a call refused with k, or with 0 and these numbers to write, answers r and leaves the buffer as `after`
-abbrev pub Answers : ℕ → List ℕ → List ℕ → Output → List ℕ → Type 0
-Answers k xs buffer r after = (reply r ≡ output k xs buffer) × (after ≡ output_after k xs buffer)
+abbrev pub Answers : ℕ → List ℕ → List ℕ → Result ℕ OutputError → List ℕ → Type 0
+Answers k xs buffer r after = (reply_of r ≡ output k xs buffer) × (after ≡ output_after k xs buffer)
 
 -- what refuses them: "Order: 5, 3, 4, 7, 6"; 13 is in timetable/specs/Outputs.antt
 

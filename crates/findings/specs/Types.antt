@@ -7,4 +7,4 @@ pub use Rattle.railway.specs.declared.visit.Outward.{Outward}
 pub use Rattle.railway.specs.declared.visit.Visit.{Visit}
 pub use Rattle.railway.specs.declared.relation.Relation.{Relation}
 pub use Rattle.network.specs.declared.Network.{Network}
-pub use Rattle.timetable.specs.declared.Output.{Output}
+pub use Rattle.base.specs.declared.refusal.OutputError.{OutputError}

@@ -4,32 +4,35 @@ ghost use Rattle.findings.specs.between.Joined.{joined_page, joined};
 
 use network::Network;
 use railway::sorts::{Area, Station};
-use records::bytes;
 
 // The page of a station: from its area's sheet, zeros where it is in neither area.
-fn join_page(page: &mut [u8], first: &[u8], second: &[u8], n: Network, a: Area, b: Area, k: Station)
+fn join_page(
+    page: &mut [u8],
+    first: &[u8],
+    second: &[u8],
+    n: &Network,
+    a: Area,
+    b: Area,
+    k: Station,
+)
     requires { (length page.old ≡ 512) × (length first.now ≡ 512) × (length second.now ≡ 512) }
-    ensures { page.new ≡ joined_page n a b k first.now second.now }
+    ensures { page.new ≡ joined_page n.now a b k first.now second.now }
 {
     let g = n.group_of(k);
     if g == a.0 {
-        bytes::copy(page, first);
-        return;
+        page.copy_from_slice(first);
+    } else if g == b.0 {
+        page.copy_from_slice(second);
+    } else {
+        page.fill(0);
     }
-    if g == b.0 {
-        bytes::copy(page, second);
-        return;
-    }
-    bytes::clear(page);
 }
 
-pub(crate) fn join(sheet: &mut [u8], first: &[u8], second: &[u8], n: Network, a: Area, b: Area)
+pub(crate) fn join(sheet: &mut [u8], first: &[u8], second: &[u8], n: &Network, a: Area, b: Area)
     requires { (length sheet.old ≡ 8192) × (length first.now ≡ 8192) × (length second.now ≡ 8192) }
-    ensures { sheet.new ≡ joined n a b first.now second.now }
+    ensures { sheet.new ≡ joined n.now a b first.now second.now }
 {
-    let mut i: usize = 0;
-    let mut k: u8 = 1;
-    while i < 16 {
+    for i in 0..16usize {
         let at = 512 * i;
         let end = at + 512;
         join_page(
@@ -39,9 +42,7 @@ pub(crate) fn join(sheet: &mut [u8], first: &[u8], second: &[u8], n: Network, a:
             n,
             a,
             b,
-            Station(k),
+            Station(i as u8 + 1),
         );
-        i += 1;
-        k += 1;
     }
 }

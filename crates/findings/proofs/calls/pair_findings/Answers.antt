@@ -1,54 +1,31 @@
--- `findings::calls::pair_findings` meets its contract: each return by the tests that led there. Assumes nothing.
-use native.Mathlib.Omega.{arith}
-use mathlib.Core.Path.{refl, sym, ◌∙◌}
+-- `findings::calls::pair_findings` meets its contract: refused with what refuses the list, or the list of the two sheets put together is written. Assumes
+-- nothing.
+use Rattle.std.proofs.Common.{refl, sym, ◌∙◌, ap}
+use Rattle.std.proofs.lemmas.Result.{err_from_is_err_and}
+use Rattle.base.specs.RefusalNumbers.{refusal_number}
+use Rattle.timetable.proofs.OutputLaws.{refused_with}
 use Rattle.findings.specs.Lists.{two_list, two_list_refusal}
-use Rattle.findings.proofs.ListCalls.{refuses, answers_as, two_short, two_short_second, two-early, two-bad, two_good, two-numbers}
-use borrow.Author.Rules.{rules}
+use Rattle.findings.proofs.ListCalls.{answers_as, two_passed, two-numbers}
 use Rattle.findings.proofs.calls.pair_findings.Goals as goal
 
-pub returns-then-first-ne8192 : goal.returns-then-first-ne8192
-returns-then-first-ne8192 c =
+pub returns-in_err-pair_refusal : goal.returns-in_err-pair_refusal
+returns-in_err-pair_refusal c =
     let s = c.args in
-    let xs = two_list s.n s.first.now s.second.now s.a s.b in
-    answers_as 5 (two_list_refusal s.n s.first.now s.second.now s.a s.b) xs xs s.out.now s.out.now _
-    (two_short s.n s.first.now s.second.now s.a s.b c.if-first-ne8192.true) refl (refuses xs s.out.now 5 (λ e. omega arith))
+    let p = err_from_is_err_and c.from_residual.result c.from_residual.ensures.1 in
+    let xs = two_list s.n.now s.first.now s.second.now s.a s.b in
+    rw (p.1, p.2) (answers_as _ (two_list_refusal s.n.now s.first.now s.second.now s.a s.b) xs xs s.out.now s.out.now _ c.in_err-pair_refusal.ensures refl (refused_with xs s.out.now c.in_err-pair_refusal.field-0.0))
 
-pub returns-then-second-ne8192 : goal.returns-then-second-ne8192
-returns-then-second-ne8192 c =
+pub join-requires : goal.join-requires
+join-requires c =
     let s = c.args in
-    let xs = two_list s.n s.first.now s.second.now s.a s.b in
-    answers_as 5 (two_list_refusal s.n s.first.now s.second.now s.a s.b) xs xs s.out.now s.out.now _
-    (two_short_second s.n s.first.now s.second.now s.a s.b c.if-first-ne8192.false c.if-second-ne8192.true) refl (refuses xs s.out.now 5 (λ e. omega arith))
-
-pub pair_refusal-early-requires : goal.pair_refusal-early-requires
-pair_refusal-early-requires c = search rules
-
-pub returns-then-early-ne0 : goal.returns-then-early-ne0
-returns-then-early-ne0 c =
-    let s = c.args in
-    let k = c.pair_refusal-early in
-    let xs = two_list s.n s.first.now s.second.now s.a s.b in
-    answers_as k.result (two_list_refusal s.n s.first.now s.second.now s.a s.b) xs xs s.out.now s.out.now _
-    (two-early s.n s.first.now s.second.now s.a s.b c.if-first-ne8192.false c.if-second-ne8192.false k.result k.ensures c.if-early-ne0.true) refl (refuses xs s.out.now k.result c.if-early-ne0.true)
-
-pub both_good-requires : goal.both_good-requires
-both_good-requires c = search rules
-
-pub write_pair-requires : goal.write_pair-requires
-write_pair-requires c = search rules
-
-pub returns-then-both_good : goal.returns-then-both_good
-returns-then-both_good c =
-    let s = c.args in
-    let k = c.pair_refusal-early in
-    answers_as 0 (two_list_refusal s.n s.first.now s.second.now s.a s.b) _ (two_list s.n s.first.now s.second.now s.a s.b) s.out.now _ _
-    (two_good s.n s.first.now s.second.now s.a s.b c.if-first-ne8192.false c.if-second-ne8192.false k.result k.ensures c.if-early-ne0.false (sym c.both_good.ensures ∙ c.if-both_good.true))
-    (two-numbers s.n s.first.now s.second.now s.a s.b c.if-first-ne8192.false c.if-second-ne8192.false k.result k.ensures c.if-early-ne0.false) c.write_pair.ensures
+    let p = two_passed s.n.now s.first.now s.second.now s.a s.b (sym c.pair_refusal.ensures ∙ ap refusal_number c.in_ok-pair_refusal.was) in
+    (refl, p.0, p.1)
 
 pub returns : goal.returns
 returns c =
     let s = c.args in
-    let k = c.pair_refusal-early in
-    let xs = two_list s.n s.first.now s.second.now s.a s.b in
-    answers_as 6 (two_list_refusal s.n s.first.now s.second.now s.a s.b) xs xs s.out.now s.out.now _
-    (two-bad s.n s.first.now s.second.now s.a s.b c.if-first-ne8192.false c.if-second-ne8192.false k.result k.ensures c.if-early-ne0.false (sym c.both_good.ensures ∙ c.if-both_good.false)) refl (refuses xs s.out.now 6 (λ e. omega arith))
+    let none = sym c.pair_refusal.ensures ∙ ap refusal_number c.in_ok-pair_refusal.was in
+    let p = two_passed s.n.now s.first.now s.second.now s.a s.b none in
+    answers_as 0 (two_list_refusal s.n.now s.first.now s.second.now s.a s.b) _ (two_list s.n.now s.first.now s.second.now s.a s.b) s.out.now _ _ (sym none)
+    (two-numbers s.n.now s.first.now s.second.now s.a s.b p.0 p.1 _ refl p.2)
+    (rw c.join.ensures at c.write_list.ensures)

@@ -21,7 +21,7 @@ pub returns-then-needed-draft : goal.returns-then-needed-draft
 returns-then-needed-draft c =
     let s = c.args in
     let w = c.list_all-needed in
-    let xs = all_numbers s.n s.scope (held s.sheet.now) in
+    let xs = all_numbers s.n.now s.scope (held s.sheet.now) in
     rw (← held_is s.sheet.now c.requires)
     (
     answers_as 0 0 _ xs s.out.now _ _ refl
@@ -34,7 +34,7 @@ returns-then-out-needed c =
     let s = c.args in
     let w = c.list_all-needed in
     rw (← held_is s.sheet.now c.requires)
-    (too_short (all_numbers s.n s.scope (held s.sheet.now)) s.out.now w.result w.ensures.0 c.if-out-needed.true)
+    (too_short (all_numbers s.n.now s.scope (held s.sheet.now)) s.out.now w.result w.ensures.0 c.if-out-needed.true)
 
 pub list_all-requires : goal.list_all-requires
 list_all-requires c = search rules
@@ -44,4 +44,4 @@ returns c =
     let s = c.args in
     let w = c.list_all-needed in
     rw (← held_is s.sheet.now c.requires)
-    (written (all_numbers s.n s.scope (held s.sheet.now)) s.out.now w.result _ w.ensures.0 c.if-out-needed.false c.list_all.ensures.1)
+    (written (all_numbers s.n.now s.scope (held s.sheet.now)) s.out.now w.result _ w.ensures.0 c.if-out-needed.false c.list_all.ensures.1)

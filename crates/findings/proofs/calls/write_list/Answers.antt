@@ -4,24 +4,11 @@ use Rattle.rule_tests.specs.between.Tests.{held}
 use Rattle.rule_tests.proofs.HeldLaws.{held_is}
 use Rattle.builder.specs.between.Builder.{all_numbers}
 use Rattle.findings.proofs.ListCalls.{written}
-use borrow.Author.Rules.{rules}
 use Rattle.findings.proofs.calls.write_list.Goals as goal
-
-pub list_all-count-requires : goal.list_all-count-requires
-list_all-count-requires c = search rules
 
 pub returns-then-out-ge-MOST : goal.returns-then-out-ge-MOST
 returns-then-out-ge-MOST c =
     let s = c.args in
-    let w = c.list_all-count in
+    let w = c.list_all in
     rw (← held_is s.sheet.now c.requires)
-    (written (all_numbers s.n s.scope (held s.sheet.now)) s.out.now w.result _ w.ensures.0 (omega (arith, w.ensures.2, c.if-out-ge-MOST.true)) w.ensures.1)
-
-pub slice_bounds-write_drafted-end : goal.slice_bounds-write_drafted-end
-slice_bounds-write_drafted-end c = search rules
-
-pub write_drafted-requires : goal.write_drafted-requires
-write_drafted-requires c = search rules
-
-pub returns : goal.returns
-returns c = search rules
+    (written (all_numbers s.n.now s.scope (held s.sheet.now)) s.out.now w.result _ w.ensures.0 (omega (arith, w.ensures.2, c.if-out-ge-MOST.true)) w.ensures.1)
