@@ -4,3 +4,6 @@ pub use Rattle.railway.specs.declared.sorts.Train.{Train}
 pub use Rattle.railway.specs.declared.edit.Edit.{Edit}
 pub use Rattle.network.specs.declared.Network.{Network}
 pub use Rattle.timetable.specs.declared.Answer.{Answer}
+pub use Rattle.actions.specs.declared.shape.Shape.{Shape}
+pub use Rattle.actions.specs.declared.shape.Shape.TheVariants.{Local, Throughout}
+pub use Rattle.page_edits.specs.declared.Layout.{Layout}

@@ -3,37 +3,49 @@
 // empty, and is left so.
 #![tactic(auto)]
 
-ghost use Rattle.std.specs.Prelude.{◌≡◌, ◌*◌, ◌-◌, ◌≤◌, ◌<◌, min};
+ghost use Rattle.std.specs.Prelude.{◌≡◌, ◌*◌, ◌≤◌, ◌<◌, min};
+ghost use Rattle.base.specs.RefusalNumbers.{refusal_number};
 ghost use Rattle.edit_changes.specs.between.EditPages.{page_without, here_page};
 ghost use Rattle.page_edits.specs.between.PageEdits.{place_of, places, visits_on, swept, sweep};
-ghost use Rattle.page_edits.specs.between.PageEdits.{far_changed, frames_refusal, frames_removed, frames_changed};
+ghost use Rattle.page_edits.specs.between.PageEdits.{bytes_of, far_changed, frames_refusal, frames_removed, frames_changed};
 ghost use Rattle.sheet.specs.between.Frames.{frame, change_frame};
 
 use actions::shape;
+use actions::shape::Shape;
+use base::refusal::Refusal;
 use network::Network;
-use page::VisitFound;
 use railway::edit::Edit;
 use railway::sorts::{Station, Train};
-use records::bytes;
 
-// One less, and 0 for 0.
-fn before(x: u8) -> usize
-    ensures { (result ≡ x - 1) × (result < 255) }
-{
-    if x == 0 {
-        return 0;
-    }
-    bytes::size(x) - 1
+// How pages lie in a buffer: a sheet has those of the stations 1 to 16, a division a sheet for each of the areas 1 to 6.
+#[derive(Clone, Copy, Debug, PartialEq, Eq, Hash)]
+pub enum Layout {
+    Sheet,
+    Division,
 }
 
-// The index of a station's page in a sheet or in a division.
-fn place_of(divided: bool, n: Network, s: Station) -> usize
-    ensures { (result ≡ place_of divided n s) × (result < 4335) }
-{
-    if divided {
-        return 16 * before(n.group_of(s)) + before(s.0);
+impl Layout {
+    // How many bytes it has.
+    pub fn bytes(self) -> usize
+        ensures { result ≡ bytes_of self }
+    {
+        match self {
+            Layout::Sheet => 8192,
+            Layout::Division => 49152,
+        }
     }
-    before(s.0)
+}
+
+// The index of a station's page.
+#[tactic(auto, unfolding(crate::specs::between::PageEdits::place_of))]
+fn place_of(layout: Layout, n: &Network, s: Station) -> usize
+    ensures { (result ≡ place_of layout n.now s) × (result < 4335) }
+{
+    let page = usize::from(s.0.saturating_sub(1));
+    match layout {
+        Layout::Sheet => page,
+        Layout::Division => 16 * usize::from(n.group_of(s).saturating_sub(1)) + page,
+    }
 }
 
 // The byte at which the page at an index starts, or the end of so many bytes.
@@ -41,11 +53,7 @@ fn start_of(i: usize, size: usize) -> usize
     requires { i < 4336 }
     ensures { result ≡ min (512 * i) size }
 {
-    let at = 512 * i;
-    if at < size {
-        return at;
-    }
-    size
+    (512 * i).min(size)
 }
 
 fn page_at(b: &[u8], i: usize) -> &[u8]
@@ -84,14 +92,11 @@ fn change_near(b: &mut [u8], i: usize, e: Edit)
 // Edit 11
 
 // Whether the train has a visit on the page, as a count.
+#[tactic(auto, unfolding(crate::specs::between::PageEdits::visits_on, timetable::specs::Tables::has_visit))]
 fn count_on(part: &[u8], t: Train) -> u8
     ensures { (result ≡ visits_on t part.now) × (result ≤ 1) }
 {
-    let found = page::visit_of(part, t);
-    match found {
-        VisitFound::Is(_) => 1,
-        VisitFound::Nothing => 0,
-    }
+    u8::from(page::visit_of(part, t).is_some())
 }
 
 // At one page.
@@ -107,47 +112,52 @@ fn sweep_one(b: &mut [u8], i: usize, t: Train) -> u8
 }
 
 // At the pages of all listed stations: how many visits that removes.
-fn sweep_all(b: &mut [u8], divided: bool, n: Network, t: Train) -> u8
-    ensures { (result ≡ swept t (places divided n) b.old) × (b.new ≡ sweep t (places divided n) b.old) }
+fn sweep_all(b: &mut [u8], layout: Layout, n: &Network, t: Train) -> u8
+    ensures { (result ≡ swept t (places layout n.now) b.old) × (b.new ≡ sweep t (places layout n.now) b.old) }
 {
-    let rows = n.stations;
-    let k = network::in_use(n.stationcount, 16);
+    let _rows = &n.stations[..];
     let mut removed: u8 = 0;
-    let mut i: usize = 0;
-    while i < k {
-        let row = rows[i];
-        removed += sweep_one(b, place_of(divided, n, row.station), t);
-        i += 1;
+    for row in n.station_rows() {
+        removed += sweep_one(b, place_of(layout, n, row.station), t);
     }
     removed
 }
 
 // An edit on all the pages that it names
 
-// What the pages refuse it with: 8 to 12, or 0.
-pub fn refusal_on(b: &[u8], divided: bool, n: Network, e: Edit) -> u8
-    ensures { result ≡ frames_refusal divided n e b.now }
+// What the pages refuse it with: 8 to 12.
+#[tactic(auto, using(crate::proofs::PairSteps::all_unrefused, crate::proofs::PairSteps::two_refused))]
+pub fn refusal_on(b: &[u8], layout: Layout, n: &Network, e: Edit) -> Result<(), Refusal>
+    ensures { refusal_number result ≡ frames_refusal layout n.now e b.now }
 {
-    let a = shape::shape_of(e);
-    if a.everywhere {
-        return 0;
+    match shape::shape_of(e) {
+        Shape::Local { home, away, .. } => {
+            let i = place_of(layout, n, home);
+            let j = place_of(layout, n, away);
+            edit_refusals::refusal_of(page_at(b, i), page_at(b, j), n, e)
+        }
+        Shape::Throughout(_) => Ok(()),
     }
-    let i = place_of(divided, n, a.home);
-    let j = place_of(divided, n, a.away);
-    edit_refusals::refusal_of(page_at(b, i), page_at(b, j), n, e)
 }
 
 // What it makes of them, where they do not refuse it; how many visits that removes.
-pub fn change_on(b: &mut [u8], divided: bool, n: Network, e: Edit) -> u8
-    ensures { (result ≡ frames_removed divided n e b.old) × (b.new ≡ frames_changed divided n e b.old) }
+#[tactic(auto, using(crate::proofs::PairSteps::all_removed, crate::proofs::PairSteps::all_changed, crate::proofs::PairSteps::two_removed, crate::proofs::PairSteps::two_changed))]
+pub fn change_on(b: &mut [u8], layout: Layout, n: &Network, e: Edit) -> u8
+    ensures { (result ≡ frames_removed layout n.now e b.old) × (b.new ≡ frames_changed layout n.now e b.old) }
 {
-    let a = shape::shape_of(e);
-    if a.everywhere {
-        return sweep_all(b, divided, n, a.train);
+    match shape::shape_of(e) {
+        Shape::Local {
+            home,
+            away,
+            removes,
+            ..
+        } => {
+            let i = place_of(layout, n, home);
+            let j = place_of(layout, n, away);
+            change_far(b, i, j, e);
+            change_near(b, i, e);
+            removes
+        }
+        Shape::Throughout(train) => sweep_all(b, layout, n, train),
     }
-    let i = place_of(divided, n, a.home);
-    let j = place_of(divided, n, a.away);
-    change_far(b, i, j, e);
-    change_near(b, i, e);
-    a.removes
 }

@@ -1,6 +1,6 @@
 -- A sheet or a division as pages of 512 bytes in a row: a page is a page wherever it stands. The page of a station is
 -- found by its index, counted from 0. Assumes nothing.
-use Rattle.std.specs.Prelude.{ℕ, ◌+◌, ◌*◌, ◌-◌, Bool, List, [], ◌∷◌, map, eqb}
+use Rattle.std.specs.Prelude.{ℕ, ◌+◌, ◌*◌, ◌-◌, List, [], ◌∷◌, map, eqb}
 use Rattle.base.specs.Choice.{◌if◌else◌}
 use Rattle.std.specs.Prelude.{if◌then◌else◌}
 use Rattle.network.specs.Networks.{area_of, stations_of}
@@ -10,12 +10,18 @@ use Rattle.actions.specs.between.Shapes.{shape_of}
 use Rattle.page.specs.between.Changes.{table_in}
 use Rattle.edit_refusals.specs.between.Refusing.{refuses_on}
 use Rattle.edit_changes.specs.between.EditPages.{page_without, here_page, there_page}
-use Rattle.page_edits.specs.Types.{Station, Train, Edit, Network, Answer}
+use Rattle.page_edits.specs.Types.{Layout, Station, Train, Edit, Network, Answer, Shape, Local, Throughout}
 use Rattle.sheet.specs.between.Frames.{frame, change_frame}
 
 -- the index of a station's page: in a sheet by its number, in a division by its area first
-unfoldable pub place_of : Bool → Network → Station → ℕ
-place_of divided n k = if divided then 16 * (area_of n k - 1) + (k.0 - 1) else (k.0 - 1)
+unfoldable pub place_of : Layout → Network → Station → ℕ
+place_of Layout.Sheet n k = k.0 - 1
+place_of Layout.Division n k = 16 * (area_of n k - 1) + (k.0 - 1)
+
+-- and how long they are: sixteen pages, and six times as many
+abbrev pub bytes_of : Layout → ℕ
+bytes_of Layout.Sheet = 8192
+bytes_of Layout.Division = 49152
 
 -- edit 11: pages changed alike, one after the other
 unfoldable pub sweep : Train → List ℕ → List ℕ → List ℕ
@@ -35,10 +41,14 @@ swept t (i ∷ is) b = visits_on t (frame i b) + swept t is (change_frame i (pag
 unfoldable pub pair_refusal : Network → Edit → ℕ → ℕ → List ℕ → ℕ
 pair_refusal n e i j b = refuses_on n (meaning e) (frame i b) (frame j b)
 
+abbrev pub removed_in : Shape → ℕ
+removed_in (Local home away adds removes) = removes
+removed_in (Throughout t) = 0
+
 unfoldable pub pair_answer : Network → Edit → ℕ → ℕ → List ℕ → Answer
 pair_answer n e i j b = record {
   refusal = pair_refusal n e i j b;
-  removed = if eqb (pair_refusal n e i j b) 0 then (shape_of (meaning e)).removes else 0;
+  removed = if eqb (pair_refusal n e i j b) 0 then removed_in (shape_of (meaning e)) else 0;
 }
 
 -- where s and p are one, the page of s is what counts
@@ -48,43 +58,37 @@ far_changed e i j b = if eqb i j then b else change_frame j (there_page e) b
 unfoldable pub pair_after : Network → Edit → ℕ → ℕ → List ℕ → List ℕ
 pair_after n e i j b = if eqb (pair_refusal n e i j b) 0 then change_frame i (here_page e) (far_changed e i j b) else b
 
--- an edit on all the pages that it names
+-- an edit on all the pages that it names, by its shape
 
-abbrev pub places : Bool → Network → List ℕ
-places divided n = map (place_of divided n) (stations_of n)
-
--- what they refuse it with
-unfoldable pub frames_refusal : Bool → Network → Edit → List ℕ → ℕ
-frames_refusal divided n e b =
-    if (shape_of (meaning e)).everywhere
-    then 0
-    else pair_refusal n e (place_of divided n (shape_of (meaning e)).home) (place_of divided n (shape_of (meaning e)).away) b
-
--- where they do not refuse it: how many visits it removes, and what it makes of them
-unfoldable pub frames_removed : Bool → Network → Edit → List ℕ → ℕ
-frames_removed divided n e b =
-    if (shape_of (meaning e)).everywhere then swept (shape_of (meaning e)).train (places divided n) b else (shape_of (meaning e)).removes
+abbrev pub places : Layout → Network → List ℕ
+places layout n = map (place_of layout n) (stations_of n)
 
 unfoldable pub pair_changed : Edit → ℕ → ℕ → List ℕ → List ℕ
 pair_changed e i j b = change_frame i (here_page e) (far_changed e i j b)
 
-unfoldable pub frames_changed : Bool → Network → Edit → List ℕ → List ℕ
-frames_changed divided n e b =
-    if (shape_of (meaning e)).everywhere
-    then sweep (shape_of (meaning e)).train (places divided n) b
-    else pair_changed e (place_of divided n (shape_of (meaning e)).home) (place_of divided n (shape_of (meaning e)).away) b
+module _ {A : Type 0} (layout : Layout) (n : Network) where
+  -- by the places of its two pages, or by its train and the places of all
+  abbrev pub by_shape : (ℕ → ℕ → A) → (Train → List ℕ → A) → Shape → A
+  by_shape two all (Local home away adds removes) = two (place_of layout n home) (place_of layout n away)
+  by_shape two all (Throughout t) = all t (places layout n)
 
-unfoldable pub frames_answer : Bool → Network → Edit → List ℕ → Answer
-frames_answer divided n e b =
-    if (shape_of (meaning e)).everywhere
-    then record { refusal = 0; removed = swept (shape_of (meaning e)).train (places divided n) b }
-    else pair_answer n e (place_of divided n (shape_of (meaning e)).home) (place_of divided n (shape_of (meaning e)).away) b
+-- what they refuse it with
+unfoldable pub frames_refusal : Layout → Network → Edit → List ℕ → ℕ
+frames_refusal layout n e b = by_shape layout n (λ i j. pair_refusal n e i j b) (λ t is. 0) (shape_of (meaning e))
 
-unfoldable pub frames_after : Bool → Network → Edit → List ℕ → List ℕ
-frames_after divided n e b =
-    if (shape_of (meaning e)).everywhere
-    then sweep (shape_of (meaning e)).train (places divided n) b
-    else pair_after n e (place_of divided n (shape_of (meaning e)).home) (place_of divided n (shape_of (meaning e)).away) b
+-- where they do not refuse it: how many visits it removes, and what it makes of them
+unfoldable pub frames_removed : Layout → Network → Edit → List ℕ → ℕ
+frames_removed layout n e b = by_shape layout n (λ i j. removed_in (shape_of (meaning e))) (λ t is. swept t is b) (shape_of (meaning e))
+
+unfoldable pub frames_changed : Layout → Network → Edit → List ℕ → List ℕ
+frames_changed layout n e b = by_shape layout n (λ i j. pair_changed e i j b) (λ t is. sweep t is b) (shape_of (meaning e))
+
+unfoldable pub frames_answer : Layout → Network → Edit → List ℕ → Answer
+frames_answer layout n e b =
+    by_shape layout n (λ i j. pair_answer n e i j b) (λ t is. record { refusal = 0; removed = swept t is b }) (shape_of (meaning e))
+
+unfoldable pub frames_after : Layout → Network → Edit → List ℕ → List ℕ
+frames_after layout n e b = by_shape layout n (λ i j. pair_after n e i j b) (λ t is. sweep t is b) (shape_of (meaning e))
 
 -- The key ring of this module: `unfolding opened` opens every definition above.
 unfoldable pub opened : Unit {0}
