@@ -1,15 +1,15 @@
 -- Whether an edit names a station of an area: where it works at two stations, their areas decide, as stations with one
 -- number have one area; where it works everywhere, the network's stations are asked row by row. And whether the sheets
 -- of the named areas are good, sheet by sheet. Assumes nothing.
-use Prim.Native.Nat.{ℕ, ◌+◌, ◌*◌, ◌-◌, ◌<◌, ◌≤◌, min}
+use Prim.Native.Nat.{ℕ, ◌+◌, ◌*◌, ◌-◌, ◌<◌, ◌≤◌}
 use mathlib.Core.Path.{◌≡◌, refl, sym, ◌∙◌, ap, ap₂, fun_ext}
 use mathlib.Core.Bool.{Bool, true, false, not, ◌&&◌, ◌||◌}
 use mathlib.Core.List.{List, [], ◌∷◌, map}
-use mathlib.Core.Option.{Option, none, some}
+use Rattle.std.specs.Prelude.{Option, None, Some}
 use native.Mathlib.Nat.{add-sub_cancel_left}
 use native.Mathlib.Omega.{arith}
 use lib.Dec.{eqb}
-use lib.ListN.{length, get_or, take, drop, drop_of_length-le}
+use lib.ListN.{length, take, drop, drop_of_length-le}
 use borrow.Author.Tests.{eqb-true, eq-eqb, ne_eqb}
 use Rattle.base.specs.Choice.{◌if◌else◌}
 use Rattle.std.specs.Prelude.{if◌then◌else◌}
@@ -17,7 +17,7 @@ use Rattle.base.specs.Lists.{any, every, is}
 use Rattle.base.proofs.Tests.{T_true, and_turned, eqb_turned, held}
 use Rattle.base.proofs.Lengths.{every_next}
 use Rattle.railway.specs.Ranges.{same_station}
-use Rattle.network.specs.Networks.{blank_station, station_rows, station_row, stations_of, listed, row_area, area_of, area_found, network_refusal}
+use Rattle.network.specs.Networks.{station_rows, station_row, stations_of, listed, row_area, area_of, area_in, network_refusal}
 use Rattle.network.specs.declared.StationRow.{StationRow}
 use Rattle.network.proofs.RowsInUse.{listed_found}
 use Rattle.timetable.specs.Groups.{six}
@@ -29,7 +29,6 @@ use Rattle.sheet.specs.Sheets.{sheet_at}
 use Rattle.sheet.specs.declared.test.Extent.{Extent}
 use Rattle.sheet.specs.between.Passes.{sheet_passes}
 use Rattle.sheet.proofs.SheetLaws.{area_at}
-use Rattle.page_edits.proofs.RowSteps.{in_use, row_on, rows_over}
 use Rattle.named_sheets.specs.Types.{Station, Edit, Network, Reach}
 use Rattle.named_sheets.specs.between.Named.{touches_at, touches_area, reach_of, found_in, has_station, reaches_area, reach_passes, area_passes, named_pass, named_refusal}
 
@@ -80,16 +79,16 @@ module _ (n : Network) (a : ℕ) where
       go true e = ap (λ (k : ℕ). in_area (record { 0 = k })) (sym (eqb-true h.0 s.0 e))
       go false e = refl
 
-  found : (h : Station) → found_in a (area_found (station_row n h)) ≡ any (λ s. same_station h s && in_area s) (stations_of n)
-  unfolding found_in listed area_of
+  found : (h : Station) → found_in a (area_in (station_row n h)) ≡ any (λ s. same_station h s && in_area s) (stations_of n)
+  unfolding listed area_of
   found h =
       told (station_row n h)
       ∙ ap (λ (b : Bool). b && in_area h) (sym (listed_found n h))
       ∙ sym (ap (λ (f : Station → Bool). any f (stations_of n)) (fun_ext (at_one h)) ∙ any_and (same_station h) (in_area h) (stations_of n))
     where
-      told : (o : Option StationRow) → found_in a (area_found o) ≡ (is (λ r. true) o && eqb a (row_area o))
-      told none = refl
-      told (some r) = refl
+      told : (o : Option StationRow) → found_in a (area_in o) ≡ (is (λ r. true) o && eqb a (row_area o))
+      told None = refl
+      told (Some r) = eqb_turned r.area.0 a
 
   -- so the areas of an edit's stations are those of the listed stations that it names
   reached : (m : Meaning) → reaches_area n (reach_of n (shape_of m)) a ≡ any (λ s. in_area s && touches m s) (stations_of n)
@@ -115,32 +114,14 @@ module _ (n : Network) (a : ℕ) where
           spread (in_area s) (same_station s x.home) (same_station s x.away) (same_station x.home s) (same_station x.away s)
           (eqb_turned s.0 x.home.0) (eqb_turned s.0 x.away.0)
 
-reach_touches : (n : Network) (e : Edit) (a : ℕ) → reaches_area n (reach_of n (shape_of (meaning e))) a ≡ touches_area n e a
+pub reach_touches : (n : Network) (e : Edit) (a : ℕ) → reaches_area n (reach_of n (shape_of (meaning e))) a ≡ touches_area n e a
 unfolding touches_area touches_at
 reach_touches n e a = reached n a (meaning e)
 
--- of a row
-abbrev pub row_in : Network → ℕ → StationRow → Bool
-row_in n a r = eqb a (area_of n r.station)
-
-module _ (n : Network) (k : ℕ) (many : length n.stations ≡ 16) (e : k ≡ min n.stationcount 16) where
-  pub areas_are : (a : ℕ) → has_station n a ≡ any (row_in n a) (take k n.stations)
-  unfolding has_station stations_of
-  areas_are a =
-      any_map (λ s. eqb a (area_of n s)) (λ r. r.station) (station_rows n) ∙ ap (any (row_in n a)) (in_use n k many e)
-
-module _ (rows : List StationRow) (k : ℕ) (fits : k ≤ length rows) (i : ℕ) (f : StationRow → Bool) where
-  pub any_yes : i < k → f (get_or rows i blank_station) ≡ true → any f (drop i (take k rows)) ≡ true
-  unfolding any
-  any_yes h e = rw (row_on rows k fits i h, e)
-
-  pub any_on : i < k → f (get_or rows i blank_station) ≡ false → any f (drop i (take k rows)) ≡ any f (drop (i + 1) (take k rows))
-  unfolding any
-  any_on h e = ap (any f) (row_on rows k fits i h) ∙ rw e
-
-  pub any_over : k ≤ i → any f (drop i (take k rows)) ≡ false
-  unfolding any
-  any_over h = rw (rows_over rows k fits i h)
+-- asked of the network's rows, which are those of its stations
+pub areas_are : (n : Network) (a : ℕ) → has_station n a ≡ any (λ r. eqb a (area_of n r.station)) (station_rows n)
+unfolding has_station stations_of
+areas_are n a = any_map (λ s. eqb a (area_of n s)) (λ r. r.station) (station_rows n)
 
 -- the sheets of a division, one after the other
 
