@@ -1,19 +1,16 @@
--- A relation's numbers with one train more, and the trains of four places one after the other. Assumes nothing.
-use Prim.Native.Nat.{ℕ, ◌+◌, ◌<◌, ◌≤◌}
+-- A place of a relation adds one number at most, and the trains of four places stand one after the other. Assumes
+-- nothing.
+use Prim.Native.Nat.{ℕ, ◌+◌, ◌≤◌}
 use mathlib.Core.Path.{◌≡◌, refl, sym, ◌∙◌, ap}
 use mathlib.Core.Bool.{Bool, true, false}
-use mathlib.Core.List.{List, [], ◌∷◌, ◌++◌, map, append-nil, append_assoc}
+use mathlib.Core.List.{List, [], ◌∷◌, ◌++◌, map, append_assoc}
 use native.Mathlib.Omega.{arith}
-use lib.ListN.{length, set, length-append}
-use borrow.Author.Tests.{lt-ltb, le-ltb}
+use lib.ListN.{length, length-append}
 use Rattle.std.specs.Prelude.{if◌then◌else◌}
 use Rattle.base.specs.Lists.{keep}
 use Rattle.railway.specs.Relations.{present, used}
 use Rattle.railway.specs.declared.sorts.Train.{Train}
 use Rattle.railway.specs.declared.relation.Trains.{Trains}
-use Rattle.fields.specs.declared.put.Numbers.{Numbers}
-use Rattle.fields.specs.between.Answers.{row_of}
-use Rattle.fields.proofs.ReadLaws.{padded_next}
 
 -- the train of a place, if it holds one
 abbrev pub one : Train → List ℕ
@@ -26,22 +23,6 @@ one_more ns t k h = go (present t)
     go : (b : Bool) → length (ns ++ map (λ (u : Train). u.0) (if b then t ∷ [] else [])) ≤ k + 1
     go true = omega (arith, h, length-append ns (t.0 ∷ []))
     go false = omega (arith, h, length-append {A = ℕ} ns [])
-
--- one train more in a row that holds these numbers
-module _ (f : Numbers) (t : Train) (ns : List ℕ) (e : f ≡ row_of ns) where
-  pub train_more : length ns < 13 → 0 < t.0 → record { count = f.count + 1; values = set f.values f.count t.0 } ≡ row_of (ns ++ one t)
-  unfolding row_of keep
-  train_more room p =
-      ap (λ (g : Numbers). record { count = g.count + 1; values = set g.values g.count t.0 }) e
-      ∙ rw (lt-ltb 0 t.0 p, padded_next 13 0 ns (length ns) t.0 refl room, length-append ns (t.0 ∷ []))
-
-  pub train_none : ¬ (0 < t.0) → f ≡ row_of (ns ++ one t)
-  unfolding keep
-  train_none p = let z : t.0 ≤ 0 = omega arith in rw (le-ltb 0 t.0 z) (e ∙ ap row_of (sym (append-nil ns)))
-
-  pub train_count : f.count ≡ length ns
-  unfolding row_of
-  train_count = ap (λ (g : Numbers). g.count) e
 
 keep_cons : (x : Train) (xs : List Train) → map (λ u. u.0) (keep present (x ∷ xs)) ≡ one x ++ map (λ u. u.0) (keep present xs)
 unfolding keep

@@ -11,15 +11,11 @@ use railway::relation::{Relation, Trains};
 use railway::sorts::{Station, Train};
 
 // One train more, if the place holds one.
-fn with_train(f: Numbers, t: Train) -> Numbers
-    ensures { (ns : List ℕ) → f ≡ row_of ns → length ns < 13 → result ≡ row_of (ns ++ map (λ u. u.0) (keep present (t ∷ []))) }
+#[tactic(auto, unfolding(base::specs::Lists::keep, railway::specs::Relations::present))]
+fn with_train(row: Numbers, t: Train) -> Numbers
+    ensures { (ns : List ℕ) → row ≡ row_of ns → length ns < 13 → result ≡ row_of (ns ++ map (λ u. u.0) (keep present (t ∷ []))) }
 {
-    let mut more = f;
-    if t.0 > 0 && f.count < 13 {
-        more.values[f.count] = t.0;
-        more.count += 1;
-    }
-    more
+    if t.0 > 0 { row.with(t.0) } else { row }
 }
 
 // A connection or a disconnection, by its kind.
