@@ -30,7 +30,7 @@ use Rattle.network.proofs.AreaLaws.{area_high, listed_placed, listed_ok}
 use Rattle.page.proofs.PageLaws.{Coded, empty_coded, blank_page, good_bytes, good_table}
 use Rattle.sheet.proofs.SheetLaws.{area_number, station_low, station_high, page_good, page_zeros, decoded_page, good_all_coded, encoded_size, encoded_page}
 use Rattle.sheet.proofs.SheetLaws.{sheets_equal, sheet_size, sheets_whole, row_same, all_areas, each_area}
-use Rattle.machine.specs.Types.{Station, Edit, Network}
+use Rattle.machine.specs.Types.{Layout, Station, Edit, Network}
 use Rattle.machine.specs.Calls.{refused_with, sheet_refusal, sheet_answer, sheet_after}
 use Rattle.machine.specs.Calls.{named_good, parts, division_refusal, division_answer, division_after}
 use Rattle.page_edits.specs.between.PageEdits.{place_of, frames_answer, frames_after}
@@ -42,12 +42,12 @@ use Rattle.machine.proofs.ByteEdits.{in_listed, whole_of, page_of, whole_later, 
 -- the places of stations
 
 -- different stations of 1..16 have different places
-pub place_apart : (divided : Bool) (n : Network) (k j : Station) → T (station_ok k) → T (station_ok j) → place_of divided n k ≡ place_of divided n j → k ≡ j
+pub place_apart : (layout : Layout) (n : Network) (k j : Station) → T (station_ok k) → T (station_ok j) → place_of layout n k ≡ place_of layout n j → k ≡ j
 unfolding place_of
-place_apart true n k j s u q =
+place_apart Layout.Division n k j s u q =
     let same : k.0 ≡ j.0 = omega (arith, station_low k s, station_high k s, station_low j u, station_high j u) in
     λ i. record { 0 = same i }
-place_apart false n k j s u q =
+place_apart Layout.Sheet n k j s u q =
     let same : k.0 ≡ j.0 = omega (arith, station_low k s, station_high k s, station_low j u, station_high j u) in
     λ i. record { 0 = same i }
 
@@ -55,13 +55,13 @@ module _ (n : Network) (e : Edit) (early : Early n e) where
   pub named_ok : (k : Station) → T (names n e k) → T (station_ok k)
   named_ok k t = listed_ok n early.network k (names_listed n e k t)
 
-  pub named_apart : (divided : Bool) (k j : Station) → T (names n e k) → T (names n e j) → place_of divided n k ≡ place_of divided n j → k ≡ j
-  named_apart divided k j t u = place_apart divided n k j (named_ok k t) (named_ok j u)
+  pub named_apart : (layout : Layout) (k j : Station) → T (names n e k) → T (names n e j) → place_of layout n k ≡ place_of layout n j → k ≡ j
+  named_apart layout k j t u = place_apart layout n k j (named_ok k t) (named_ok j u)
 
 -- on a sheet
 
 module _ (n : Network) (e : Edit) (early : Early n e) (sheet : List ℕ) (size : length sheet ≡ 8192) (fine : T (good_sheet n (listed n) sheet)) where
-  sheet_holds : Holds (place_of false n) (names n e) (decode_sheet sheet) sheet
+  sheet_holds : Holds (place_of Layout.Sheet n) (names n e) (decode_sheet sheet) sheet
   unfolding place_of
   sheet_holds = record {
     room = λ k t. omega (arith, size, station_low k (named_ok n e early k t), station_high k (named_ok n e early k t));
@@ -71,11 +71,11 @@ module _ (n : Network) (e : Edit) (early : Early n e) (sheet : List ℕ) (size :
   sheet_tables : (k : Station) → T (names n e k) → T (table_good n k (decode_sheet sheet k))
   sheet_tables k t = (whole_of n early.network sheet size fine).good k (names_listed n e k t)
 
-  pub sheet_answers : frames_answer false n e sheet ≡ answer n e (decode_sheet sheet)
-  sheet_answers = frames_answers n early.network false e early.ok early.fits (named_apart n e early false) (decode_sheet sheet) sheet_tables sheet sheet_holds
+  pub sheet_answers : frames_answer Layout.Sheet n e sheet ≡ answer n e (decode_sheet sheet)
+  sheet_answers = frames_answers n early.network Layout.Sheet e early.ok early.fits (named_apart n e early Layout.Sheet) (decode_sheet sheet) sheet_tables sheet sheet_holds
 
-  sheet_step : Step (place_of false n) (names n e) (after n e (decode_sheet sheet)) sheet (frames_after false n e sheet)
-  sheet_step = frames_step n early.network false e early.ok early.fits (named_apart n e early false) (decode_sheet sheet) sheet_tables sheet sheet_holds
+  sheet_step : Step (place_of Layout.Sheet n) (names n e) (after n e (decode_sheet sheet)) sheet (frames_after Layout.Sheet n e sheet)
+  sheet_step = frames_step n early.network Layout.Sheet e early.ok early.fits (named_apart n e early Layout.Sheet) (decode_sheet sheet) sheet_tables sheet sheet_holds
 
   abbrev later : Timetable
   later = after n e (decode_sheet sheet)
@@ -83,18 +83,18 @@ module _ (n : Network) (e : Edit) (early : Early n e) (sheet : List ℕ) (size :
   later_page : (k : Station) → T (station_ok k) → page_at (encode_sheet later) k ≡ encode_page (later k)
   later_page k s = encoded_page later (λ j u. good_all_coded n (listed n) (listed_ok n early.network) later (whole_later n early.network sheet size fine e) j) k s
 
-  page_later : (k : Station) → T (station_ok k) → page_at (frames_after false n e sheet) k ≡ encode_page (later k)
+  page_later : (k : Station) → T (station_ok k) → page_at (frames_after Layout.Sheet n e sheet) k ≡ encode_page (later k)
   unfolding place_of
   page_later k s = by_test (names n e k)
-      (λ t. sheet_frame (frames_after false n e sheet) k ∙ sheet_step.holds.page k t)
-      (λ t. sheet_frame (frames_after false n e sheet) k
-      ∙ sheet_step.other (k.0 - 1) (λ j u q. t (rw (place_apart false n j k (named_ok n e early j u) s q) at u))
+      (λ t. sheet_frame (frames_after Layout.Sheet n e sheet) k ∙ sheet_step.holds.page k t)
+      (λ t. sheet_frame (frames_after Layout.Sheet n e sheet) k
+      ∙ sheet_step.other (k.0 - 1) (λ j u q. t (rw (place_apart Layout.Sheet n j k (named_ok n e early j u) s q) at u))
       ∙ sym (sheet_frame sheet k) ∙ page_of n early.network sheet size fine k s
       ∙ ap encode_page (sym (others_kept n e (decode_sheet sheet) k t)))
 
-  pub sheet_bytes : frames_after false n e sheet ≡ encode_sheet later
+  pub sheet_bytes : frames_after Layout.Sheet n e sheet ≡ encode_sheet later
   sheet_bytes =
-      sheets_equal (frames_after false n e sheet) (encode_sheet later) (sheet_step.size ∙ size) (later_size n early.network sheet size fine e)
+      sheets_equal (frames_after Layout.Sheet n e sheet) (encode_sheet later) (sheet_step.size ∙ size) (later_size n early.network sheet size fine e)
       (λ k s. page_later k s ∙ sym (later_page k s))
 
 -- on a division
@@ -174,7 +174,7 @@ module _ (n : Network) (e : Edit) (early : Early n e) (division : List ℕ) (siz
   named_area : (k : Station) → T (names n e k) → names_group n γ e (γ k) ≡ true
   named_area k t = T_true (names_group n γ e (γ k)) (group_named n γ e k t)
 
-  division_holds : Holds (place_of true n) (names n e) gathered division
+  division_holds : Holds (place_of Layout.Division n) (names n e) gathered division
   unfolding place_of
   division_holds = record { room = room; page = page }
     where
@@ -191,15 +191,15 @@ module _ (n : Network) (e : Edit) (early : Early n e) (division : List ℕ) (siz
   division_tables : (k : Station) → T (names n e k) → T (table_good n k (gathered k))
   division_tables k t = gathered_whole.good k (names_listed n e k t)
 
-  pub division_answers : frames_answer true n e division ≡ divided_answer n γ e (parts division)
+  pub division_answers : frames_answer Layout.Division n e division ≡ divided_answer n γ e (parts division)
   unfolding divided_answer gathered
-  division_answers = frames_answers n early.network true e early.ok early.fits (named_apart n e early true) gathered division_tables division division_holds
+  division_answers = frames_answers n early.network Layout.Division e early.ok early.fits (named_apart n e early Layout.Division) gathered division_tables division division_holds
 
   abbrev done : List ℕ
-  done = frames_after true n e division
+  done = frames_after Layout.Division n e division
 
-  division_step : Step (place_of true n) (names n e) now_later division done
-  division_step = frames_step n early.network true e early.ok early.fits (named_apart n e early true) gathered division_tables division division_holds
+  division_step : Step (place_of Layout.Division n) (names n e) now_later division done
+  division_step = frames_step n early.network Layout.Division e early.ok early.fits (named_apart n e early Layout.Division) gathered division_tables division division_holds
 
   -- the page of a station that the edit names
   named_page : (k : Station) → T (names n e k) → page_at (sheet_at done (γ k)) k ≡ encode_page (now_later k)

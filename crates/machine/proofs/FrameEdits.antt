@@ -31,7 +31,7 @@ use Rattle.page.proofs.PageLaws.{Coded, page_length, good_coded}
 use Rattle.actions.specs.between.Shapes.{shape_of}
 use Rattle.actions.specs.Early.{fits_network}
 use Rattle.edit_changes.specs.between.EditPages.{page_without, here_page, there_page}
-use Rattle.machine.specs.Types.{Station, Train, Edit, Network}
+use Rattle.machine.specs.Types.{Layout, Station, Train, Edit, Network}
 use Rattle.page_edits.specs.between.PageEdits.{place_of, sweep, visits_on, swept}
 use Rattle.sheet.specs.between.Frames.{frame, change_frame}
 use Rattle.page_edits.specs.between.PageEdits.{pair_refusal, pair_answer, far_changed, pair_after, frames_answer, frames_after}
@@ -261,12 +261,12 @@ pub every_listed : (n : Network) → T (every (listed n) (stations_of n))
 unfolding listed
 every_listed n = every_any same_station (λ k. eqb_refl k.0) (stations_of n)
 
-module _ (n : Network) (good : network_refusal n ≡ 0) (divided : Bool) (e : Edit) (ok : T (sound e)) (fits : T (fits_network n (meaning e)))
-    (apart : (k j : Station) → T (names n e k) → T (names n e j) → place_of divided n k ≡ place_of divided n j → k ≡ j)
+module _ (n : Network) (good : network_refusal n ≡ 0) (layout : Layout) (e : Edit) (ok : T (sound e)) (fits : T (fits_network n (meaning e)))
+    (apart : (k j : Station) → T (names n e k) → T (names n e j) → place_of layout n k ≡ place_of layout n j → k ≡ j)
     (m : Timetable) (tables : (k : Station) → T (names n e k) → T (table_good n k (m k)))
-    (b : List ℕ) (h : Holds (place_of divided n) (names n e) m b) where
+    (b : List ℕ) (h : Holds (place_of layout n) (names n e) m b) where
   abbrev at : Station → ℕ
-  at = place_of divided n
+  at = place_of layout n
 
   module _ (a : Action) (mean : meaning e ≡ local a) where
     home_good : T (table_good n a.home (m a.home))
@@ -281,7 +281,7 @@ module _ (n : Network) (good : network_refusal n ≡ 0) (divided : Bool) (e : Ed
         rw (mean, h.page a.home (home_named n e ok fits m a mean), h.page a.away (away_named n e ok fits m a mean))
         (pages_refuse n a (m a.home) (m a.away) home_good away_good)
 
-    pair_answers : frames_answer divided n e b ≡ answer n e m
+    pair_answers : frames_answer layout n e b ≡ answer n e m
     unfolding frames_answer pair_answer shape_of
     pair_answers = rw (mean, same_refusal) (sym (answer_local n e ok fits m a mean))
 
@@ -306,7 +306,7 @@ module _ (n : Network) (good : network_refusal n ≡ 0) (divided : Bool) (e : Ed
         (good_coded n a.home (a.here (m a.home)) (table_fits n a.home (a.here (m a.home)) here))
         (good_coded n a.away (a.there (m a.away)) (table_fits n a.away (a.there (m a.away)) there))
 
-    pair_step : Step at (names n e) (after n e m) b (frames_after divided n e b)
+    pair_step : Step at (names n e) (after n e m) b (frames_after layout n e b)
     unfolding frames_after pair_after shape_of
     pair_step =
         rw (after_local n e ok fits m a mean, mean, same_refusal)
@@ -325,30 +325,30 @@ module _ (n : Network) (good : network_refusal n ≡ 0) (divided : Bool) (e : Ed
     unfolding listed
     good_there k u = tables k (all_named k u)
 
-    sweep_answers : frames_answer divided n e b ≡ answer n e m
+    sweep_answers : frames_answer layout n e b ≡ answer n e m
     unfolding frames_answer shape_of
     sweep_answers =
         rw (mean, swept_count at (names n e) apart n t (stations_of n) m b h named_stations (stations_apart n good) good_there)
         (sym (answer_all n e ok fits m t mean))
 
-    all_step : Step at (names n e) (after n e m) b (frames_after divided n e b)
+    all_step : Step at (names n e) (after n e m) b (frames_after layout n e b)
     unfolding frames_after shape_of
     all_step =
         rw (mean, after_all n e ok fits m t mean)
         (sweep_step at (names n e) apart n t (stations_of n) m b h named_stations (stations_apart n good) good_there)
 
   -- the edit on the pages answers as the central machine does on their tables
-  pub frames_answers : frames_answer divided n e b ≡ answer n e m
+  pub frames_answers : frames_answer layout n e b ≡ answer n e m
   frames_answers = go (meaning e) refl
     where
-      go : (μ : Meaning) → meaning e ≡ μ → frames_answer divided n e b ≡ answer n e m
+      go : (μ : Meaning) → meaning e ≡ μ → frames_answer layout n e b ≡ answer n e m
       go (local a) q = pair_answers a q
       go (throughout t) q = sweep_answers t q
 
   -- and leaves its tables on them, and every other page as it was
-  pub frames_step : Step at (names n e) (after n e m) b (frames_after divided n e b)
+  pub frames_step : Step at (names n e) (after n e m) b (frames_after layout n e b)
   frames_step = go (meaning e) refl
     where
-      go : (μ : Meaning) → meaning e ≡ μ → Step at (names n e) (after n e m) b (frames_after divided n e b)
+      go : (μ : Meaning) → meaning e ≡ μ → Step at (names n e) (after n e m) b (frames_after layout n e b)
       go (local a) q = pair_step a q
       go (throughout t) q = all_step t q

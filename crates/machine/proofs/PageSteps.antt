@@ -4,8 +4,7 @@ use Prim.Native.Nat.{◌<◌}
 use mathlib.Core.Path.{◌≡◌, refl, sym, ◌∙◌, ap, ap₂}
 use mathlib.Core.Bool.{Bool, true, false, not}
 use mathlib.Core.List.{List, [], ◌∷◌, map}
-use mathlib.Core.Option
-use mathlib.Core.Option.{Option, none, some}
+use Rattle.std.specs.Prelude.{Option, None, Some, option_map}
 use native.Mathlib.Omega.{arith}
 use lib.Dec.{T, ltb→lt}
 use lib.ListN.{length}
@@ -51,15 +50,15 @@ alone t x xs e o =
 
 -- what its visit becomes is what the change makes of the one that is found
 change_found : (t : Train) (f : Visit → Visit) (v : Visit) (es : List Entry) → T (each_two (smaller number) es)
-    → Option.map (λ (e : Entry). e.visit) (first (λ e. same_train e.train t) es) ≡ some v
+    → option_map (λ (e : Entry). e.visit) (first (λ e. same_train e.train t) es) ≡ Some v
     → map (change_entry t (λ w. f v)) es ≡ map (change_entry t f) es
 unfolding change_entry first
 change_found t f v [] o q = refl
 change_found t f v (x ∷ xs) o q = go (same_train x.train t) refl q (change_found t f v xs (two_tail (smaller number) x xs o))
   where
     go : (b : Bool) → same_train x.train t ≡ b
-        → Option.map (λ (e : Entry). e.visit) (if b then some x else first (λ e. same_train e.train t) xs) ≡ some v
-        → (Option.map (λ (e : Entry). e.visit) (first (λ e. same_train e.train t) xs) ≡ some v → map (change_entry t (λ w. f v)) xs ≡ map (change_entry t f) xs)
+        → option_map (λ (e : Entry). e.visit) (if b then Some x else first (λ e. same_train e.train t) xs) ≡ Some v
+        → (option_map (λ (e : Entry). e.visit) (first (λ e. same_train e.train t) xs) ≡ Some v → map (change_entry t (λ w. f v)) xs ≡ map (change_entry t f) xs)
         → ((if b then record { train = x.train; visit = f v } else x) ∷ map (change_entry t (λ w. f v)) xs)
         ≡ ((if b then record { train = x.train; visit = f x.visit } else x) ∷ map (change_entry t f) xs)
     go true e p ih =
@@ -68,7 +67,7 @@ change_found t f v (x ∷ xs) o q = go (same_train x.train t) refl q (change_fou
         ap₂ (λ (w : Visit) (ys : List Entry). record { train = x.train; visit = f w } ∷ ys) (sym s) (change_lacking t (λ w. f v) xs l ∙ sym (change_lacking t f xs l))
     go false e p ih = ap (λ ys. x ∷ ys) (ih p)
 
-missing : (t : Train) (tab : Table) → visit_of t tab ≡ none → has_visit t tab ≡ false
+missing : (t : Train) (tab : Table) → visit_of t tab ≡ None → has_visit t tab ≡ false
 unfolding has_visit
 missing t tab e = rw e
 
@@ -93,10 +92,10 @@ module _ (n : Network) (s : Station) (tab : Table) (good : T (table_good n s tab
     change_page f = rw table_here (go (visit_of t tab) refl)
       where
         go : (o : Option Visit) → visit_of t tab ≡ o → page_changed t f o (encode_page tab) ≡ encode_page (change_visit t f tab)
-        go none e =
+        go None e =
             ap (λ (es : List Entry). encode_page (record { visits = es; relations = tab.relations }))
             (sym (change_lacking t f tab.visits (absent t tab (missing t tab e))))
-        go (some v) e =
+        go (Some v) e =
             write_visit_page t tab fit facts.visits.order (f v)
             ∙ ap (λ (es : List Entry). encode_page (record { visits = es; relations = tab.relations })) (change_found t f v tab.visits facts.visits.order e)
 
