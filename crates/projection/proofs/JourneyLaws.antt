@@ -4,7 +4,7 @@ use Prim.Native.Nat.{ℕ, zero, suc, ◌+◌, ◌*◌, ◌-◌}
 use mathlib.Core.Path.{◌≡◌, refl, sym, ◌∙◌, ap}
 use mathlib.Core.Bool.{true, false}
 use mathlib.Core.List.{List, [], ◌∷◌, ◌++◌, flat_map}
-use mathlib.Core.Option.{Option, none, some}
+use Rattle.std.specs.Prelude.{Option, None, Some}
 use native.Mathlib.Omega.{arith}
 use lib.IntN.{ℤ}
 use lib.ListN.{length, take, drop, length-append}
@@ -30,11 +30,11 @@ page_there sheet s i size e ok = ap table_in (station_is sheet s i e size ok) �
 
 -- a link whose far visit is there, or is not
 module _ (s : Station) (t : Train) (o : Outward) (there : Table) where
-  pub answered_by : (w : Visit) → visit_of t there ≡ some w → comes_from s o.line w ≡ out_answered s t o there
+  pub answered_by : (w : Visit) → visit_of t there ≡ Some w → comes_from s o.line w ≡ out_answered s t o there
   unfolding out_answered
   answered_by w e = sym (rw e)
 
-  pub answered_not : visit_of t there ≡ none → false ≡ out_answered s t o there
+  pub answered_not : visit_of t there ≡ None → false ≡ out_answered s t o there
   unfolding out_answered
   answered_not e = sym (rw e)
 
@@ -43,8 +43,8 @@ module _ (s : Station) (t : Train) (o : Outward) (there : Table) where
 abbrev from_found : ℕ → Timetable → Train → Station → ℕ → Option Visit → List Row
 from_found k m t s a found =
     elim found [
-      | none ↦ []
-      | some v ↦
+      | None ↦ []
+      | Some v ↦
           row s v (expected_arrival v a)
           ∷ from_departure (from_arrival k m t) m s t v (expected_departure v (expected_arrival v a))
     ]
@@ -59,19 +59,19 @@ module _ (sheet : List ℕ) (t : Train) (s : Station) (a : ℕ) where
   unfolding arrival_numbers rows_numbers from_arrival flat_map
   arrival_none k e = rw e
 
-  pub arrival_missing : (k : ℕ) → ¬ (k ≡ 0) → visit_of t (decode_sheet sheet s) ≡ none → arrival_numbers k sheet t s a ≡ []
+  pub arrival_missing : (k : ℕ) → ¬ (k ≡ 0) → visit_of t (decode_sheet sheet s) ≡ None → arrival_numbers k sheet t s a ≡ []
   unfolding arrival_numbers rows_numbers flat_map
   arrival_missing k z e = ap rows_numbers (from_step k (decode_sheet sheet) t s a z ∙ ap (from_found (k - 1) (decode_sheet sheet) t s a) e)
 
   -- its row, and the rows from its departure on
-  pub arrival_row : (k : ℕ) → ¬ (k ≡ 0) → (v : Visit) → visit_of t (decode_sheet sheet s) ≡ some v
+  pub arrival_row : (k : ℕ) → ¬ (k ≡ 0) → (v : Visit) → visit_of t (decode_sheet sheet s) ≡ Some v
       → arrival_numbers k sheet t s a
       ≡ row_numbers (row s v (expected_arrival v a)) ++ departure_numbers (k - 1) sheet t s v (expected_departure v (expected_arrival v a))
   unfolding arrival_numbers departure_numbers rows_numbers flat_map
   arrival_row k z v e = ap rows_numbers (from_step k (decode_sheet sheet) t s a z ∙ ap (from_found (k - 1) (decode_sheet sheet) t s a) e)
 
   -- the same, as the code names the row
-  pub arrival_known : (k : ℕ) → ¬ (k ≡ 0) → (v : Visit) → visit_of t (decode_sheet sheet s) ≡ some v
+  pub arrival_known : (k : ℕ) → ¬ (k ≡ 0) → (v : Visit) → visit_of t (decode_sheet sheet s) ≡ Some v
       → (b : ℕ) → b ≡ expected_arrival v a → (r : Row) → r ≡ row s v b
       → arrival_numbers k sheet t s a ≡ row_numbers r ++ departure_numbers (k - 1) sheet t s v r.departure
   unfolding row

@@ -7,4 +7,5 @@ pub use Rattle.railway.specs.declared.visit.OutLink.{OutLink}
 pub use Rattle.railway.specs.declared.visit.Visit.{Visit}
 pub use Rattle.network.specs.declared.Network.{Network}
 pub use Rattle.timetable.specs.declared.Row.{Row}
-pub use Rattle.timetable.specs.declared.Output.{Output}
+pub use Rattle.base.specs.declared.refusal.Refusal.{Refusal}
+pub use Rattle.base.specs.declared.refusal.OutputError.{OutputError}

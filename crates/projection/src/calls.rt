@@ -1,17 +1,17 @@
 // The call: the rows of a train from one visit on, as numbers into a lent buffer. Document 01, "Projection and tally":
 // "It refuses 5, 3, 4, 7, 6, 9, 13.", and 14 straight after 3.
 ghost use Rattle.std.specs.Prelude.{◌≡◌, length};
-ghost use Rattle.timetable.specs.Outputs.{reply, output, output_after};
-ghost use Rattle.projection.specs.Calls.{values_fit, early_refusal, visit_refusal, projected, project_answer, project_after};
+ghost use Rattle.base.specs.RefusalNumbers.{refusal_number};
+ghost use Rattle.timetable.specs.Outputs.{reply_of, output, output_after};
+ghost use Rattle.projection.specs.Calls.{values_fit, early_refusal, projected, project_answer, project_after};
 
 use crate::journey;
+use base::refusal::{OutputError, Refusal};
 use network::Network;
-use page::VisitFound;
 use railway::minute::Minute;
 use railway::sorts::{Station, Train};
 use sheet::test;
 use sheet::test::Extent;
-use timetable::Output;
 
 #[tactic(auto, unfolding(crate::specs::Calls::values_fit))]
 fn are_valid(s: Station, t: Train, a: Minute) -> bool
@@ -20,27 +20,30 @@ fn are_valid(s: Station, t: Train, a: Minute) -> bool
     s.valid() && t.valid() && a.valid()
 }
 
-// 3, 14, 4, 7, or 0: what refuses before the sheet is looked at.
-fn early_refusal(n: Network, s: Station, t: Train, a: Minute) -> u8
-    ensures { result ≡ early_refusal n s t a }
+// 3, 14, 4 or 7: what refuses before the sheet is looked at.
+fn early_refusal(n: &Network, s: Station, t: Train, a: Minute) -> Result<(), Refusal>
+    ensures { refusal_number result ≡ early_refusal n.now s t a }
 {
-    if are_valid(s, t, a) {
-        let r = n.refusal();
-        if r == 0 {
-            if n.listed(s) {
-                return 0;
-            }
-            return 7;
-        }
-        return r;
+    if !are_valid(s, t, a) {
+        return Err(Refusal::OutOfRange);
     }
-    3
+    n.check()?;
+    if n.listed(s) {
+        return Ok(());
+    }
+    Err(Refusal::NotKnown)
 }
 
 // The rows: counted first, then written where there is room.
-fn write_rows(sheet: &[u8], s: Station, t: Train, a: Minute, out: &mut [i32]) -> Output
+fn write_rows(
+    sheet: &[u8],
+    s: Station,
+    t: Train,
+    a: Minute,
+    out: &mut [i32],
+) -> Result<usize, OutputError>
     requires { length sheet.now ≡ 8192 }
-    ensures { (reply result ≡ output 0 (projected s t a sheet.now) out.old)
+    ensures { (reply_of result ≡ output 0 (projected s t a sheet.now) out.old)
         × (out.new ≡ output_after 0 (projected s t a sheet.now) out.old) }
 {
     let first = u32::from(a.0);
@@ -48,38 +51,33 @@ fn write_rows(sheet: &[u8], s: Station, t: Train, a: Minute, out: &mut [i32]) ->
     let mut spare = [0i32; 1];
     let needed = journey::arrive(sheet, t, s, first, 16, &mut spare, 0);
     if out.len() < needed {
-        return Output::TooShort(needed);
+        return Err(OutputError::TooShort(needed));
     }
     journey::arrive(sheet, t, s, first, 16, out, 0);
-    Output::Written(needed)
+    Ok(needed)
 }
 
-fn project_visit(sheet: &[u8], s: Station, t: Train, a: Minute, out: &mut [i32]) -> Output
-    requires { length sheet.now ≡ 8192 }
-    ensures { (reply result ≡ output (visit_refusal s t sheet.now) (projected s t a sheet.now) out.old)
-        × (out.new ≡ output_after (visit_refusal s t sheet.now) (projected s t a sheet.now) out.old) }
-{
-    let found = journey::visit_at(sheet, s, t);
-    match found {
-        VisitFound::Nothing => Output::Refused(9),
-        VisitFound::Is(_) => write_rows(sheet, s, t, a, out),
-    }
-}
-
-// From s, t and an expected arrival a.
-pub fn project(sheet: &[u8], n: Network, s: Station, t: Train, a: Minute, out: &mut [i32]) -> Output
-    ensures { (reply result ≡ project_answer n s t a sheet.now out.old)
-        × (out.new ≡ project_after n s t a sheet.now out.old) }
+/// From s, t and an expected arrival a: how many numbers were written.
+pub fn project(
+    sheet: &[u8],
+    n: &Network,
+    s: Station,
+    t: Train,
+    a: Minute,
+    out: &mut [i32],
+) -> Result<usize, OutputError>
+    ensures { (reply_of result ≡ project_answer n.now s t a sheet.now out.old)
+        × (out.new ≡ project_after n.now s t a sheet.now out.old) }
 {
     if sheet.len() != 8192 {
-        return Output::Refused(5);
+        return Err(OutputError::Refused(Refusal::WrongLength));
     }
-    let early = early_refusal(n, s, t, a);
-    if early != 0 {
-        return Output::Refused(early);
+    early_refusal(n, s, t, a)?;
+    if !test::good_sheet(sheet, n, Extent::Whole) {
+        return Err(OutputError::Refused(Refusal::BadSheet));
     }
-    if test::good_sheet(sheet, n, Extent::Whole) {
-        return project_visit(sheet, s, t, a, out);
+    if journey::visit_at(sheet, s, t).is_none() {
+        return Err(OutputError::Refused(Refusal::Missing));
     }
-    Output::Refused(6)
+    write_rows(sheet, s, t, a, out)
 }

@@ -5,21 +5,19 @@ ghost use Rattle.std.specs.Prelude.{◌≡◌, ◌+◌, ◌*◌, ◌≤◌, leng
 ghost use Rattle.timetable.specs.Tables.{visit_of};
 ghost use Rattle.timetable.specs.Rules.{out_answered};
 ghost use Rattle.sheet.specs.Sheets.{decode_sheet};
-ghost use Rattle.page.specs.between.Changes.{visit_answer};
 ghost use Rattle.timetable.specs.Outputs.{put};
 ghost use Rattle.projection.specs.Numbers.{row_numbers, arrival_numbers, departure_numbers};
 
 use crate::times;
-use page::VisitFound;
 use railway::sorts::{Station, Train};
 use railway::visit::{OutLink, Outward, Visit};
 use sheet::station_page;
 use timetable::Row;
 
 // The train's visit at a station.
-pub(crate) fn visit_at(sheet: &[u8], s: Station, t: Train) -> VisitFound
+pub(crate) fn visit_at(sheet: &[u8], s: Station, t: Train) -> Option<Visit>
     requires { length sheet.now ≡ 8192 }
-    ensures { result ≡ visit_answer (visit_of t (decode_sheet sheet.now s)) }
+    ensures { result ≡ visit_of t (decode_sheet sheet.now s) }
 {
     page::visit_of(station_page::page_of(sheet, s), t)
 }
@@ -29,10 +27,9 @@ fn is_answered(sheet: &[u8], s: Station, t: Train, o: Outward) -> bool
     requires { length sheet.now ≡ 8192 }
     ensures { result ≡ out_answered s t o (decode_sheet sheet.now o.station) }
 {
-    let far = visit_at(sheet, o.station, t);
-    match far {
-        VisitFound::Is(w) => visits::is_from(w, s, o.line),
-        VisitFound::Nothing => false,
+    match visit_at(sheet, o.station, t) {
+        Some(w) => visits::is_from(w, s, o.line),
+        None => false,
     }
 }
 
@@ -75,10 +72,9 @@ pub(crate) fn arrive(
     if left == 0 {
         return 0;
     }
-    let found = visit_at(sheet, s, t);
-    match found {
-        VisitFound::Nothing => 0,
-        VisitFound::Is(v) => {
+    match visit_at(sheet, s, t) {
+        None => 0,
+        Some(v) => {
             let r = times::row_of(s, v, times::expected_arrival(v, a));
             put_row(out, at, r);
             4 + depart(sheet, t, s, v, r.departure, left - 1, out, at + 4)
@@ -103,14 +99,14 @@ fn depart(
         × (out.new ≡ put at (departure_numbers left sheet.now t s v d) out.old)
         × (result ≤ 4 * left) }
 {
-    let link = v.outward;
-    match link {
+    match v.outward {
         OutLink::Nothing => 0,
         OutLink::To(o) => {
             if is_answered(sheet, s, t, o) {
-                return arrive(sheet, t, o.station, d + u32::from(o.run), left, out, at);
+                arrive(sheet, t, o.station, d + u32::from(o.run), left, out, at)
+            } else {
+                0
             }
-            0
         }
     }
 }

@@ -1,31 +1,35 @@
 -- `projection::calls::project` meets its contract: the tests that led to each return decide the refusal, and past them
 -- the rows are written. Assumes nothing.
-use mathlib.Core.Path.{sym, ◌∙◌}
-use native.Mathlib.Omega.{arith}
-use Rattle.projection.proofs.ProjectionCall.{call_refused, call_short, call_early, call_bad, call_good}
+use mathlib.Core.Path.{sym, ◌∙◌, ap}
+use mathlib.Core.Bool.{not}
+use Rattle.std.proofs.lemmas.Result.{err_from_is_err_and}
+use Rattle.projection.proofs.ProjectionCall.{call_short, call_early, call_bad, call_missing, call_good}
 use Rattle.projection.proofs.calls.project.Goals as goal
 
 pub returns-then-sheet-ne8192 : goal.returns-then-sheet-ne8192
 returns-then-sheet-ne8192 c =
     let s = c.args in
-    call_refused s.n s.s s.t s.a s.sheet.now s.out.now 5 (call_short s.n s.s s.t s.a s.sheet.now s.out.now c.if-sheet-ne8192.true) (λ z. omega arith)
+    call_short s.n.now s.s s.t s.a s.sheet.now s.out.now c.if-sheet-ne8192.true
 
-pub returns-then-early-ne0 : goal.returns-then-early-ne0
-returns-then-early-ne0 c =
+pub returns-in_err-early_refusal : goal.returns-in_err-early_refusal
+returns-in_err-early_refusal c =
     let s = c.args in
-    let r = c.early_refusal-early in
-    call_refused s.n s.s s.t s.a s.sheet.now s.out.now r.result
-    (call_early s.n s.s s.t s.a s.sheet.now s.out.now c.if-sheet-ne8192.false r.result r.ensures c.if-early-ne0.true) c.if-early-ne0.true
+    let p = err_from_is_err_and c.from_residual.result c.from_residual.ensures.1 in
+    rw (p.1, p.2) (call_early s.n.now s.s s.t s.a s.sheet.now s.out.now c.if-sheet-ne8192.false c.in_err-early_refusal.field-0.0 c.in_err-early_refusal.ensures)
 
-pub returns-then-good_sheet : goal.returns-then-good_sheet
-returns-then-good_sheet c =
+pub returns-then-not-good_sheet : goal.returns-then-not-good_sheet
+returns-then-not-good_sheet c =
     let s = c.args in
-    call_good s.n s.s s.t s.a s.sheet.now s.out.now c.if-sheet-ne8192.false (sym c.early_refusal-early.ensures ∙ c.if-early-ne0.false)
-    (sym c.good_sheet.ensures ∙ c.if-good_sheet.true) _ _ c.project_visit.ensures
+    call_bad s.n.now s.s s.t s.a s.sheet.now s.out.now c.if-sheet-ne8192.false (sym c.in_ok-early_refusal.ensures) (sym c.good_sheet.ensures ∙ c.if-not-good_sheet.true)
+
+pub returns-then-is_none : goal.returns-then-is_none
+returns-then-is_none c =
+    let s = c.args in
+    call_missing s.n.now s.s s.t s.a s.sheet.now s.out.now c.if-sheet-ne8192.false (sym c.in_ok-early_refusal.ensures)
+    (sym c.good_sheet.ensures ∙ c.if-not-good_sheet.false) c.visit_at.result c.visit_at.ensures (c.is_none.ensures ∙ ap not c.if-is_none.true)
 
 pub returns : goal.returns
 returns c =
     let s = c.args in
-    call_refused s.n s.s s.t s.a s.sheet.now s.out.now 6
-    (call_bad s.n s.s s.t s.a s.sheet.now s.out.now c.if-sheet-ne8192.false (sym c.early_refusal-early.ensures ∙ c.if-early-ne0.false)
-    (sym c.good_sheet.ensures ∙ c.if-good_sheet.false)) (λ z. omega arith)
+    call_good s.n.now s.s s.t s.a s.sheet.now s.out.now c.if-sheet-ne8192.false (sym c.in_ok-early_refusal.ensures)
+    (sym c.good_sheet.ensures ∙ c.if-not-good_sheet.false) c.visit_at.result c.visit_at.ensures (c.is_none.ensures ∙ ap not c.if-is_none.false) _ _ c.write_rows.ensures

@@ -6,7 +6,7 @@ use lib.IntN.{ℤ}
 use lib.ListN.{length}
 use Rattle.timetable.specs.Outputs.{put}
 use Rattle.projection.specs.Calls.{projected}
-use Rattle.timetable.proofs.BuffersFilled.{too_short, fits_in}
+use Rattle.timetable.proofs.OutputLaws.{short_of, filled}
 use Rattle.projection.proofs.ProjectionCall.{from_first}
 use Rattle.projection.proofs.calls.write_rows.Goals as goal
 
@@ -14,7 +14,7 @@ pub returns-then-out-needed : goal.returns-then-out-needed
 returns-then-out-needed c =
     let s = c.args in
     let r = c.arrive-needed in
-    too_short (projected s.s s.t s.a s.sheet.now) s.out.now r.result
+    short_of (projected s.s s.t s.a s.sheet.now) s.out.now r.result
     (r.ensures.0 ∙ ap length (from_first s.s s.t s.a s.sheet.now _ c.from-first.ensures)) c.if-out-needed.true
 
 pub returns : goal.returns
@@ -22,5 +22,5 @@ returns c =
     let s = c.args in
     let r = c.arrive-needed in
     let first = from_first s.s s.t s.a s.sheet.now _ c.from-first.ensures in
-    let x = fits_in (projected s.s s.t s.a s.sheet.now) s.out.now r.result (r.ensures.0 ∙ ap length first) c.if-out-needed.false in
+    let x = filled (projected s.s s.t s.a s.sheet.now) s.out.now r.result (r.ensures.0 ∙ ap length first) c.if-out-needed.false in
     (x.0, c.arrive.ensures.1 ∙ ap (λ (xs : List ℤ). put 0 xs s.out.now) first ∙ x.1)

@@ -9,7 +9,6 @@ use lib.IntN.{ℤ}
 use lib.ListN.{length}
 use Rattle.timetable.specs.Outputs.{put}
 use Rattle.projection.specs.Numbers.{arrival_numbers}
-use Rattle.page.proofs.FoundLaws.{found_some, found_none}
 use Rattle.projection.proofs.JourneyLaws.{arrival_none, arrival_missing, arrival_known}
 use Rattle.projection.proofs.JourneyLaws.{departure_last, departure_on, departure_ends, none_put, row_put}
 use Prim.Native.Nat.{ℕ, ◌+◌}
@@ -21,18 +20,18 @@ arrive-returns-then-left-eq0 t c =
     let x = none_put s.at _ s.out.now (arrival_none s.sheet.now s.t s.s s.a s.left c.if-left-eq0.true) in
     (x.0, x.1, omega arith)
 
-pub arrive-returns-in-Nothing : goal.arrive-returns-in-Nothing
-arrive-returns-in-Nothing t c =
+pub arrive-returns-in-None : goal.arrive-returns-in-None
+arrive-returns-in-None t c =
     let s = c.args in
-    let x = none_put s.at _ s.out.now (arrival_missing s.sheet.now s.t s.s s.a s.left c.if-left-eq0.false (found_none _ _ c.visit_at-found.ensures c.in-Nothing.is)) in
+    let x = none_put s.at _ s.out.now (arrival_missing s.sheet.now s.t s.s s.a s.left c.if-left-eq0.false (sym c.visit_at.ensures ∙ c.in-None.is)) in
     (x.0, x.1, omega arith)
 
-pub arrive-returns-in-Is : goal.arrive-returns-in-Is
-arrive-returns-in-Is t c =
+pub arrive-returns-in-Some : goal.arrive-returns-in-Some
+arrive-returns-in-Some t c =
     let s = c.args in
     let r = c.row_of-r in
     let d = c.depart in
-    let known = arrival_known s.sheet.now s.t s.s s.a s.left c.if-left-eq0.false _ (found_some _ _ _ c.visit_at-found.ensures c.in-Is.is) _ c.expected_arrival.ensures.0 r.result r.ensures.0 in
+    let known = arrival_known s.sheet.now s.t s.s s.a s.left c.if-left-eq0.false _ (sym c.visit_at.ensures ∙ c.in-Some.is) _ c.expected_arrival.ensures.0 r.result r.ensures.0 in
     let x = row_put s.at r.result _ _ s.out.now _ d.result known d.ensures.0 (d.ensures.1 ∙ ap (put (s.at + 4) _) c.put_row.ensures) in
     (x.0, x.1, omega (arith, d.ensures.2, c.if-left-eq0.false))
 

@@ -1,16 +1,15 @@
 -- `projection::journey::is_answered` meets its contract: the far visit, if there is one, decides. Assumes nothing.
-use mathlib.Core.Path.{◌∙◌}
+use mathlib.Core.Path.{sym, ◌∙◌}
 use Rattle.sheet.specs.Sheets.{decode_sheet}
-use Rattle.page.proofs.FoundLaws.{found_some, found_none}
 use Rattle.projection.proofs.JourneyLaws.{answered_by, answered_not}
 use Rattle.projection.proofs.journey.is_answered.Goals as goal
 
-pub returns-in-Is : goal.returns-in-Is
-returns-in-Is c =
+pub returns-in-Some : goal.returns-in-Some
+returns-in-Some c =
     let s = c.args in
-    c.is_from.ensures ∙ answered_by s.s s.t s.o (decode_sheet s.sheet.now s.o.station) _ (found_some _ _ _ c.visit_at-far.ensures c.in-Is.is)
+    c.is_from.ensures ∙ answered_by s.s s.t s.o (decode_sheet s.sheet.now s.o.station) _ (sym c.visit_at.ensures ∙ c.in-Some.is)
 
-pub returns-in-Nothing : goal.returns-in-Nothing
-returns-in-Nothing c =
+pub returns-in-None : goal.returns-in-None
+returns-in-None c =
     let s = c.args in
-    answered_not s.s s.t s.o (decode_sheet s.sheet.now s.o.station) (found_none _ _ c.visit_at-far.ensures c.in-Nothing.is)
+    answered_not s.s s.t s.o (decode_sheet s.sheet.now s.o.station) (sym c.visit_at.ensures ∙ c.in-None.is)
