@@ -6,7 +6,7 @@ use Rattle.std.proofs.Math.Nat.{mul-suc}
 use mathlib.Core.Path.{◌≡◌, refl, sym, ◌∙◌, ap}
 use mathlib.Core.List.{List, [], ◌∷◌, ◌++◌, map, flat_map, append-nil, append_assoc}
 use native.Mathlib.Omega.{arith}
-use lib.ListN.{length, get_or, take, length-map, length-append}
+use lib.ListN.{length, get_or, take, length-map, length-append, length-take}
 use lib.Seq.{take_all}
 use Rattle.network.specs.Networks.{station_rows, stations_of}
 use Rattle.timetable.specs.Tables.{Entry}
@@ -20,6 +20,9 @@ use Rattle.timetable.specs.FileForms.{newest_form}
 use Rattle.timetable.specs.TimetableFile.{StationVisit, visit_numbers, visits_at, relations_at, timetable_numbers_as, timetable_numbers}
 use Rattle.timetable.specs.Outputs.{put}
 use Rattle.fields.specs.between.Putting.{Places}
+use Rattle.fields.specs.declared.put.Numbers.{Numbers}
+use Rattle.fields.specs.between.Answers.{in_use, row_of}
+use Rattle.fields.proofs.RowHolds.{row_held}
 use Rattle.timetable_writing.specs.Types.{Station, Relation, StationRelation, StationRow, Network}
 use Rattle.timetable_writing.specs.between.Parts.{entry_numbers, relation_row, visits_here, relations_here, of_rows, visit_part, relation_part, file_rows}
 use Rattle.fields.proofs.NumbersPut.{places_two}
@@ -137,3 +140,8 @@ pub sum_stations : (f : Station → ℕ) (rows : List StationRow) → sum (λ r.
 unfolding sum
 sum_stations f [] = refl
 sum_stations f (r ∷ rows) = ap (λ (k : ℕ). f r.station + k) (sum_stations f rows)
+
+-- a row of thirteen numbers at most is put whole
+pub whole_row : (r : Numbers) (ns : List ℕ) → r ≡ row_of ns → length r.values ≡ 13 → take 13 (in_use r) ≡ ns
+unfolding in_use
+whole_row r ns e many = take_all 13 (in_use r) (omega (arith, many, length-take r.count r.values)) ∙ row_held e

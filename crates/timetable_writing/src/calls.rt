@@ -1,21 +1,23 @@
 // The timetable that a sheet holds, as it stands in a timetable file: the stations rise, and so do the entries of each.
 // Each function puts its numbers into the lent buffer from a place on and answers the place behind them; on a buffer
 // that is too short it only counts.
-ghost use Rattle.std.specs.Prelude.{List, ℕ, ◌≡◌, ◌+◌, ◌*◌, ◌≤◌, length};
-ghost use Rattle.base.specs.Lists.{sum};
+ghost use Rattle.std.specs.Prelude.{List, ℕ, ◌≡◌, ◌+◌, ◌*◌, ◌≤◌, length, IfOk};
 ghost use Rattle.std.specs.Borrow.{Bor, MutBor};
+ghost use Rattle.base.specs.Lists.{sum};
+ghost use Rattle.network.specs.Networks.{station_rows};
 ghost use Rattle.timetable.specs.Tables.{Table};
 ghost use Rattle.timetable.specs.Count.{visit_count, relation_count};
 ghost use Rattle.timetable.specs.Formats.{bytes_of};
-ghost use Rattle.timetable.specs.Outputs.{reply, put};
+ghost use Rattle.timetable.specs.Outputs.{reply_of, put};
 ghost use Rattle.timetable.specs.FileForms.{newest_form};
 ghost use Rattle.timetable.specs.TimetableFile.{visit_numbers};
 ghost use Rattle.page.specs.between.Changes.{table_in};
 ghost use Rattle.sheet.specs.Sheets.{decode_sheet};
 ghost use Rattle.fields.specs.between.Putting.{Places};
 ghost use Rattle.timetable_writing.specs.between.Parts.{relation_row, visits_here, relations_here, of_rows, visit_part, relation_part, file_rows};
-ghost use Rattle.timetable_writing.specs.Writing.{write_timetable, timetable_written, sheet_totals};
+ghost use Rattle.timetable_writing.specs.Writing.{write_timetable, timetable_written, totals_told, sheet_totals};
 
+use base::refusal::{OutputError, Refusal};
 use fields::put;
 use network::{Network, StationRow, in_use};
 use page::entries;
@@ -27,13 +29,11 @@ use records::record;
 use relation_files::row;
 use sheet::test::Extent;
 use sheet::{station_page, test};
-use timetable::Output;
 use visit_files::row::visit_numbers;
 
-// How many visits and relations a sheet holds, and refusal 0; or refusal 5 beside zeros.
-#[derive(Clone, Copy)]
+/// How many visits and relations a sheet holds.
+#[derive(Clone, Copy, Debug, PartialEq, Eq, Hash)]
 pub struct Totals {
-    pub refusal: u8,
     pub visits: usize,
     pub relations: usize,
 }
@@ -44,18 +44,18 @@ fn put_visit(out: &mut [u8], at: usize, s: Station, t: Train, v: Visit) -> usize
     requires { at ≤ 800000000 }
     ensures { Places at (visit_numbers newest_form (record { station = s; train = t; visit = v })) out.old result out.new 108 }
 {
-    put::put_row(out, at, visit_numbers(s, t, v))
+    put::put_row(out, at, visit_numbers(s, t, v).in_use())
 }
 
 fn put_relation(out: &mut [u8], at: usize, s: Station, r: Relation) -> usize
     requires { at ≤ 900000000 }
     ensures { Places at (relation_row s r) out.old result out.new 39 }
 {
-    let x = StationRelation {
+    let entry = StationRelation {
         station: s,
         relation: r,
     };
-    put::put_row(out, at, row::relation_numbers(x))
+    put::put_row(out, at, row::relation_numbers(entry).in_use())
 }
 
 // A station
@@ -86,6 +86,16 @@ fn put_relations(out: &mut [u8], at: usize, part: &[u8], s: Station) -> usize
 
 // The file
 
+// The rows in use: sixteen at most.
+#[tactic(auto, using(network::proofs::RowsInUse::in_use_rows), unfolding(network::specs::Networks::station_rows))]
+fn rows(n: &Network) -> &[StationRow]
+    ensures rows { result.now ≡ station_rows n.now }
+    ensures few { length result.now ≤ 16 }
+{
+    let stations = &n.stations[..];
+    &stations[..in_use(n.stationcount, 16)]
+}
+
 // What is counted on the pages of the rows' stations, in all.
 fn total<F: Fn(&[u8]) -> usize>(sheet: &[u8], rows: &[StationRow], count: F) -> usize
     requires sheet { length sheet.now ≡ 8192 }
@@ -102,44 +112,32 @@ fn total<F: Fn(&[u8]) -> usize>(sheet: &[u8], rows: &[StationRow], count: F) -> 
     total
 }
 
-fn visit_total(sheet: &[u8], n: Network) -> usize
+fn visit_total(sheet: &[u8], n: &Network) -> usize
     requires { length sheet.now ≡ 8192 }
-    ensures { (result ≡ visit_count n (decode_sheet sheet.now)) × (result ≤ 384) }
+    ensures { (result ≡ visit_count n.now (decode_sheet sheet.now)) × (result ≤ 384) }
 {
-    total(
-        sheet,
-        &n.stations[..in_use(n.stationcount, 16)],
-        |part| page::visit_count(part),
-    )
+    total(sheet, rows(n), page::visit_count)
 }
 
-fn relation_total(sheet: &[u8], n: Network) -> usize
+fn relation_total(sheet: &[u8], n: &Network) -> usize
     requires { length sheet.now ≡ 8192 }
-    ensures { (result ≡ relation_count n (decode_sheet sheet.now)) × (result ≤ 96) }
+    ensures { (result ≡ relation_count n.now (decode_sheet sheet.now)) × (result ≤ 96) }
 {
-    total(
-        sheet,
-        &n.stations[..in_use(n.stationcount, 16)],
-        |part| page::relation_count(part),
-    )
+    total(sheet, rows(n), page::relation_count)
 }
 
-// What the sheet's pages say, whatever else they hold; 5 for what is no sheet.
-pub fn sheet_totals(sheet: &[u8], n: Network) -> Totals
-    ensures { (result ≡ sheet_totals n sheet.now) × (result.visits ≤ 384) × (result.relations ≤ 96) }
+/// What the sheet's pages say, whatever else they hold; 5 for what is no sheet.
+pub fn sheet_totals(sheet: &[u8], n: &Network) -> Result<Totals, Refusal>
+    ensures told { totals_told result ≡ sheet_totals n.now sheet.now }
+    ensures few { IfOk result (λ t. (t.visits ≤ 384) × (t.relations ≤ 96)) }
 {
     if sheet.len() != 8192 {
-        return Totals {
-            refusal: 5,
-            visits: 0,
-            relations: 0,
-        };
+        return Err(Refusal::WrongLength);
     }
-    Totals {
-        refusal: 0,
+    Ok(Totals {
         visits: visit_total(sheet, n),
         relations: relation_total(sheet, n),
-    }
+    })
 }
 
 // What is put of the pages of the rows' stations, one behind the other.
@@ -170,27 +168,25 @@ fn put_all<F: Fn(&mut [u8], usize, &[u8], Station) -> usize>(
     next
 }
 
-fn put_all_visits(out: &mut [u8], at: usize, sheet: &[u8], n: Network) -> usize
+fn put_all_visits(out: &mut [u8], at: usize, sheet: &[u8], n: &Network) -> usize
     requires { (length sheet.now ≡ 8192) × (at ≤ 600000000) }
-    ensures { Places at (visit_part n (decode_sheet sheet.now)) out.old result out.new 41472 }
+    ensures { Places at (visit_part n.now (decode_sheet sheet.now)) out.old result out.new 41472 }
 {
-    let rows = &n.stations[..in_use(n.stationcount, 16)];
-    put_all(out, at, sheet, rows, put_visits)
+    put_all(out, at, sheet, rows(n), put_visits)
 }
 
-fn put_all_relations(out: &mut [u8], at: usize, sheet: &[u8], n: Network) -> usize
+fn put_all_relations(out: &mut [u8], at: usize, sheet: &[u8], n: &Network) -> usize
     requires { (length sheet.now ≡ 8192) × (at ≤ 600000000) }
-    ensures { Places at (relation_part n (decode_sheet sheet.now)) out.old result out.new 3744 }
+    ensures { Places at (relation_part n.now (decode_sheet sheet.now)) out.old result out.new 3744 }
 {
-    let rows = &n.stations[..in_use(n.stationcount, 16)];
-    put_all(out, at, sheet, rows, put_relations)
+    put_all(out, at, sheet, rows(n), put_relations)
 }
 
 // "count of visits (0..384), .. count of relations (0..96), .."
-fn put_timetable(out: &mut [u8], sheet: &[u8], n: Network) -> usize
+fn put_timetable(out: &mut [u8], sheet: &[u8], n: &Network) -> usize
     requires { length sheet.now ≡ 8192 }
-    ensures { (result ≡ length (bytes_of (file_rows n (decode_sheet sheet.now))))
-        × (out.new ≡ put 0 (bytes_of (file_rows n (decode_sheet sheet.now))) out.old) }
+    ensures { (result ≡ length (bytes_of (file_rows n.now (decode_sheet sheet.now))))
+        × (out.new ≡ put 0 (bytes_of (file_rows n.now (decode_sheet sheet.now))) out.old) }
 {
     let visits = put::put_number(out, 0, visit_total(sheet, n) as u16);
     let count = put_all_visits(out, visits, sheet, n);
@@ -198,26 +194,23 @@ fn put_timetable(out: &mut [u8], sheet: &[u8], n: Network) -> usize
     put_all_relations(out, relations, sheet, n)
 }
 
-// 5, 3 and 4 for a network that is not good, 6, 13.
-pub fn write_timetable(sheet: &[u8], n: Network, out: &mut [u8]) -> Output
-    ensures { (reply result ≡ write_timetable n sheet.now out.old)
-        × (out.new ≡ timetable_written n sheet.now out.old) }
+/// How many bytes were written. 5, 3 and 4 for a network that is not good, 6, 13.
+pub fn write_timetable(sheet: &[u8], n: &Network, out: &mut [u8]) -> Result<usize, OutputError>
+    ensures { (reply_of result ≡ write_timetable n.now sheet.now out.old)
+        × (out.new ≡ timetable_written n.now sheet.now out.old) }
 {
     if sheet.len() != 8192 {
-        return Output::Refused(5);
+        return Err(OutputError::Refused(Refusal::WrongLength));
     }
-    let early = n.refusal();
-    if early != 0 {
-        return Output::Refused(early);
+    n.check()?;
+    if !test::good_sheet(sheet, n, Extent::Whole) {
+        return Err(OutputError::Refused(Refusal::BadSheet));
     }
-    if test::good_sheet(sheet, n, Extent::Whole) {
-        let mut spare = [0u8; 1];
-        let needed = put_timetable(&mut spare, sheet, n);
-        if out.len() < needed {
-            return Output::TooShort(needed);
-        }
-        put_timetable(out, sheet, n);
-        return Output::Written(needed);
+    let mut spare = [0; 1];
+    let needed = put_timetable(&mut spare, sheet, n);
+    if out.len() < needed {
+        return Err(OutputError::TooShort(needed));
     }
-    Output::Refused(6)
+    put_timetable(out, sheet, n);
+    Ok(needed)
 }

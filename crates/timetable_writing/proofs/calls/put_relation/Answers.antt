@@ -1,10 +1,12 @@
 -- `timetable_writing::calls::put_relation` meets its contract: the numbers of the relation behind its station. Assumes
 -- nothing.
+use mathlib.Core.Path.{ap, ◌∙◌}
+use borrow.Author.Rules.{rules}
+use lib.ListN.{take}
 use native.Mathlib.Omega.{arith}
 use Rattle.fields.proofs.NumbersPut.{near}
 use Rattle.timetable_writing.specs.between.Parts.{relation_row}
-use Rattle.fields.proofs.RowHolds.{row_held}
-use Rattle.timetable_writing.proofs.TimetableLaws.{writes_as}
+use Rattle.timetable_writing.proofs.TimetableLaws.{whole_row, writes_as}
 use Rattle.timetable_writing.proofs.calls.put_relation.Goals as goal
 
 pub returns : goal.returns
@@ -12,4 +14,4 @@ unfolding relation_row
 returns c =
     let s = c.args in
     let w = c.put_row in
-    writes_as s.at w.result _ _ s.out.now w.new.out 39 (row_held c.relation_numbers.ensures) (near s.at _ s.out.now w.result w.new.out 39 (omega arith) w.ensures)
+    writes_as s.at w.result _ _ s.out.now w.new.out 39 (ap (take 13) c.in_use.ensures ∙ whole_row _ _ c.relation_numbers.ensures (search rules)) (near s.at _ s.out.now w.result w.new.out 39 (omega arith) w.ensures)
