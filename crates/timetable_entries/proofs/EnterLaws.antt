@@ -1,8 +1,8 @@
 -- One entry put into a sheet's bytes: what it is refused with by its station's page, and what the page lent and changed
 -- makes of the sheet. Assumes nothing.
 use Prim.Native.Nat.{ℕ, ◌+◌, ◌*◌, ◌-◌, ◌<◌, ◌≤◌}
-use mathlib.Core.Path.{◌≡◌, sym, ◌∙◌, ap}
-use mathlib.Core.Bool.{Bool, true, false, ◌&&◌}
+use mathlib.Core.Path.{◌≡◌, refl, sym, ◌∙◌, ap}
+use mathlib.Core.Bool.{Bool, true, false, false≢true, ◌&&◌}
 use mathlib.Core.List.{List, ◌++◌}
 use native.Mathlib.Omega.{arith}
 use lib.Dec.{T}
@@ -23,6 +23,10 @@ use Rattle.page.proofs.SlotLaws.{table_of_page}
 use Rattle.sheet.proofs.SheetLaws.{station_low, station_high, decoded_page}
 use Rattle.sheet.specs.between.Frames.{frame, change_frame}
 use Rattle.sheet.proofs.FrameLaws.{frame_size, lent_frame, lent_back, sheet_frame}
+use Rattle.std.specs.Prelude.{Option, None, Some, is_some}
+use Rattle.base.specs.declared.refusal.FileError.{FileError}
+use Rattle.timetable.proofs.OutputLaws.{number_there}
+use Rattle.timetable_entries.specs.Answers.{fault_told}
 use Rattle.timetable_entries.specs.Types.{Station, Train, Visit, Relation, StationRelation, Network}
 use Rattle.timetable.specs.declared.Fault.{Fault}
 use Rattle.timetable_entries.specs.between.Entering.{visit_refused, relation_refused, page_with_relation, Progress, step_with, visit_step, relation_step}
@@ -59,6 +63,15 @@ module _ (n : Network) (s : Station) (tab : Table) where
     pub relation_full : known ≡ true → (k : ℕ) → k ≡ length tab.relations → 6 ≤ k → 12 ≡ relation_refused n s tab
     unfolding relation_refused relation_refusal full_relations
     relation_full t k q h = rw (sym e ∙ t, le-leb 6 (length tab.relations) (omega arith))
+
+-- a fault that is there, and none
+pub fault_there : (f : Option FileError) → is_some f ≡ true → ¬ ((fault_told f).number ≡ 0)
+fault_there None e = absurd (false≢true e)
+fault_there (Some e) _ = number_there e.refusal
+
+pub fault_none : (f : Option FileError) → is_some f ≡ false → f ≡ None
+fault_none None e = refl
+fault_none (Some d) e = absurd (false≢true (sym e))
 
 -- a step, by its tests
 

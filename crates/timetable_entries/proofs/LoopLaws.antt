@@ -15,9 +15,10 @@ use Rattle.fields.proofs.ReadLaws.{read_then, prefixed, SoFar, start, turn, stop
 use Rattle.timetable.proofs.OutcomeLaws.{behind_taken}
 use Rattle.fields.proofs.EntryLaws.{then_taken}
 use Rattle.fields.proofs.EntryLaws.{placed_some, placed_none, placed_read}
-use Rattle.timetable_entries.specs.Types.{StationRelation}
+use Rattle.timetable.specs.TimetableFile.{StationVisit}
+use Rattle.timetable_entries.specs.Types.{Station, Train, Visit, StationRelation}
 use Rattle.visit_files.proofs.VisitLaws.{placed_station}
-use Rattle.timetable_entries.specs.between.Entering.{Progress, through, answered, unanswered, entries_read, entries_sheet}
+use Rattle.timetable_entries.specs.between.Entering.{Progress, through, entries_read, entries_sheet}
 
 -- the station of an accepted relation is one of 1..16
 pub relation_station : (floor file : List ℕ) (at : ℕ) (x : StationRelation) (next : ℕ) → read (station_relation_entry floor) file at ≡ accepted x next → T (station_ok x.station)
@@ -27,6 +28,10 @@ relation_station floor file at x next q =
     let (r, p2, a, b) = then_taken (relation_entry (floor_after s floor)) (λ r. done (record { station = record { 0 = s }; relation = r })) file p x next v in
     let z : record { station = record { 0 = s }; relation = r } ≡ x = cc in
     rw (← z) (placed_station floor file at s p u)
+
+-- a visit entry's parts
+abbrev pub station_visit : Station → Train → Visit → StationVisit
+station_visit s t v = record { station = s; train = t; visit = v }
 
 -- turns of the loops
 
@@ -79,7 +84,7 @@ module _ {A : Type 0} (entry : List ℕ → Format A) (floor_of : Placed A → L
           rw (m, q) (entries_next (λ floor. placed (entry floor)) floor_of floor file place (count - (i + 1)) p next (placed_some (entry floor) file place a next e)) in
           (turn _ _ _ f.0 p _ one, r ∙ ap (step p) f.1 ∙ sym (through_snoc step f.0.elements p g₀))
 
-      pub reached-stop : i < count → (k p : ℕ) → read (entry floor) file place ≡ refused k p → unanswered k p ≡ entries_read step g₀ (left_at count [] at)
+      pub reached-stop : i < count → (k p : ℕ) → read (entry floor) file place ≡ refused k p → refused k p ≡ entries_read step g₀ (left_at count [] at)
       unfolding entries_read
       reached-stop less k p e =
           let m : count - i ≡ suc (count - (i + 1)) = omega arith in
@@ -87,13 +92,13 @@ module _ {A : Type 0} (entry : List ℕ → Format A) (floor_of : Placed A → L
           rw m (entries_stop (λ floor. placed (entry floor)) floor_of floor file place (count - (i + 1)) k p (placed_none (entry floor) file place k p e)) in
           sym (ap (entries_read step g₀) (stop _ _ _ f.0 k p one))
 
-      pub reached-end : count ≤ i → (answered place g.fault ≡ entries_read step g₀ (left_at count [] at)) × (g.sheet ≡ entries_sheet step g₀ (left_at count [] at))
+      pub reached-end : count ≤ i → (accepted g.fault place ≡ entries_read step g₀ (left_at count [] at)) × (g.sheet ≡ entries_sheet step g₀ (left_at count [] at))
       unfolding entries_read entries_sheet
       reached-end over_all =
           let m : count - i ≡ 0 = omega arith in
           let none_left : left_at (count - i) floor place ≡ accepted [] place = rw m (entries_over (λ floor. placed (entry floor)) floor_of floor file place) in
           let q = over _ _ _ f.0 place none_left in (
-            sym (ap (entries_read step g₀) q ∙ ap (λ (x : Progress). answered place x.fault) (sym f.1)),
+            sym (ap (entries_read step g₀) q ∙ ap (λ (x : Progress). accepted x.fault place) (sym f.1)),
             sym (ap (entries_sheet step g₀) q ∙ ap (λ (x : Progress). x.sheet) (sym f.1)),
           )
 

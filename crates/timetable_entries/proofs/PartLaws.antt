@@ -2,7 +2,7 @@
 -- nothing.
 use Prim.Native.Nat.{ℕ}
 use mathlib.Core.Path.{◌≡◌, refl, sym, ◌∙◌, ap}
-use mathlib.Core.Bool.{Bool, true, false, false≢true}
+use mathlib.Core.Bool.{Bool, true, false}
 use mathlib.Core.List.{List, [], ◌∷◌}
 use native.Mathlib.Omega.{arith}
 use lib.Dec.{T, eqb}
@@ -17,47 +17,56 @@ use Rattle.timetable.specs.TimetableFile.{StationVisit, Entries, visit_entry, vi
 use Rattle.timetable.proofs.OutcomeLaws.{behind_taken}
 use Rattle.fields.proofs.EntryLaws.{then_taken}
 use Rattle.timetable_entries.specs.Types.{StationRelation, Network}
-use Rattle.timetable_entries.specs.declared.read.EntriesRead.{EntriesRead}
-use Rattle.timetable_entries.specs.between.Entering.{Progress, visit_step, relation_step, through, answered, unanswered, entries_read, entries_sheet, visit_part, relation_part, all_through, timetable_entries, timetable_sheet}
+use Rattle.timetable.specs.declared.Fault.{Fault}
+use Rattle.timetable_entries.specs.between.Entering.{Progress, visit_step, relation_step, through, entries_read, entries_sheet, visit_part, relation_part, all_through, timetable_entries, timetable_sheet}
 use Rattle.fields.proofs.EntryLaws.{field_on, field_stop, then_on, then_stop}
 use Rattle.timetable_entries.proofs.LoopLaws.{relation_station, entries_all}
 use Rattle.visit_files.proofs.VisitLaws.{visit_station}
 
 -- what an answer says of its outcome
 
-module _ {A : Type 0} (step : Placed A → Progress → Progress) (g : Progress) (o : Outcome (List (Placed A))) (r : EntriesRead) (e : r ≡ entries_read step g o) where
-  pub entries_took : r.accepted ≡ true → (ps : List (Placed A)) × (o ≡ accepted ps r.place) × (r.fault ≡ (through step ps g).fault)
-  unfolding entries_read answered unanswered
-  entries_took t = go o e
-    where
-      go : (o : Outcome (List (Placed A))) → r ≡ entries_read step g o → (ps : List (Placed A)) × (o ≡ accepted ps r.place) × (r.fault ≡ (through step ps g).fault)
-      go (accepted ps next) q = (ps, ap (accepted ps) (ap (λ (x : EntriesRead). x.place) (sym q)), ap (λ (x : EntriesRead). x.fault) q)
-      go (refused k p) q = absurd (false≢true (sym (ap (λ (x : EntriesRead). x.accepted) q) ∙ t))
+taken_same : (f : Fault) (next : ℕ) (g : Fault) (later : ℕ) → ◌≡◌ {A = Outcome Fault} (accepted f next) (accepted g later) → (f ≡ g) × (next ≡ later)
+taken_same f next g later e = (cc, cc)
 
-  pub entries_refusal : r.accepted ≡ false → o ≡ refused r.refusal r.place
-  unfolding entries_read answered unanswered
-  entries_refusal t = go o e
-    where
-      go : (o : Outcome (List (Placed A))) → r ≡ entries_read step g o → o ≡ refused r.refusal r.place
-      go (accepted ps next) q = absurd (false≢true (sym t ∙ ap (λ (x : EntriesRead). x.accepted) q))
-      go (refused k p) q = rw q
+refused_same : (k p j r : ℕ) → ◌≡◌ {A = Outcome Fault} (refused k p) (refused j r) → (k ≡ j) × (p ≡ r)
+refused_same k p j r e = (cc, cc)
 
-module _ (n : Network) (g : Progress) (o : Outcome Entries) (r : EntriesRead) (e : r ≡ timetable_entries n g o) where
-  pub timetable_took : r.accepted ≡ true → (x : Entries) × (o ≡ accepted x r.place) × (r.fault ≡ (all_through n x g).fault)
-  unfolding timetable_entries answered unanswered
-  timetable_took t = go o e
-    where
-      go : (o : Outcome Entries) → r ≡ timetable_entries n g o → (x : Entries) × (o ≡ accepted x r.place) × (r.fault ≡ (all_through n x g).fault)
-      go (accepted x next) q = (x, ap (accepted x) (ap (λ (x : EntriesRead). x.place) (sym q)), ap (λ (x : EntriesRead). x.fault) q)
-      go (refused k p) q = absurd (false≢true (sym (ap (λ (x : EntriesRead). x.accepted) q) ∙ t))
+never : (f : Fault) (next k p : ℕ) → ¬ (◌≡◌ {A = Outcome Fault} (accepted f next) (refused k p))
+never f next k p e = cc
 
-  pub timetable_refusal : r.accepted ≡ false → o ≡ refused r.refusal r.place
-  unfolding timetable_entries answered unanswered
-  timetable_refusal t = go o e
+module _ {A : Type 0} (step : Placed A → Progress → Progress) (g : Progress) (o : Outcome (List (Placed A))) where
+  pub entries_took : (f : Fault) (next : ℕ) → accepted f next ≡ entries_read step g o → (ps : List (Placed A)) × (o ≡ accepted ps next) × (f ≡ (through step ps g).fault)
+  unfolding entries_read
+  entries_took f next e = go o e
     where
-      go : (o : Outcome Entries) → r ≡ timetable_entries n g o → o ≡ refused r.refusal r.place
-      go (accepted x next) q = absurd (false≢true (sym t ∙ ap (λ (x : EntriesRead). x.accepted) q))
-      go (refused k p) q = rw q
+      go : (o : Outcome (List (Placed A))) → accepted f next ≡ entries_read step g o → (ps : List (Placed A)) × (o ≡ accepted ps next) × (f ≡ (through step ps g).fault)
+      go (accepted ps later) q = let (x, y) = taken_same f next (through step ps g).fault later q in (ps, ap (accepted ps) (sym y), x)
+      go (refused k p) q = absurd (never f next k p q)
+
+  pub entries_refusal : (k p : ℕ) → refused k p ≡ entries_read step g o → o ≡ refused k p
+  unfolding entries_read
+  entries_refusal k p e = go o e
+    where
+      go : (o : Outcome (List (Placed A))) → refused k p ≡ entries_read step g o → o ≡ refused k p
+      go (accepted ps next) q = absurd (never _ next k p (sym q))
+      go (refused j r) q = let (x, y) = refused_same k p j r q in rw (x, y)
+
+module _ (n : Network) (g : Progress) (o : Outcome Entries) where
+  pub timetable_took : (f : Fault) (next : ℕ) → accepted f next ≡ timetable_entries n g o → (x : Entries) × (o ≡ accepted x next) × (f ≡ (all_through n x g).fault)
+  unfolding timetable_entries
+  timetable_took f next e = go o e
+    where
+      go : (o : Outcome Entries) → accepted f next ≡ timetable_entries n g o → (x : Entries) × (o ≡ accepted x next) × (f ≡ (all_through n x g).fault)
+      go (accepted x later) q = let (u, y) = taken_same f next (all_through n x g).fault later q in (x, ap (accepted x) (sym y), u)
+      go (refused k p) q = absurd (never f next k p q)
+
+  pub timetable_refusal : (k p : ℕ) → refused k p ≡ timetable_entries n g o → o ≡ refused k p
+  unfolding timetable_entries
+  timetable_refusal k p e = go o e
+    where
+      go : (o : Outcome Entries) → refused k p ≡ timetable_entries n g o → o ≡ refused k p
+      go (accepted x next) q = absurd (never _ next k p (sym q))
+      go (refused j r) q = let (x, y) = refused_same k p j r q in rw (x, y)
 
 -- a count and its entries
 

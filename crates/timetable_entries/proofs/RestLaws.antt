@@ -16,7 +16,12 @@ use Rattle.fields.specs.Outcomes.{end_of}
 use Rattle.records.specs.Bytes.{zeros}
 use Rattle.sheet.specs.Sheets.{encode_sheet}
 use Rattle.timetable_entries.specs.Types.{Network}
-use Rattle.timetable_entries.specs.Answers.{sheet_of}
+use Rattle.timetable_entries.specs.Answers.{fault_told, sheet_of}
+use Rattle.timetable.proofs.OutputLaws.{number_there}
+use Rattle.base.specs.RefusalNumbers.{number_of}
+use Rattle.base.specs.declared.refusal.FileError.{FileError}
+use Rattle.std.specs.Prelude.{Option, None, Some}
+use Rattle.std.specs.Option.{option_or}
 use Rattle.timetable_entries.specs.between.Rest.{rest_of, rest_outcome}
 use Rattle.timetable_entries.specs.between.Entering.{Progress, no_fault, all_through}
 use Rattle.timetable_entries.proofs.SheetEntries.{progress, Held, timetable_held}
@@ -66,6 +71,18 @@ module _ (form : FileForm) (n : Network) (f : Fault) (file : List ℕ) (at : ℕ
             go : (o : Outcome Timetable) → timetable_of n x next ≡ o → Held o (all_through n x start) → (m : Timetable) × (rest_of form n f file at ≡ accepted m next) × (own ≡ encode_sheet m)
             go (accepted m end) u (v, t) = (m, decided ∙ u ∙ ap (accepted m) (timetable_next n x next m end u), same ∙ ap (λ (y : Progress). y.sheet) v)
             go (refused k p) u (v, t) = absurd (t (sym (ap (λ (y : Fault). y.number) (is ∙ v)) ∙ c))
+
+-- the first of the fault and the refused entry decides
+module _ (form : FileForm) (n : Network) (file : List ℕ) (at : ℕ) (x : Entries) (next : ℕ) (q : read (timetable_format form) file at ≡ accepted x next) (h : length file ≤ next) where
+  pub first-refused : (fault r : Option FileError) → fault_told r ≡ (all_through n x start).fault → (e : FileError) → option_or fault r ≡ Some e
+      → rest_of form n (fault_told fault) file at ≡ refused (number_of e.refusal) e.place
+  first-refused (Some d) r is e u = let z : d ≡ e = cc in rw (← z) (at-fault form n (fault_told (Some d)) file at x next q h (number_there d.refusal))
+  first-refused None r is e u = entry-refused form n (fault_told None) file at x next q h refl (fault_told (Some e)) (sym (ap fault_told u) ∙ is) (number_there e.refusal)
+
+  pub none-refused : (fault r : Option FileError) → fault_told r ≡ (all_through n x start).fault → option_or fault r ≡ None
+      → (own : List ℕ) → own ≡ (all_through n x start).sheet → (m : Timetable) × (rest_of form n (fault_told fault) file at ≡ accepted m next) × (own ≡ encode_sheet m)
+  none-refused (Some d) r is u own same = absurd (cc)
+  none-refused None r is u own same = all-entered form n (fault_told None) file at x next q h refl (fault_told r) is (ap (λ (o : Option FileError). (fault_told o).number) u) own same
 
 -- what is told of the outcome, and what the sheet that is filled then holds
 abbrev pub Fills : Outcome Timetable → Outcome (Unit {0}) → List ℕ → Type 0

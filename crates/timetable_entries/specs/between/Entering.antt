@@ -1,8 +1,10 @@
 -- Entries put into a sheet's bytes, one after the other, as `entered` puts them into a timetable: the first refused
 -- entry is remembered, and later ones change nothing. proofs/SheetEntries.antt has that on the sheet of a timetable
 -- this is `entered`. Assumes nothing.
-use Rattle.std.specs.Prelude.{ℕ, ◌-◌, true, false, List, [], ◌∷◌, eqb}
+use Rattle.std.specs.Prelude.{ℕ, ◌-◌, List, [], ◌∷◌, eqb, Result, Ok, Err, Option}
 use Rattle.std.specs.Prelude.{if◌then◌else◌}
+use Rattle.base.specs.RefusalNumbers.{number_of}
+use Rattle.base.specs.declared.refusal.FileError.{FileError}
 use Rattle.timetable.specs.Formats.{Format, field, Outcome, accepted, refused, Placed}
 use Rattle.timetable.specs.Tables.{Table, has_relation}
 use Rattle.timetable.specs.TimetableFile.{StationVisit, Entries, visits_format, relations_format, visit_refusal, relation_refusal}
@@ -12,7 +14,7 @@ use Rattle.sheet.specs.between.Frames.{change_frame}
 use Rattle.timetable_entries.specs.Types.{Station, Visit, Relation, StationRelation, Network}
 use Rattle.timetable.specs.declared.FileForm.{FileForm}
 use Rattle.timetable.specs.declared.Fault.{Fault}
-use Rattle.timetable_entries.specs.declared.read.EntriesRead.{EntriesRead}
+use Rattle.timetable_entries.specs.Answers.{fault_told}
 
 -- what an entry is refused with at a station's table
 
@@ -56,18 +58,16 @@ unfoldable pub through : {A : Type 0} → (Placed A → Progress → Progress) �
 through step [] g = g
 through step (p ∷ ps) g = through step ps (step p g)
 
--- what reading entries answers, and the sheet then: of no use on a refusal
+-- what reading entries answers: the first refused one and the place behind them all, or a refusal of the file
+abbrev pub entries_told : Result (Option FileError × ℕ) FileError → Outcome Fault
+entries_told (Ok (fault, next)) = accepted (fault_told fault) next
+entries_told (Err e) = refused (number_of e.refusal) e.place
 
-unfoldable pub answered : ℕ → Fault → EntriesRead
-answered place fault = record { accepted = true; refusal = 0; place = place; fault = fault }
+unfoldable pub entries_read : {A : Type 0} → (Placed A → Progress → Progress) → Progress → Outcome (List (Placed A)) → Outcome Fault
+entries_read step g (accepted ps next) = accepted (through step ps g).fault next
+entries_read step g (refused k p) = refused k p
 
-unfoldable pub unanswered : ℕ → ℕ → EntriesRead
-unanswered k p = record { accepted = false; refusal = k; place = p; fault = no_fault }
-
-unfoldable pub entries_read : {A : Type 0} → (Placed A → Progress → Progress) → Progress → Outcome (List (Placed A)) → EntriesRead
-entries_read step g (accepted ps next) = answered next (through step ps g).fault
-entries_read step g (refused k p) = unanswered k p
-
+-- the sheet then: of no use on a refusal
 unfoldable pub entries_sheet : {A : Type 0} → (Placed A → Progress → Progress) → Progress → Outcome (List (Placed A)) → List ℕ
 entries_sheet step g (accepted ps next) = (through step ps g).sheet
 entries_sheet step g (refused k p) = []
@@ -84,9 +84,9 @@ relation_part = field 0 96 relations_format
 unfoldable pub all_through : Network → Entries → Progress → Progress
 all_through n x g = through (relation_step n) x.relations (through (visit_step n) x.visits g)
 
-unfoldable pub timetable_entries : Network → Progress → Outcome Entries → EntriesRead
-timetable_entries n g (accepted x next) = answered next (all_through n x g).fault
-timetable_entries n g (refused k p) = unanswered k p
+unfoldable pub timetable_entries : Network → Progress → Outcome Entries → Outcome Fault
+timetable_entries n g (accepted x next) = accepted (all_through n x g).fault next
+timetable_entries n g (refused k p) = refused k p
 
 unfoldable pub timetable_sheet : Network → Progress → Outcome Entries → List ℕ
 timetable_sheet n g (accepted x next) = (all_through n x g).sheet
@@ -94,6 +94,6 @@ timetable_sheet n g (refused k p) = []
 
 -- The key ring of this module: `unfolding opened` opens every definition above.
 unfoldable pub opened : Unit {0}
-unfolding visit_refused relation_refused page_with_relation step_with visit_step relation_step through answered unanswered entries_read entries_sheet
+unfolding visit_refused relation_refused page_with_relation step_with visit_step relation_step through entries_read entries_sheet
     visit_part relation_part all_through timetable_entries timetable_sheet
 opened = tt

@@ -1,22 +1,28 @@
--- `timetable_entries::enter::enter_relation` meets its contract: an earlier fault stays, a refused entry is the first,
--- any other changes its station's page. Assumes nothing.
-use mathlib.Core.Path.{refl}
-use Rattle.timetable_entries.proofs.EnterLaws.{relation_kept, relation-stopped, relation_taken}
+-- `timetable_entries::enter::enter_relation` meets its contract: an earlier fault stays, a refused entry is the first, any
+-- other changes its station's page. Assumes nothing.
+use mathlib.Core.Path.{refl, sym, ◌∙◌}
+use Rattle.std.specs.Prelude.{None}
+use Rattle.base.specs.RefusalNumbers.{number_of}
+use Rattle.timetable.proofs.OutputLaws.{number_there}
+use Rattle.timetable_entries.specs.Answers.{fault_told}
+use Rattle.timetable_entries.proofs.EnterLaws.{relation_kept, relation-stopped, relation_taken, fault_there, fault_none}
 use Rattle.timetable_entries.proofs.enter.enter_relation.Goals as goal
 
-pub returns-then-r-eq0 : goal.returns-then-r-eq0
-returns-then-r-eq0 c =
-    let z = c.size in
-    let r = c.relation_refusal-r in
+pub returns-then-is_some : goal.returns-then-is_some
+returns-then-is_some c =
+    let s = c.args in
+    relation_kept s.x.station s.sheet.now c.requires.0 c.requires.1 s.x.station.0 refl s.n.now s.place (fault_told s.fault) s.x.relation (fault_there s.fault (sym c.is_some.ensures ∙ c.if-is_some.true))
+
+pub returns-in-Err : goal.returns-in-Err
+returns-in-Err c =
+    let s = c.args in
+    let r = c.in-Err.refusal in
+    rw (fault_none s.fault (sym c.is_some.ensures ∙ c.if-is_some.false))
+    (relation-stopped s.x.station s.sheet.now c.requires.0 c.requires.1 c.from.result c.from.ensures s.n.now s.place (fault_told None) s.x.relation (number_of r) c.in-Err.ensures refl (number_there r))
+
+pub returns-in-Ok : goal.returns-in-Ok
+returns-in-Ok c =
+    let s = c.args in
     let h = c.put_relation in
-    relation_taken c.args.x.station c.args.sheet.now c.requires.0 c.requires.1 z.result z.ensures.0 c.args.n c.args.place c.args.fault c.args.x.relation r.result r.ensures c.if-fault-eq0.true c.if-r-eq0.true h.new.part h.auto.part h.ensures
-
-pub returns-then-fault-eq0 : goal.returns-then-fault-eq0
-returns-then-fault-eq0 c =
-    let z = c.size in
-    let r = c.relation_refusal-r in
-    relation-stopped c.args.x.station c.args.sheet.now c.requires.0 c.requires.1 z.result z.ensures.0 c.args.n c.args.place c.args.fault c.args.x.relation r.result r.ensures c.if-fault-eq0.true c.if-r-eq0.false
-
-pub returns : goal.returns
-returns c =
-    relation_kept c.args.x.station c.args.sheet.now c.requires.0 c.requires.1 c.args.x.station.0 refl c.args.n c.args.place c.args.fault c.args.x.relation c.if-fault-eq0.false
+    rw (fault_none s.fault (sym c.is_some.ensures ∙ c.if-is_some.false))
+    (relation_taken s.x.station s.sheet.now c.requires.0 c.requires.1 c.from.result c.from.ensures s.n.now s.place (fault_told None) s.x.relation 0 c.in-Ok.ensures refl refl h.new.part h.auto.part h.ensures)

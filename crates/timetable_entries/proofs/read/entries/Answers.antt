@@ -2,40 +2,38 @@
 -- Assumes nothing.
 use Prim.Native.Nat.{ℕ}
 use mathlib.Core.Path.{◌≡◌, sym, ◌∙◌, ap}
-use mathlib.Core.Bool.{false≢true}
 use mathlib.Core.List.{List}
+use Rattle.std.proofs.lemmas.Result.{err_from_is_err_and}
+use Rattle.base.specs.RefusalNumbers.{number_of}
 use Rattle.timetable.specs.Formats.{read}
 use Rattle.timetable.specs.declared.Fault.{Fault}
-use Rattle.timetable_entries.specs.declared.read.EntriesRead.{EntriesRead}
-use Rattle.timetable_entries.specs.between.Entering.{no_fault, through, visit_step, unanswered, entries_sheet, timetable_entries, visit_part}
+use Rattle.timetable_entries.specs.Answers.{fault_told}
+use Rattle.timetable_entries.specs.between.Entering.{no_fault, through, visit_step, entries_sheet, timetable_entries, visit_part}
 use Rattle.timetable_entries.proofs.SheetEntries.{progress}
 use Rattle.timetable_entries.proofs.PartLaws.{entries_took, entries_refusal, visits_refused, joined}
-use borrow.Author.Rules.{rules}
 use Rattle.timetable_entries.proofs.read.entries.Goals as goal
 
-pub returns-then-found : goal.returns-then-found
-unfolding entries_sheet
-returns-then-found c =
+pub returns-in_err-fault-clause-read : goal.returns-in_err-fault-clause-read
+unfolding timetable_entries
+returns-in_err-fault-clause-read c =
     let s = c.args in
-    let v = c.visit_part-found in
-    let r = c.relation_part in
+    let e = c.in_err-fault.field-0.0 in
+    let p = err_from_is_err_and c.from_residual.result c.from_residual.ensures.1 in
     let g = progress s.sheet.now no_fault in
-    let (ps, o, f) = entries_took (visit_step s.n) g (read (visit_part s.form) s.file.now s.at) v.result v.ensures.0 c.if-found.true in
-    let b = v.ensures.1 c.if-found.true ∙ ap (entries_sheet (visit_step s.n) g) o in
-    let later = progress v.new.sheet v.result.fault in
-    let is : later ≡ through (visit_step s.n) ps g =
-    ap (λ (l : List ℕ). progress l v.result.fault) b ∙ ap (λ (y : Fault). progress (through (visit_step s.n) ps g).sheet y) f in
-    let (x, y) = joined s.form s.file.now s.at ps v.result.place o s.n g later is in
-    (r.ensures.0 ∙ x, λ t. r.ensures.1 t ∙ y)
+    let o = entries_refusal (visit_step s.n.now) g (read (visit_part s.form) s.file.now s.at) (number_of e.refusal) e.place c.in_err-fault.ensures.read in
+    rw (p.1, p.2) (sym (ap (timetable_entries s.n.now g) (visits_refused s.form s.file.now s.at (number_of e.refusal) e.place o)))
 
 pub returns : goal.returns
-unfolding timetable_entries unanswered
+unfolding entries_sheet
 returns c =
     let s = c.args in
-    let v = c.visit_part-found in
+    let v = c.in_ok-fault in
+    let r = c.relation_part in
     let g = progress s.sheet.now no_fault in
-    let o = entries_refusal (visit_step s.n) g (read (visit_part s.form) s.file.now s.at) v.result v.ensures.0 c.if-found.false in
-    let q = visits_refused s.form s.file.now s.at v.result.refusal v.result.place o in (
-      c.refused_entries.ensures ∙ sym (ap (timetable_entries s.n g) q),
-      λ t. absurd (false≢true (sym (ap (λ (x : EntriesRead). x.accepted) c.refused_entries.ensures) ∙ t)),
-    )
+    let (ps, o, f) = entries_took (visit_step s.n.now) g (read (visit_part s.form) s.file.now s.at) (fault_told v.fault) v.next v.ensures.read in
+    let b = v.ensures.ok ∙ ap (entries_sheet (visit_step s.n.now) g) o in
+    let later = progress c.visit_part.new.sheet (fault_told v.fault) in
+    let is : later ≡ through (visit_step s.n.now) ps g =
+    ap (λ (l : List ℕ). progress l (fault_told v.fault)) b ∙ ap (λ (y : Fault). progress (through (visit_step s.n.now) ps g).sheet y) f in
+    let (x, y) = joined s.form s.file.now s.at ps v.next o s.n.now g later is in
+    record { read = r.ensures.read ∙ x; ok = rw (← y) r.ensures.ok }

@@ -1,40 +1,34 @@
 -- `timetable_entries::read::relation_part` meets its contract: the count decides, or the entries behind it. Assumes
 -- nothing.
+use Prim.Native.Nat.{ℕ}
 use mathlib.Core.Path.{sym, ◌∙◌, ap}
-use mathlib.Core.Bool.{false≢true}
 use native.Mathlib.Omega.{arith}
+use Rattle.std.proofs.lemmas.Result.{err_from_is_err_and}
+use Rattle.base.specs.RefusalNumbers.{number_of}
+use Rattle.timetable.specs.Formats.{read}
+use Rattle.timetable.specs.TimetableFile.{relations_format}
 use Rattle.fields.proofs.EntryLaws.{field_bounded}
-use Rattle.fields.specs.between.Answers.{field_outcome}
-use Rattle.timetable_entries.specs.declared.read.EntriesRead.{EntriesRead}
-use Rattle.timetable_entries.specs.between.Entering.{relation_step, unanswered, entries_read, entries_sheet}
+use Rattle.timetable_entries.specs.Answers.{fault_told}
+use Rattle.timetable_entries.specs.between.Entering.{relation_step, entries_read}
 use Rattle.timetable_entries.proofs.SheetEntries.{progress}
 use Rattle.timetable_entries.proofs.PartLaws.{relation_part_stop, relation_part_then}
-use borrow.Author.Rules.{rules}
 use Rattle.timetable_entries.proofs.read.relation_part.Goals as goal
 
 pub relations-requires : goal.relations-requires
-unfolding field_outcome
 relations-requires c =
     let s = c.args in
-    let o = sym c.field-count.ensures ∙ ap field_outcome c.in-Value.is in
-    (c.requires, omega (arith, (field_bounded 0 96 s.file.now s.at c.in-Value.k c.in-Value.next o).1))
+    (c.requires, omega (arith, (field_bounded 0 96 s.file.now s.at c.in_ok-count.count c.in_ok-count.next (sym c.in_ok-count.ensures)).1))
 
-pub returns-in-Refused : goal.returns-in-Refused
-unfolding entries_read unanswered field_outcome
-returns-in-Refused c =
+pub returns-in_err-count-clause-read : goal.returns-in_err-count-clause-read
+unfolding entries_read
+returns-in_err-count-clause-read c =
     let s = c.args in
-    let o = sym c.field-count.ensures ∙ ap field_outcome c.in-Refused.is in (
-      c.refused_entries.ensures ∙ sym (ap (entries_read (relation_step s.n) (progress s.sheet.now s.fault)) (relation_part_stop s.file.now s.at c.in-Refused.k c.in-Refused.p o)),
-      λ t. absurd (false≢true (sym (ap (λ (x : EntriesRead). x.accepted) c.refused_entries.ensures) ∙ t)),
-    )
+    let e = c.in_err-count.field-0.0 in
+    let p = err_from_is_err_and c.from_residual.result c.from_residual.ensures.1 in
+    rw (p.1, p.2) (sym (ap (entries_read (relation_step s.n.now) (progress s.sheet.now (fault_told s.fault))) (relation_part_stop s.file.now s.at (number_of e.refusal) e.place (sym c.in_err-count.ensures))))
 
-pub returns-in-Value : goal.returns-in-Value
-unfolding field_outcome
-returns-in-Value c =
+pub returns : goal.returns
+returns c =
     let s = c.args in
-    let o = sym c.field-count.ensures ∙ ap field_outcome c.in-Value.is in
-    let q = relation_part_then s.file.now s.at c.in-Value.k c.in-Value.next o in
-    let v = c.relations.ensures in (
-      v.0 ∙ sym (ap (entries_read (relation_step s.n) (progress s.sheet.now s.fault)) q),
-      λ t. v.1 t ∙ sym (ap (entries_sheet (relation_step s.n) (progress s.sheet.now s.fault)) q),
-    )
+    let q = relation_part_then s.file.now s.at c.in_ok-count.count c.in_ok-count.next (sym c.in_ok-count.ensures) ∙ ap (λ (k : ℕ). read (relations_format k) s.file.now c.in_ok-count.next) (sym c.from.ensures) in
+    rw q (record { read = c.relations.ensures.read; ok = c.relations.ensures.ok })

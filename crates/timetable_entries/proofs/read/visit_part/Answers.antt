@@ -1,40 +1,33 @@
 -- `timetable_entries::read::visit_part` meets its contract: the count decides, or the entries behind it. Assumes
 -- nothing.
+use Prim.Native.Nat.{ℕ}
 use mathlib.Core.Path.{sym, ◌∙◌, ap}
-use mathlib.Core.Bool.{false≢true}
 use native.Mathlib.Omega.{arith}
+use Rattle.std.proofs.lemmas.Result.{err_from_is_err_and}
+use Rattle.base.specs.RefusalNumbers.{number_of}
+use Rattle.timetable.specs.Formats.{read}
+use Rattle.timetable.specs.TimetableFile.{visits_format}
 use Rattle.fields.proofs.EntryLaws.{field_bounded}
-use Rattle.fields.specs.between.Answers.{field_outcome}
-use Rattle.timetable_entries.specs.declared.read.EntriesRead.{EntriesRead}
-use Rattle.timetable_entries.specs.between.Entering.{visit_step, unanswered, entries_read, entries_sheet}
+use Rattle.timetable_entries.specs.between.Entering.{no_fault, visit_step, entries_read}
 use Rattle.timetable_entries.proofs.SheetEntries.{progress}
 use Rattle.timetable_entries.proofs.PartLaws.{visit_part_stop, visit_part_then}
-use borrow.Author.Rules.{rules}
 use Rattle.timetable_entries.proofs.read.visit_part.Goals as goal
 
 pub visits-requires : goal.visits-requires
-unfolding field_outcome
 visits-requires c =
     let s = c.args in
-    let o = sym c.field-count.ensures ∙ ap field_outcome c.in-Value.is in
-    (c.requires, omega (arith, (field_bounded 0 384 s.file.now s.at c.in-Value.k c.in-Value.next o).1))
+    (c.requires, omega (arith, (field_bounded 0 384 s.file.now s.at c.in_ok-count.count c.in_ok-count.next (sym c.in_ok-count.ensures)).1))
 
-pub returns-in-Refused : goal.returns-in-Refused
-unfolding entries_read unanswered field_outcome
-returns-in-Refused c =
+pub returns-in_err-count-clause-read : goal.returns-in_err-count-clause-read
+unfolding entries_read
+returns-in_err-count-clause-read c =
     let s = c.args in
-    let o = sym c.field-count.ensures ∙ ap field_outcome c.in-Refused.is in (
-      c.refused_entries.ensures ∙ sym (ap (entries_read (visit_step s.n) (progress s.sheet.now s.fault)) (visit_part_stop s.form s.file.now s.at c.in-Refused.k c.in-Refused.p o)),
-      λ t. absurd (false≢true (sym (ap (λ (x : EntriesRead). x.accepted) c.refused_entries.ensures) ∙ t)),
-    )
+    let e = c.in_err-count.field-0.0 in
+    let p = err_from_is_err_and c.from_residual.result c.from_residual.ensures.1 in
+    rw (p.1, p.2) (sym (ap (entries_read (visit_step s.n.now) (progress s.sheet.now no_fault)) (visit_part_stop s.form s.file.now s.at (number_of e.refusal) e.place (sym c.in_err-count.ensures))))
 
-pub returns-in-Value : goal.returns-in-Value
-unfolding field_outcome
-returns-in-Value c =
+pub returns : goal.returns
+returns c =
     let s = c.args in
-    let o = sym c.field-count.ensures ∙ ap field_outcome c.in-Value.is in
-    let q = visit_part_then s.form s.file.now s.at c.in-Value.k c.in-Value.next o in
-    let v = c.visits.ensures in (
-      v.0 ∙ sym (ap (entries_read (visit_step s.n) (progress s.sheet.now s.fault)) q),
-      λ t. v.1 t ∙ sym (ap (entries_sheet (visit_step s.n) (progress s.sheet.now s.fault)) q),
-    )
+    let q = visit_part_then s.form s.file.now s.at c.in_ok-count.count c.in_ok-count.next (sym c.in_ok-count.ensures) ∙ ap (λ (k : ℕ). read (visits_format s.form k) s.file.now c.in_ok-count.next) (sym c.from.ensures) in
+    rw q (record { read = c.visits.ensures.read; ok = c.visits.ensures.ok })
