@@ -1,38 +1,33 @@
 -- `timetable_files::input::read_inspect` meets its contract: 5, a faulty number of the network, or the timetable behind
 -- it as a whole. Assumes nothing.
-use mathlib.Core.Path.{sym, ◌∙◌, ap}
-use Rattle.timetable_entries.specs.Answers.{timetable_outcome}
-use Rattle.timetable_files.proofs.InspectLaws.{wrong_length, network_faulty, rest_refused, rest_taken}
+use mathlib.Core.Path.{◌∙◌}
+use Rattle.std.proofs.lemmas.Result.{err_from_is_err_and}
+use Rattle.timetable_entries.specs.Answers.{fault_told}
+use Rattle.timetable_files.proofs.InspectLaws.{same_told, wrong_length, network_faulty, rest_refused, rest_taken}
 use Rattle.timetable_files.proofs.input.read_inspect.Goals as goal
 
 pub returns-then-sheet-ne8192 : goal.returns-then-sheet-ne8192
-returns-then-sheet-ne8192 c =
-    let s = c.args in
-    let (a, b) = wrong_length s.file.now s.sheet.now c.if-sheet-ne8192.true in
-    (c.refused_inspect.ensures ∙ a, b)
+returns-then-sheet-ne8192 c = let s = c.args in wrong_length s.file.now s.sheet.now c.if-sheet-ne8192.true
 
-pub returns-in-Refused : goal.returns-in-Refused
-unfolding timetable_outcome
-returns-in-Refused c =
+pub returns-in_err-head : goal.returns-in_err-head
+returns-in_err-head c =
     let s = c.args in
-    let d = c.read_draft-head in
-    let r = c.read_rest-found in
-    let told = sym (ap timetable_outcome c.in-Refused.is) ∙ r.ensures.0 in
-    let (a, b) = rest_refused s.file.now s.sheet.now d.result d.ensures c.if-head.true c.in-Refused.k c.in-Refused.p told _ r.ensures.1 in
-    (c.refused_inspect-in-Refused.ensures ∙ a, b)
+    let p = err_from_is_err_and c.from_residual.result c.from_residual.ensures.1 in
+    rw (p.1, p.2) (network_faulty s.file.now s.sheet.now c.if-sheet-ne8192.false c.in_err-head.field-0.0 c.in_err-head.ensures)
 
-pub returns-in-Read : goal.returns-in-Read
-unfolding timetable_outcome
-returns-in-Read c =
+pub returns-in_err-place : goal.returns-in_err-place
+returns-in_err-place c =
     let s = c.args in
-    let d = c.read_draft-head in
-    let r = c.read_rest-found in
-    let told = sym (ap timetable_outcome c.in-Read.is) ∙ r.ensures.0 in
-    rest_taken s.file.now s.sheet.now d.result d.ensures c.if-head.true c.in-Read.place told _ r.ensures.1
+    let d = c.in_ok-head in
+    let (x, o, is) = d.ensures in
+    let r = c.in_err-place.ensures in
+    let p = err_from_is_err_and c.from_residual-in_err-place.result c.from_residual-in_err-place.ensures.1 in
+    rw (p.1, p.2) (rest_refused s.file.now s.sheet.now x d.first o d.head.network is.0 (fault_told d.head.fault) (same_told d.head.fault ∙ is.1) c.in_err-place.field-0.0 r.0 _ r.1)
 
-pub returns-else-head : goal.returns-else-head
-returns-else-head c =
+pub returns : goal.returns
+returns c =
     let s = c.args in
-    let d = c.read_draft-head in
-    let (a, b) = network_faulty s.file.now s.sheet.now d.result d.ensures c.if-sheet-ne8192.false c.if-head.false in
-    (c.refused_inspect-else-head.ensures ∙ a, b)
+    let d = c.in_ok-head in
+    let (x, o, is) = d.ensures in
+    let r = c.in_ok-place in
+    rest_taken s.file.now s.sheet.now x d.first o d.head.network is.0 (fault_told d.head.fault) (same_told d.head.fault ∙ is.1) r.place r.ensures.0 _ r.ensures.1
