@@ -8,6 +8,7 @@ use crate::field::field;
 use base::refusal::FileError;
 
 // The least value that the next number may have.
+#[tactic(auto, using(crate::proofs::FloorLaws::least_none, crate::proofs::FloorLaws::least_last, crate::proofs::FloorLaws::least_more))]
 fn least(floor: &[u16], lo: u32) -> u32
     ensures { result ≡ least lo floor.now }
 {
@@ -19,6 +20,7 @@ fn least(floor: &[u16], lo: u32) -> u32
 }
 
 /// What is left to compare with behind the number n.
+#[tactic(auto, using(crate::proofs::FloorLaws::after_none, crate::proofs::FloorLaws::after_equal, crate::proofs::FloorLaws::after_other))]
 pub fn floor_after(floor: &[u16], n: u16) -> &[u16]
     ensures { result.now ≡ floor_after n floor.now }
 {

@@ -1,6 +1,7 @@
 // Numbers as bytes, put into a buffer from a place on; what is past the buffer's end is dropped. The place behind them
 // is answered. Places stay far from overflow: beyond the last one of `Putting` nothing is put, and the place stays.
-ghost use Rattle.std.specs.Prelude.{◌≡◌, List, [], ◌∷◌, ◌++◌, ℕ, ◌+◌, ◌≤◌, ◌<◌, length, take};
+ghost use Rattle.std.specs.Prelude.{◌≡◌, List, [], ◌∷◌, ◌++◌, ℕ, ◌+◌, ◌≤◌, ◌<◌, ltb, length, set, take};
+ghost use Rattle.std.specs.Prelude.{if◌then◌else◌};
 ghost use Rattle.numbers.specs.Numbers.{write_number};
 ghost use Rattle.timetable.specs.Outputs.{put};
 ghost use Rattle.fields.specs.between.Answers.{in_use, row_of};
@@ -26,7 +27,8 @@ impl Numbers {
 
     /// One number more, where there is room for it.
     pub fn with(self, x: u16) -> Numbers
-        ensures { (ns : List ℕ) → self ≡ row_of ns → length ns < 13 → result ≡ row_of (ns ++ (x ∷ [])) }
+        ensures whole { result ≡ (if ltb self.count 13 then record { count = self.count + 1; values = set self.values self.count x } else self) }
+        ensures row { (ns : List ℕ) → self ≡ row_of ns → length ns < 13 → result ≡ row_of (ns ++ (x ∷ [])) }
     {
         let mut row = self;
         if row.count < 13 {
@@ -37,6 +39,7 @@ impl Numbers {
     }
 
     /// The numbers that are there.
+    #[tactic(auto, using(network::proofs::RowsInUse::used_rows), unfolding(crate::specs::between::Answers::in_use))]
     pub fn in_use(&self) -> &[u16]
         ensures { result.now ≡ in_use self.now }
     {
@@ -44,6 +47,7 @@ impl Numbers {
     }
 }
 
+#[tactic(auto, unfolding(timetable::specs::Outputs::put))]
 fn put_byte(out: &mut [u8], at: usize, b: u8)
     ensures { out.new ≡ put at (b ∷ []) out.old }
 {
