@@ -38,6 +38,7 @@ fn ranged(n: u32, place: usize, next: usize, lo: u32, hi: u16) -> Result<(u16, u
 
 /// The number of lo..hi at a place of the file, and the place behind it. Most numbers are below 128, a byte: for them
 /// no part of the file is lent, and no function that calls itself is called, as that is not merged into its caller.
+/// Place and bounds are arguments and no structs: a literal of a struct takes four lines at each call.
 pub fn field(file: &[u8], at: usize, lo: u32, hi: u16) -> Result<(u16, usize), FileError>
     ensures { outcome result ≡ field_at lo hi file.now at }
 {

@@ -7,7 +7,8 @@ ghost use Rattle.timetable.specs.Outputs.{put};
 ghost use Rattle.fields.specs.between.Answers.{in_use, row_of};
 ghost use Rattle.fields.specs.between.Putting.{Puts, Places};
 
-/// Up to thirteen numbers of a row: the first `count` of `values`.
+/// Up to thirteen numbers of a row: the first `count` of `values`. A function hands it out, so it is no slice, and no
+/// memory is taken for it.
 #[derive(Clone, Copy, Debug, PartialEq, Eq, Hash)]
 pub struct Numbers {
     pub count: usize,

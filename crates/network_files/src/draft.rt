@@ -89,6 +89,8 @@ fn station_row(file: &[u8], at: usize, before: u8) -> Result<(StationRow, usize)
     Ok((row, place))
 }
 
+// Rows of one kind; lines and closures have loops of their own, as one for all would have to hand out each row's place
+// for the faults that they show, and go over the rows again.
 fn stations(file: &[u8], at: usize, count: u16) -> Result<([StationRow; 16], usize), FileError>
     requires { count ≤ 16 }
     ensures { Tells StationsOf result (read (stations_format count) file.now at) }
