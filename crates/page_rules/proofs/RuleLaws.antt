@@ -1,13 +1,14 @@
 -- Laws about the parts of the rules: trains ahead of one, one entry at a time; the relation of four places that each
 -- hold a train or none; the arrival of a train that comes towards a station. Assumes nothing.
-use Prim.Native.Nat.{ℕ, ◌+◌, ◌<◌}
+use Prim.Native.Nat.{ℕ, zero, suc, ◌+◌}
 use mathlib.Core.Path.{◌≡◌, refl, sym, ap, ap₂, ◌∙◌}
 use mathlib.Core.Bool.{Bool, true, false, not, ◌&&◌, ◌||◌}
 use mathlib.Core.List.{List, [], ◌∷◌, map}
 use native.Mathlib.Omega.{arith}
 use lib.ListN.{length, drop}
 use Rattle.base.specs.Choice.{◌if◌else◌}
-use Rattle.std.specs.List.{list_all}
+use Rattle.std.specs.Prelude.{cond}
+use Rattle.std.specs.List.{list_all, list_any, filter, range_with_len}
 use Rattle.std.specs.Prelude.{if◌then◌else◌}
 use Rattle.base.specs.Lists.{any, every, keep, is, each_two}
 use Rattle.base.proofs.Tests.{T_true, every_true}
@@ -18,7 +19,7 @@ use Rattle.timetable.specs.Rules.{both_visit, ahead, caught, others}
 use Rattle.records.specs.Records.{decode_train, decode_visit}
 use Rattle.page.specs.between.Changes.{table_in}
 use Rattle.page.specs.between.Entries.{entry_bytes, entry_at}
-use Rattle.page.proofs.EntryLaws.{entries_next, entry_of, entry_parts}
+use Rattle.page.proofs.EntryLaws.{entries_next, entries_over, entry_of, entry_parts}
 use Rattle.page_rules.specs.Types.{Train, Outward, Visit, Trains}
 use Rattle.rules.specs.between.Parts.{entry, leads, catches}
 use Rattle.page_rules.specs.between.Parts.{one_met, two_met, leaders}
@@ -29,12 +30,6 @@ use Rattle.page_rules.specs.between.Parts.{one_met, two_met, leaders}
 pub entry_read : (page : List ℕ) (i : ℕ) (r : List ℕ) (u : Train) (w : Visit) → r ≡ entry_bytes i page → u ≡ decode_train r → w ≡ decode_visit r
     → entry u w ≡ entry_at i page
 entry_read page i r u w read p q = entry_parts r u w p q ∙ entry_of r page i read
-
--- the entries from an index on, by the one that is read there
-pub entries_at : (page : List ℕ) (i n : ℕ) (e : Entry) → n ≡ length (table_in page).visits → i < n → e ≡ entry_at i page
-    → drop i (table_in page).visits ≡ e ∷ drop (i + 1) (table_in page).visits
-entries_at page i n e many h read =
-    rw (entries_next page i n many h) (ap (λ (x : Entry). x ∷ drop (i + 1) (table_in page).visits) (sym read))
 
 module _ (t : Train) (v : Visit) (o : Outward) (e : Entry) (es : List Entry) where
   -- an entry comes before those that lead among the rest, or is left out
@@ -48,13 +43,6 @@ module _ (t : Train) (v : Visit) (o : Outward) (e : Entry) (es : List Entry) whe
       go false b q = refl
       go true true q = rw q
       go true false q = rw q
-
-  pub leaders_many : length (leaders t v o (e ∷ es)) ≡ (1 if leads t v o e else 0) + length (leaders t v o es)
-  leaders_many = ap length leaders_next ∙ go (leads t v o e)
-    where
-      go : (b : Bool) → length (if b then e.visit ∷ leaders t v o es else leaders t v o es) ≡ (1 if b else 0) + length (leaders t v o es)
-      go true = omega arith
-      go false = omega arith
 
   pub leaders_caught : any (caught v o) (leaders t v o (e ∷ es)) ≡ (catches t v o e || any (caught v o) (leaders t v o es))
   unfolding catches any
@@ -71,6 +59,29 @@ leaders_none t v o = refl
 pub none_caught : (t : Train) (v : Visit) (o : Outward) → any (caught v o) (leaders t v o []) ≡ false
 unfolding leaders others keep any
 none_caught t v o = refl
+
+-- the entries of a page from an index on, gone through by their indices
+module _ (t : Train) (v : Visit) (o : Outward) (page : List ℕ) where
+  pub ahead_from : (i k : ℕ) → i + k ≡ length (table_in page).visits
+      → length (filter (λ j. leads t v o (entry_at j page)) (range_with_len i k)) ≡ length (leaders t v o (drop i (table_in page).visits))
+  ahead_from i zero e =
+      rw (entries_over page i (length (table_in page).visits) refl (omega arith)) (sym (leaders_none t v o))
+  ahead_from i (suc k) e =
+      rw (entries_next page i (length (table_in page).visits) refl (omega arith), leaders_next t v o (entry_at i page) (drop (i + 1) (table_in page).visits))
+      (go (leads t v o (entry_at i page)) (ahead_from (i + 1) k (omega arith)))
+    where
+      go : (b : Bool) → length (filter (λ j. leads t v o (entry_at j page)) (range_with_len (i + 1) k)) ≡ length (leaders t v o (drop (i + 1) (table_in page).visits))
+          → length (cond b (i ∷ filter (λ j. leads t v o (entry_at j page)) (range_with_len (i + 1) k)) (filter (λ j. leads t v o (entry_at j page)) (range_with_len (i + 1) k)))
+          ≡ length (if b then (entry_at i page).visit ∷ leaders t v o (drop (i + 1) (table_in page).visits) else leaders t v o (drop (i + 1) (table_in page).visits))
+      go true h = rw h
+      go false h = h
+
+  pub caught_from : (i k : ℕ) → i + k ≡ length (table_in page).visits
+      → list_any (λ j. catches t v o (entry_at j page)) (range_with_len i k) ≡ any (caught v o) (leaders t v o (drop i (table_in page).visits))
+  caught_from i zero e =
+      rw (entries_over page i (length (table_in page).visits) refl (omega arith)) (sym (none_caught t v o))
+  caught_from i (suc k) e =
+      rw (entries_next page i (length (table_in page).visits) refl (omega arith), leaders_caught t v o (entry_at i page) (drop (i + 1) (table_in page).visits), caught_from (i + 1) k (omega arith))
 
 -- rule 4
 

@@ -17,23 +17,16 @@ use visits::Entry;
 fn count_ahead(page: &[u8], t: Entry, o: Outward) -> usize
     ensures { result ≡ length (leaders t.train t.visit o (table_in page.now).visits) }
 {
-    let mut count: usize = 0;
-    for i in 0..page::visit_count(page) {
-        count += usize::from(trains::does_lead(t, o, entry_at(page, i)));
-    }
-    count
+    (0..page::visit_count(page))
+        .filter(|i| trains::does_lead(t, o, entry_at(page, *i)))
+        .count()
 }
 
 // One of them is caught.
 fn any_caught(page: &[u8], t: Entry, o: Outward) -> bool
     ensures { result ≡ any (caught t.visit o) (leaders t.train t.visit o (table_in page.now).visits) }
 {
-    for i in 0..page::visit_count(page) {
-        if trains::does_catch(t, o, entry_at(page, i)) {
-            return true;
-        }
-    }
-    false
+    (0..page::visit_count(page)).any(|i| trains::does_catch(t, o, entry_at(page, i)))
 }
 
 // "There are some, and they number the capacity or more, or one's departure + run isn't below t's."

@@ -63,6 +63,7 @@ fn is_far_broken(sheet: &[u8], n: &Network, scope: Scope, s: Station, rule: u16,
     }
 }
 
+// The rule stays a number here and below: `broken`, `second_of` and `clash` of specs/between/Tests.antt speak of each.
 pub fn is_broken(
     sheet: &[u8],
     here: &[u8],

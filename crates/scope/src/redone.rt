@@ -3,7 +3,7 @@ ghost use Rattle.std.specs.Prelude.{◌≡◌};
 ghost use Rattle.timetable.specs.Findings.{is_far};
 ghost use Rattle.scope.specs.Redone.{all_redone, level, is_redone};
 
-// How much is redone at each station.
+// How much is redone at each station. A flag and numbers, and no cases: `level` of specs/Redone.antt reads both fields.
 #[derive(Clone, Copy, Debug, PartialEq, Eq, Hash)]
 pub struct Marks {
     // All findings, whatever their station.
