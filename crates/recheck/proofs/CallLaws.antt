@@ -2,7 +2,12 @@
 -- nothing refuses is the update. Assumes nothing.
 use Prim.Native.Nat.{ℕ}
 use mathlib.Core.Path.{◌≡◌, refl, sym, ◌∙◌, ap, fun_ext}
-use mathlib.Core.Bool.{Bool, true, false, not}
+use mathlib.Core.Bool.{Bool, true, false, false≢true, not}
+use Rattle.std.specs.Prelude.{Result, Ok, Err}
+use Rattle.std.specs.Result.{is_err}
+use Rattle.base.specs.RefusalNumbers.{refusal_number}
+use Rattle.base.specs.declared.refusal.Refusal.{Refusal}
+use Rattle.timetable.proofs.OutputLaws.{number_there}
 use mathlib.Core.List.{List}
 use lib.Dec.{T, eqb}
 use lib.ListN.{length}
@@ -33,8 +38,20 @@ use Rattle.recheck.specs.Types.{Area, Edit, Network, Finding, Marks}
 use Rattle.recheck.specs.between.Marks.{marks_of}
 use Rattle.recheck.specs.between.Kept.{Ordered, list_with}
 use Rattle.recheck.specs.Rechecks.{list_refusal, recheck_refusal, recheck_list, own_refusal, area_recheck_refusal, area_recheck_list}
+use Rattle.findings.specs.between.Extents.{extent_known, scope_of}
+use Rattle.recheck.specs.between.Extents.{extent_own, extent_refusal, extent_list}
 use Rattle.recheck.proofs.MarkLaws.{marks_redo, list_updated}
 use Rattle.recheck.proofs.RisingLaws.{rising_ordered}
+
+-- a result that is an error has a number
+
+pub err_told : {T : Type 0} (r : Result T Refusal) → is_err r ≡ true → ¬ (refusal_number r ≡ 0)
+err_told (Ok x) e z = false≢true e
+err_told (Err r) e z = number_there r z
+
+pub ok_told : {T : Type 0} (r : Result T Refusal) → is_err r ≡ false → refusal_number r ≡ 0
+ok_told (Ok x) e = refl
+ok_told (Err r) e = absurd (false≢true (sym e))
 
 -- what refuses, test by test: own, network and both are what refuses early
 
@@ -165,3 +182,26 @@ module _ (n : Network) (e : Edit) (sheet list : List ℕ) where
     unfolding area_recheck_list
     area_updated z =
         updated_so n e (area_passed z).1 (group_findings n (area_of n) (decode_sheet sheet) a.0) list _ (redone_within n (edit_marks n e) (decode_sheet sheet) a)
+
+-- by the extent
+
+pub own_by : (extent : Extent) (e : Edit) → extent_own extent e ≡ (3 if not (extent_known extent) else edit_refusal e)
+unfolding own_refusal
+own_by Extent.Whole e = refl
+own_by (Extent.Of a) e = refl
+
+module _ (n : Network) (e : Edit) where
+  pub extent_refused : (extent : Extent) (sheet list : List ℕ)
+      → call_refusal (eqb (length sheet) 8192) (early (extent_own extent e) (network_refusal n) (unknown_refusal n e)) (sheet_passes n extent sheet) (list_refusal list)
+      ≡ extent_refusal n e extent sheet list
+  extent_refused Extent.Whole sheet list = whole_refused n e sheet list
+  extent_refused (Extent.Of a) sheet list = area_refused n e sheet list a
+
+  pub extent_passed : (extent : Extent) (sheet list : List ℕ) → extent_refusal n e extent sheet list ≡ 0 → (length sheet ≡ 8192) × Early n e × Ordered list
+  extent_passed Extent.Whole sheet list z = whole_passed n e sheet list z
+  extent_passed (Extent.Of a) sheet list z = area_passed n e sheet list a z
+
+  pub extent_updated : (extent : Extent) (sheet list : List ℕ) → extent_refusal n e extent sheet list ≡ 0
+      → list_with (edit_marks n e) list (redone_numbers n (scope_of extent) (edit_marks n e) (decode_sheet sheet)) ≡ extent_list n e extent sheet list
+  extent_updated Extent.Whole sheet list z = whole_updated n e sheet list z
+  extent_updated (Extent.Of a) sheet list z = area_updated n e sheet list a z

@@ -1,11 +1,12 @@
 -- Findings as four numbers each: a list from a place on begins with the four there, where so many are left; whole findings_in
 -- and their numbers give each other back; and what stays of a list, by its next four. Assumes nothing.
-use Prim.Native.Nat.{ℕ, ◌+◌, ◌*◌, ◌%◌, ◌<◌, ◌≤◌}
+use Prim.Native.Nat.{ℕ, ◌+◌, ◌-◌, ◌*◌, ◌%◌, ◌<◌, ◌≤◌}
 use mathlib.Core.Path.{◌≡◌, refl, ◌∙◌, ap}
 use mathlib.Core.Bool.{true, false}
 use mathlib.Core.List.{List, [], ◌∷◌, ◌++◌, flat_map}
 use native.Mathlib.Omega.{arith}
-use lib.ListN.{length, drop, get_or, length-drop}
+use native.Mathlib.Nat.{add-sub_cancel_left}
+use lib.ListN.{length, take, drop, get_or, length-drop}
 use Rattle.base.specs.Lists.{keep}
 use Rattle.base.proofs.Lengths.{drop_next}
 use Rattle.timetable.specs.Findings.{finding, numbers_of, findings_in}
@@ -16,6 +17,10 @@ use Rattle.recheck.specs.between.Kept.{four_at, kept, kept_numbers}
 -- the four numbers at a place, as a finding
 abbrev pub finding_at : ℕ → List ℕ → Finding
 finding_at i xs = finding (record { 0 = get_or xs i 0 }) (get_or xs (i + 1) 0) (get_or xs (i + 2) 0) (get_or xs (i + 3) 0)
+
+pub four_length : (i : ℕ) (xs : List ℕ) → length (four_at i xs) ≡ 4
+unfolding four_at
+four_length i xs = refl
 
 -- four are left
 
@@ -34,6 +39,14 @@ module _ (i : ℕ) (xs : List ℕ) (h : i + 4 ≤ length xs) where
   pub fours_next : findings_in (drop i xs) ≡ finding_at i xs ∷ findings_in (drop (i + 4) xs)
   unfolding findings_in four_at
   fours_next = ap findings_in drop_four
+
+  pub four_cut : take 4 (drop i xs) ≡ four_at i xs
+  unfolding four_at
+  four_cut = ap (take 4) drop_four
+
+  -- as the code cuts them
+  pub four_part : take (i + 4 - i) (drop i xs) ≡ four_at i xs
+  four_part = rw (add-sub_cancel_left i 4) four_cut
 
 -- fewer are left
 

@@ -8,8 +8,8 @@ use mathlib.Core.List.{List}
 use mathlib.Core.Logic.{◌⊎◌, inl, inr}
 use native.Mathlib.Omega.{arith}
 use lib.Dec.{T, eqb, leb, ltb}
-use lib.ListN.{length, drop, get_or}
-use lib.Seq.{get_or-drop}
+use lib.ListN.{length, drop, get_or, length-drop}
+use lib.Seq.{get_or-drop, length-take-le}
 use borrow.Author.Tests.{eqb-true, ltb-true, lt-leb, le-ltb, ne_eqb}
 use Rattle.base.specs.Lists.{below}
 use Rattle.base.proofs.Tests.{T_true, true_T, and_l, and_r}
@@ -101,6 +101,9 @@ module _ {marks : Marks} {list goal rest : List ℕ} {end from : ℕ} (station s
       let all = copies e n (i + 4) (to + 4) (put to (four_at i list) out) (omega (arith, l)) (alike_rest station list i stop a) still one in
       let far : to + 4 + (stop - (i + 4)) ≡ to + (stop - i) = omega (arith, l) in
       rw (far, written i stop to list out (omega (arith, l)) fits) at all
+
+pub run_size : (list : List ℕ) (i stop : ℕ) → Run list i stop → length (part i stop list) ≡ stop - i
+run_size list i stop run = length-take-le (stop - i) (drop i list) (omega (arith, length-drop i list, run.1))
 
 -- a run at once
 

@@ -6,7 +6,7 @@ use mathlib.Core.Bool.{Bool, true, false}
 use mathlib.Core.List.{List, [], ◌∷◌, ◌++◌, append-nil, append_assoc}
 use native.Mathlib.Omega.{arith}
 use lib.ListN.{length, take, drop, drop_of_length-le, length-append}
-use lib.Seq.{paste, length-take-le, take_at, drop_at, drop-drop}
+use lib.Seq.{length-take-le, take_at, drop_at, drop-drop}
 use Rattle.std.specs.Prelude.{if◌then◌else◌}
 use Rattle.base.specs.Lists.{keep}
 use Rattle.base.proofs.Lengths.{keep_no_longer}
@@ -23,7 +23,9 @@ use Rattle.findings.specs.Lists.{Answers}
 use Rattle.findings.proofs.ListsBuilt.{passes}
 use Rattle.findings.proofs.ListCalls.{too_short, written}
 use Rattle.findings.proofs.RedoneBuilt.{redone, redone_taken}
-use Rattle.recheck.specs.Types.{Network, Finding, Marks, Output}
+use Rattle.recheck.specs.Types.{Network, Finding, Marks}
+use Rattle.std.specs.Prelude.{Ok, Err}
+use Rattle.base.specs.declared.refusal.OutputError.{OutputError}
 use Rattle.recheck.specs.between.Kept.{kept, kept_numbers, list_with, CanWeave, woven}
 use Rattle.recheck.proofs.FourLaws.{numbers_fours, numbers_length}
 
@@ -70,7 +72,7 @@ module _ (marks : Marks) (list xs : List ℕ) (whole : length xs % 4 ≡ 0) wher
 
   -- a buffer that is too short for it
   pub short_answers : (buffer : List ℕ) (at w : ℕ) → length (kept_numbers marks list) ≡ at → length xs ≡ w → length buffer < at + w
-      → Answers 0 (list_with marks list xs) buffer (Output.TooShort (at + w)) buffer
+      → Answers 0 (list_with marks list xs) buffer (Err (OutputError.TooShort (at + w))) buffer
   short_answers buffer at w k e h = too_short (list_with marks list xs) buffer (at + w) (omega (arith, with_length)) h
 
 -- what is redone is whole findings
@@ -80,13 +82,6 @@ redone_fours n scope marks m =
     omega (arith, ap length (redone_taken n marks m scope), numbers_length fs)
 
 -- numbers into just their room
-
--- a part that was copied to its end
-pub copied_whole : (part draft : List ℕ) (i : ℕ) → i ≡ length part → paste part 0 draft i ≡ take (length part) draft
-copied_whole part draft i e =
-    ap (λ (l : List ℕ). take i draft ++ l) (drop_of_length-le part {i = 0 + i} (omega (arith, e)))
-    ∙ append-nil (take i draft)
-    ∙ ap (λ (k : ℕ). take k draft) e
 
 -- a part that they were put into
 pub put_just : (xs part : List ℕ) → length part ≡ length xs → put 0 xs part ≡ xs
@@ -122,7 +117,7 @@ module _ (at w : ℕ) (out xs : List ℕ) (fits : at + w ≤ length out) (just :
 
     -- the list is then written, and the rest is as it was
     pub woven_answers : (after : List ℕ) → after ≡ woven marks list at (at + w) (filled at w out xs)
-        → Answers 0 (list_with marks list xs) out (Output.Written (at + w)) after
+        → Answers 0 (list_with marks list xs) out (Ok (at + w)) after
     unfolding woven
     woven_answers after e =
         let long : at + w ≡ length (list_with marks list xs) = omega (arith, with_length marks list xs whole) in

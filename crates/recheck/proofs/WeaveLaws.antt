@@ -9,17 +9,18 @@ use native.Mathlib.Numerals.{add-one}
 use native.Mathlib.Omega.{arith}
 use lib.Dec.{leb, leb→le}
 use lib.ListN.{length, take, drop, get_or, set, length-set, length-take, length-drop, take-append-drop}
-use lib.Seq.{take-append-add, take-add, take-suc, take-suc-set, length-take-le, get_or-drop, drop-set-lt, append_snoc}
+use native.Mathlib.Nat.{add-sub_cancel_left}
+use lib.Seq.{paste, take-append-add, take-add, take-suc-set, drop-drop, drop-set-lt, append_snoc}
 use borrow.Author.Tests.{leb-true, leb-false}
 use Rattle.base.proofs.Tests.{T_true, true_T, and_l, and_r}
 use Rattle.timetable.specs.Outputs.{put}
 use Rattle.timetable.specs.Findings.{finding, numbers_of, findings_in}
 use Rattle.timetable.specs.Recheck.{before, leading, trailing, together}
-use Rattle.timetable.proofs.BuffersFilled.{put_length, put_append}
+use Rattle.timetable.proofs.BuffersFilled.{put_length}
 use Rattle.scope.specs.Redone.{is_redone}
 use Rattle.recheck.specs.Types.{Finding, Marks}
 use Rattle.recheck.specs.between.Kept.{four_at, before_at, kept, kept_numbers, part, comes_first, list_with, CanWeave}
-use Rattle.recheck.proofs.FourLaws.{finding_at, drop_four, numbers_fours, kept_over, none_over, kept_skip, kept_stay, length_skip, length_stay}
+use Rattle.recheck.proofs.FourLaws.{finding_at, drop_four, four_cut, numbers_fours, kept_over, none_over, kept_skip, kept_stay, length_skip, length_stay}
 
 -- numbers written from a place on: up to their end they stand behind what was there, and what is behind them stays
 
@@ -40,17 +41,20 @@ module _ {X : Type 0} where
   put_behind at [] b m h = refl
   put_behind at (x ∷ xs) b m h = put_behind (at + 1) xs (set b at x) m (omega arith) ∙ drop-set-lt m b at x (omega arith)
 
-  -- of a list's numbers from i on, one more
-  pub put_more : (at : ℕ) (xs b : List X) (i j : ℕ) (d : X) → i + j < length xs
-      → set (put at (take j (drop i xs)) b) (at + j) (get_or xs (i + j) d) ≡ put at (take (j + 1) (drop i xs)) b
-  unfolding put
-  put_more at xs b i j d h =
-      let room : j < length (drop i xs) = simp length-drop (omega arith) in
-      let front = take j (drop i xs) in
-      let e : take (j + 1) (drop i xs) ≡ front ++ (get_or xs (i + j) d ∷ []) = rw (add-one j, sym (get_or-drop i xs j d)) (take-suc (drop i xs) j d room) in
-      sym (ap (λ (l : List X). put at l b) e
-      ∙ put_append at front (get_or xs (i + j) d ∷ []) b
-      ∙ ap (λ (n : ℕ). set (put at front b) (at + n) (get_or xs (i + j) d)) (length-take-le j (drop i xs) (omega (arith, room))))
+  -- so they are written at once
+  pub put_at : (at : ℕ) (xs b : List X) → at + length xs ≤ length b → put at xs b ≡ take at b ++ (xs ++ drop (length xs) (drop at b))
+  put_at at xs b h =
+      sym (take-append-drop (at + length xs) (put at xs b))
+      ∙ ap₂ (λ (u v : List X). u ++ v) (put_front at xs b h) (put_behind at xs b (at + length xs) (omega arith) ∙ sym (drop-drop (length xs) at b))
+      ∙ append_assoc (take at b) xs (drop (length xs) (drop at b))
+
+-- four numbers moved
+pub moved : (to from : ℕ) (out : List ℕ) → to + 4 ≤ length out → from + 4 ≤ length out → paste out to (drop from out) (from + 4 - from) ≡ put to (four_at from out) out
+unfolding four_at
+moved to from out h k =
+    rw (add-sub_cancel_left from 4, four_cut from out k)
+    (append_assoc (take to out) (four_at from out) (drop (to + 4) out)
+    ∙ ap (λ (r : List ℕ). take to out ++ (four_at from out ++ r)) (sym (drop-drop 4 to out)) ∙ sym (put_at to (four_at from out) out h))
 
 -- one step of two lists as one
 

@@ -11,46 +11,26 @@ pub(crate) fn is_before(a: &[u16], i: usize, b: &[u16], j: usize) -> bool
     requires { (i + 4 ≤ length a.now) × (j + 4 ≤ length b.now) }
     ensures { result ≡ before_at i a.now j b.now }
 {
-    let station = a[i];
-    let other_station = b[j];
-    if station != other_station {
-        return station < other_station;
-    }
-    let rule = a[i + 1];
-    let other_rule = b[j + 1];
-    if rule != other_rule {
-        return rule < other_rule;
-    }
-    let first = a[i + 2];
-    let other_first = b[j + 2];
-    if first != other_first {
-        return first < other_first;
-    }
-    let second = a[i + 3];
-    let other_second = b[j + 3];
-    second < other_second
+    a[i..i + 4] < b[j..j + 4]
 }
 
 // "3 unless it rises", strictly, in whole findings.
 pub(crate) fn rises(list: &[u16]) -> bool
     ensures { result ≡ list_rises list.now }
 {
-    let k = list.len();
-    if k % 4 != 0 {
+    if list.len() % 4 != 0 {
         return false;
     }
-    let mut i: usize = 4;
-    while i < k {
-        if !is_before(list, i - 4, list, i) {
+    for i in 1..list.len() / 4 {
+        if !is_before(list, 4 * i - 4, list, 4 * i) {
             return false;
         }
-        i += 4;
     }
     true
 }
 
 // Behind the findings from i on that have the station of the one at i, searched by halving: at least `low` of them have
-// it, and at most `high`.
+// it, and at most `high`. The loop stays a `while`, since each step is half of what is left (one by one is slower).
 pub(crate) fn run_end(list: &[u16], i: usize) -> usize
     requires { (i + 4 ≤ length list.now) × (i % 4 ≡ 0) × Ordered list.now }
     ensures { Run list.now i result }
@@ -75,12 +55,11 @@ fn entries_kept(list: &[u16], marks: Marks, start: usize, end: usize) -> usize
     ensures { Stay marks list.now start end result }
 {
     let mut kept: usize = 0;
-    let mut i = start;
-    while i < end {
-        if !redone::is_redone(marks, list[i], list[i + 1]) {
+    for i in 0..(end - start) / 4 {
+        let at = start + 4 * i;
+        if !redone::is_redone(marks, list[at], list[at + 1]) {
             kept += 4;
         }
-        i += 4;
     }
     kept
 }
@@ -100,7 +79,8 @@ fn run_kept(list: &[u16], marks: Marks, i: usize, end: usize) -> usize
     entries_kept(list, marks, i, end)
 }
 
-// How many numbers of the list stay, run by run: findings of one station stand side by side.
+// How many numbers of the list stay, run by run: findings of one station stand side by side. The loop stays a `while`,
+// since a step is as long as the run that is found.
 pub(crate) fn kept_length(list: &[u16], marks: Marks) -> usize
     requires { Ordered list.now }
     ensures { result ≡ length (kept_numbers marks list.now) }

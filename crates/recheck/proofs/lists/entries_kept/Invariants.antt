@@ -1,13 +1,8 @@
 -- `recheck::lists::entries_kept` meets its contract. The loop's invariant: what stays from the start on is what was
--- counted and what stays from i on. Assumes nothing.
-use Prim.Native.Nat.{◌-◌, ◌%◌, ◌≤◌}
-use mathlib.Core.Path.{◌≡◌}
-use lib.ListN.{length}
+-- counted and what stays from the next finding on. Assumes nothing.
+use Rattle.std.proofs.Common.{◌+◌, ◌*◌}
 use Rattle.recheck.specs.between.Kept.{Stay}
 use Rattle.recheck.proofs.lists.entries_kept.Given as goal
 
 abbrev pub invariant-loop-i : goal.invariant-loop-i
-invariant-loop-i l = (l.start ≤ l.i) × (l.i ≤ l.end) × ((l.end - l.i) % 4 ≡ 0) × (l.end ≤ length l.list) × Stay l.marks l.list l.start l.i l.kept
-
-abbrev pub decreases-loop-i : goal.decreases-loop-i
-decreases-loop-i l = l.end - l.i
+invariant-loop-i l = Stay l.marks l.list l.start (l.start + 4 * l.i) l.kept

@@ -29,10 +29,10 @@ overflow_add-needed c =
 pub returns-then-out-needed : goal.returns-then-out-needed
 returns-then-out-needed c =
     let s = c.args in
-    let xs = redone_numbers s.n s.scope s.marks (held s.sheet.now) in
+    let xs = redone_numbers s.n.now s.scope s.marks (held s.sheet.now) in
     let k = c.kept_length-kept in
     let w = c.list_redone-redone in
-    short_answers s.marks s.list.now xs (redone_fours s.n s.scope s.marks (held s.sheet.now)) s.out.now k.result w.result (sym k.ensures) (omega (arith, w.ensures.0)) (omega arith)
+    short_answers s.marks s.list.now xs (redone_fours s.n.now s.scope s.marks (held s.sheet.now)) s.out.now k.result w.result (sym k.ensures) (omega (arith, w.ensures.0)) (omega arith)
 
 pub offset_bounds-out-kept : goal.offset_bounds-out-kept
 offset_bounds-out-kept c = search rules
@@ -49,7 +49,7 @@ slice_bounds-fill-end c = search rules
 pub fill-requires : goal.fill-requires
 fill-requires c =
     let s = c.args in
-    let xs = redone_numbers s.n s.scope s.marks (held s.sheet.now) in
+    let xs = redone_numbers s.n.now s.scope s.marks (held s.sheet.now) in
     let k = c.kept_length-kept in
     let w = c.list_redone-redone in
     let size = part_size s.out.now k.result w.result (omega arith) in (
@@ -63,7 +63,7 @@ weave-requires c =
     let k = c.kept_length-kept in
     let w = c.list_redone-redone in
     let f = c.fill in
-    let all = redone_fours s.n s.scope s.marks (held s.sheet.now) in
+    let all = redone_fours s.n.now s.scope s.marks (held s.sheet.now) in
     let just : length f.new.part ≡ w.result = ap length f.ensures ∙ omega (arith, w.ensures.0) in
     (c.requires, can_weave k.result w.result s.out.now f.new.part (omega arith) just s.marks s.list.now (sym k.ensures) (ap (λ (l : List ℕ). length l % 4) f.ensures ∙ all))
 
@@ -73,8 +73,8 @@ returns c =
     let k = c.kept_length-kept in
     let w = c.list_redone-redone in
     let f = c.fill in
-    let all = redone_fours s.n s.scope s.marks (held s.sheet.now) in
+    let all = redone_fours s.n.now s.scope s.marks (held s.sheet.now) in
     let just : length f.new.part ≡ w.result = ap length f.ensures ∙ omega (arith, w.ensures.0) in
-    answers_as 0 0 _ (list_with s.marks s.list.now (redone_numbers s.n s.scope s.marks (held s.sheet.now))) s.out.now _ _ refl
+    answers_as 0 0 _ (list_with s.marks s.list.now (redone_numbers s.n.now s.scope s.marks (held s.sheet.now))) s.out.now _ _ refl
     (ap (list_with s.marks s.list.now) f.ensures)
     (woven_answers k.result w.result s.out.now f.new.part (omega arith) just s.marks s.list.now (sym k.ensures) (ap (λ (l : List ℕ). length l % 4) f.ensures ∙ all) _ c.weave.ensures)

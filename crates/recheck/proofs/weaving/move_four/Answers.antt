@@ -1,7 +1,7 @@
--- `recheck::weaving::move_four` meets its contract: its call writes the four numbers read. Assumes nothing.
-use Rattle.recheck.specs.between.Kept.{four_at}
+-- `recheck::weaving::move_four` meets its contract: four numbers are moved at once. Assumes nothing.
+use Rattle.std.proofs.Common.{◌∙◌}
+use Rattle.recheck.proofs.WeaveLaws.{moved}
 use Rattle.recheck.proofs.weaving.move_four.Goals as goal
 
 pub returns : goal.returns
-unfolding four_at
-returns c = c.write_four.ensures
+returns c = let s = c.args in c.copy_within.ensures.after ∙ moved s.to s.from s.out.now c.requires.0 c.requires.1
