@@ -1,5 +1,5 @@
--- Laws about the parts of the rules: trains ahead of one, one entry at a time; the relation of four places that each
--- hold a train or none; the arrival of a train that comes towards a station. Assumes nothing.
+-- Laws about the parts of the rules: a page's visits by their indices, and those ahead of a train among them; the
+-- relation of four places that each hold a train or none. Assumes nothing.
 use Prim.Native.Nat.{ℕ, zero, suc, ◌+◌}
 use mathlib.Core.Path.{◌≡◌, refl, sym, ap, ap₂, ◌∙◌}
 use mathlib.Core.Bool.{Bool, true, false, not, ◌&&◌, ◌||◌}

@@ -74,7 +74,7 @@ pub fn is_met(page: &[u8], relation: Relation) -> bool
 {
     match relation {
         Relation::Connection(i, ts) => {
-            each_met(page, ts, &|v| visits::does_stop(v))
+            each_met(page, ts, &visits::does_stop)
                 && pairs_met(page, ts, &|v, w| stays::is_connected(i, v, w))
         }
         Relation::Disconnection(i, ts) => {
