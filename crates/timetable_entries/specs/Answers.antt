@@ -1,8 +1,8 @@
 -- What reading a timetable into a lent sheet answers, and what the sheet then holds. Assumes nothing.
-use Rattle.std.specs.Prelude.{ℕ, List, Result, Ok, Err, Option, None, Some}
+pub use Rattle.network_files.specs.between.Faults.{fault_told}
+use Rattle.std.specs.Prelude.{ℕ, List, Result, Ok, Err}
 use Rattle.base.specs.RefusalNumbers.{number_of}
 use Rattle.base.specs.declared.refusal.FileError.{FileError}
-use Rattle.timetable.specs.declared.Fault.{Fault}
 use Rattle.timetable.specs.Formats.{Outcome, accepted, refused}
 use Rattle.timetable.specs.Machine.{Timetable}
 use Rattle.sheet.specs.Sheets.{encode_sheet}
@@ -11,11 +11,6 @@ use Rattle.sheet.specs.Sheets.{encode_sheet}
 abbrev pub timetable_outcome : Result ℕ FileError → Outcome (Unit {0})
 timetable_outcome (Ok next) = accepted tt next
 timetable_outcome (Err e) = refused (number_of e.refusal) e.place
-
--- an error that is kept for later, if there is one, by its number and place
-abbrev pub fault_told : Option FileError → Fault
-fault_told None = record { number = 0; place = 0 }
-fault_told (Some e) = record { number = number_of e.refusal; place = e.place }
 
 -- "equal timetables are equal bytes": the sheet is that of the timetable read; "Each leaves all lent bytes untouched"
 unfoldable pub sheet_of : Outcome Timetable → List ℕ → List ℕ

@@ -8,7 +8,7 @@ use lib.Dec.{leb, eqb}
 use lib.ListN.{length}
 use borrow.Author.Tests.{eq-eqb, ne_eqb}
 use Rattle.std.specs.Prelude.{if◌then◌else◌}
-use Rattle.std.specs.Prelude.{Result, Ok, Err, Option, None, Some}
+use Rattle.std.specs.Prelude.{Result, Ok, Err}
 use Rattle.base.specs.RefusalNumbers.{number_of}
 use Rattle.base.specs.declared.refusal.FileError.{FileError}
 use Rattle.base.specs.declared.refusal.Refusal.TheVariants.{WrongLength}
@@ -24,16 +24,9 @@ use Rattle.fields.specs.Outcomes.{end_of}
 use Rattle.fields.proofs.EndLaws.{end_accepted, end_refused}
 use Rattle.fields.proofs.EntryLaws.{then_on, then_stop, made, unmade, placed_some, placed_none}
 use Rattle.timetable_entries.specs.Answers.{sheet_of}
-use Rattle.timetable_entries.specs.Answers as entries
-use Rattle.network_files.specs.between.Faults as networks
 use Rattle.timetable_entries.specs.between.Rest.{rest_of, rest_outcome}
 use Rattle.timetable_files.specs.declared.input.InspectRead.{InspectRead}
 use Rattle.timetable_files.specs.Inspect.{inspect_outcome, inspect_told, inspect_read, inspect_sheet, inspect_answer, inspect_after}
-
--- a kept fault is told alike beside the network and beside the timetable
-pub same_told : (f : Option FileError) → entries.fault_told f ≡ networks.fault_told f
-same_told None = refl
-same_told (Some e) = refl
 
 -- what the call answers, and the sheet then
 abbrev pub Tells : List ℕ → List ℕ → Result InspectRead FileError → List ℕ → Type 0

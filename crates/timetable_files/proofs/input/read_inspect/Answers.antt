@@ -3,7 +3,7 @@
 use mathlib.Core.Path.{◌∙◌}
 use Rattle.std.proofs.lemmas.Result.{err_from_is_err_and}
 use Rattle.timetable_entries.specs.Answers.{fault_told}
-use Rattle.timetable_files.proofs.InspectLaws.{same_told, wrong_length, network_faulty, rest_refused, rest_taken}
+use Rattle.timetable_files.proofs.InspectLaws.{wrong_length, network_faulty, rest_refused, rest_taken}
 use Rattle.timetable_files.proofs.input.read_inspect.Goals as goal
 
 pub returns-then-sheet-ne8192 : goal.returns-then-sheet-ne8192
@@ -22,7 +22,7 @@ returns-in_err-place c =
     let (x, o, is) = d.ensures in
     let r = c.in_err-place.ensures in
     let p = err_from_is_err_and c.from_residual-in_err-place.result c.from_residual-in_err-place.ensures.1 in
-    rw (p.1, p.2) (rest_refused s.file.now s.sheet.now x d.first o d.head.network is.0 (fault_told d.head.fault) (same_told d.head.fault ∙ is.1) c.in_err-place.field-0.0 r.0 _ r.1)
+    rw (p.1, p.2) (rest_refused s.file.now s.sheet.now x d.first o d.head.network is.0 (fault_told d.head.fault) is.1 c.in_err-place.field-0.0 r.0 _ r.1)
 
 pub returns : goal.returns
 returns c =
@@ -30,4 +30,4 @@ returns c =
     let d = c.in_ok-head in
     let (x, o, is) = d.ensures in
     let r = c.in_ok-place in
-    rest_taken s.file.now s.sheet.now x d.first o d.head.network is.0 (fault_told d.head.fault) (same_told d.head.fault ∙ is.1) r.place r.ensures.0 _ r.ensures.1
+    rest_taken s.file.now s.sheet.now x d.first o d.head.network is.0 (fault_told d.head.fault) is.1 r.place r.ensures.0 _ r.ensures.1
