@@ -9,7 +9,10 @@ use lib.Dec.{T, leb, eqb, leb→le, eqb_refl}
 use lib.ListN.{length}
 use borrow.Author.Tests.{eqb-true, eqb-false, eq-eqb, ne_eqb}
 use Rattle.base.specs.Choice.{◌if◌else◌}
-use Rattle.std.specs.Prelude.{if◌then◌else◌}
+use Rattle.std.specs.Prelude.{if◌then◌else◌, Result, Ok, Err, MatchResult}
+use Rattle.base.specs.RefusalNumbers.{number_of, refusal_number}
+use Rattle.base.specs.declared.refusal.Refusal.{Refusal}
+use Rattle.timetable.proofs.OutputLaws.{number_there}
 use Rattle.base.specs.Lists.{any, every}
 use Rattle.base.proofs.Tests.{by_value, held, T_true, true_T, and_l, or_l, or_r, every_head, every_tail}
 use Rattle.railway.specs.Ranges.{same_station}
@@ -32,6 +35,7 @@ use Rattle.network.specs.declared.Network.{Network}
 use Rattle.machine.specs.Calls.{sheet_refusal, sheet_answer, sheet_after}
 use Rattle.machine.specs.Calls.{named_good, division_refusal, division_answer, division_after}
 use Rattle.page_edits.specs.between.PageEdits.{frames_answer, frames_after}
+use Rattle.page_edits.specs.declared.Layout.{Layout}
 use Rattle.named_sheets.specs.between.Named.{touches_at, touches_area, area_passes, named_pass, named_refusal}
 use Rattle.machine.proofs.ByteEdits.{call_good}
 use Rattle.machine.proofs.EditCalls.{sheet_answers, sheet_bytes, division_answers, division_bytes, sheet_is, division_is}
@@ -93,6 +97,13 @@ module _ (n : Network) (e : Edit) where
   unfolding early_refusal
   refused_early = early_not (edit_refusal e) (network_refusal n) (unknown_refusal n e)
 
+  -- and the first that refuses it so is its early refusal
+  pub told_early : (u : Result Unit Refusal) (a : Refusal) → u ≡ Err a → refusal_number u ≡ early (edit_refusal e) 0 (unknown_refusal n e)
+      → (r : Result Unit Refusal) → refusal_number r ≡ early_refusal n e
+      → MatchResult r (λ x. early (edit_refusal e) 0 (unknown_refusal n e) ≡ 0) (λ b. number_of b ≡ early_refusal n e)
+  told_early u a q p (Ok x) s = absurd (refused_early (λ z. number_there a (rw q at p ∙ z)) (sym s))
+  told_early u a q p (Err b) s = s
+
   early_network_only : early (edit_refusal e) 0 (unknown_refusal n e) ≡ 0 → early_refusal n e ≡ network_refusal n
   unfolding early_refusal
   early_network_only = early_only (edit_refusal e) (network_refusal n) (unknown_refusal n e)
@@ -138,7 +149,7 @@ module _ (n : Network) (e : Edit) (sheet : List ℕ) where
         call_under n e (eqb (length sheet) 8192) (good_sheet n (listed n) sheet) (sheet_passes n Extent.Whole sheet) (eq-eqb (length sheet) 8192 size) h (λ z. passes_good) ∙ sym q
 
     sheet_call : early_refusal n e ≡ 0 → sheet_passes n Extent.Whole sheet ≡ true
-        → (frames_answer false n e sheet ≡ sheet_answer n e sheet) × (frames_after false n e sheet ≡ sheet_after n e sheet)
+        → (frames_answer Layout.Sheet n e sheet ≡ sheet_answer n e sheet) × (frames_after Layout.Sheet n e sheet ≡ sheet_after n e sheet)
     unfolding sheet_refusal
     sheet_call q r =
         let early = early_facts n e q in
@@ -150,7 +161,7 @@ module _ (n : Network) (e : Edit) (sheet : List ℕ) where
 
     pub sheet_made : early (edit_refusal e) 0 (unknown_refusal n e) ≡ 0 → (k : ℕ)
         → k ≡ or_else (network_refusal n) (6 if not (sheet_passes n Extent.Whole sheet) else 0) → k ≡ 0
-        → (frames_answer false n e sheet ≡ sheet_answer n e sheet) × (frames_after false n e sheet ≡ sheet_after n e sheet)
+        → (frames_answer Layout.Sheet n e sheet ≡ sheet_answer n e sheet) × (frames_after Layout.Sheet n e sheet ≡ sheet_after n e sheet)
     sheet_made h k q z = let x = passed_under n e (sheet_passes n Extent.Whole sheet) k h q z in sheet_call x.0 x.1
 
 module _ (n : Network) (e : Edit) (division : List ℕ) where
@@ -172,7 +183,7 @@ module _ (n : Network) (e : Edit) (division : List ℕ) where
         ∙ sym q
 
     pub division_call : early_refusal n e ≡ 0 → named_pass n e division ≡ true
-        → (frames_answer true n e division ≡ division_answer n e division) × (frames_after true n e division ≡ division_after n e division)
+        → (frames_answer Layout.Division n e division ≡ division_answer n e division) × (frames_after Layout.Division n e division ≡ division_after n e division)
     unfolding division_refusal
     division_call q r =
         let early = early_facts n e q in
@@ -183,6 +194,6 @@ module _ (n : Network) (e : Edit) (division : List ℕ) where
         (division_answers n e early division size fine ∙ sym (division_is n e division z).0, division_bytes n e early division size fine ∙ sym (division_is n e division z).1)
 
     pub division_made : early (edit_refusal e) 0 (unknown_refusal n e) ≡ 0 → (k : ℕ) → k ≡ named_refusal n e division → k ≡ 0
-        → (frames_answer true n e division ≡ division_answer n e division) × (frames_after true n e division ≡ division_after n e division)
+        → (frames_answer Layout.Division n e division ≡ division_answer n e division) × (frames_after Layout.Division n e division ≡ division_after n e division)
     unfolding named_refusal
     division_made h k q z = let x = passed_under n e (named_pass n e division) k h q z in division_call x.0 x.1

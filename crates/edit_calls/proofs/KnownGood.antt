@@ -18,6 +18,7 @@ use Rattle.sheet.specs.Sheets.{good_sheet, sheet_at, good_division}
 use Rattle.sheet.specs.between.Passes.{division_passes}
 use Rattle.machine.specs.Calls.{refused_with, named_good, division_answer, division_after}
 use Rattle.page_edits.specs.between.PageEdits.{frames_answer, frames_after}
+use Rattle.page_edits.specs.declared.Layout.{Layout}
 use Rattle.machine.proofs.ListEdits.{GoodDivision, division_kept}
 use Rattle.machine.proofs.EditCalls.{division_not}
 use Rattle.edit_calls.proofs.CallTests.{named_same, division_early, division_call}
@@ -71,7 +72,7 @@ module _ (n : Network) (division : List ℕ) (k : known_good n division ≡ true
     passed : early_refusal n e ≡ 0
     passed = sym (early_under n e good) ∙ q
 
-    pub known_edit : (frames_answer true n e division ≡ division_answer n e division) × (frames_after true n e division ≡ division_after n e division)
+    pub known_edit : (frames_answer Layout.Division n e division ≡ division_answer n e division) × (frames_after Layout.Division n e division ≡ division_after n e division)
     known_edit =
         division_call n e division size passed
         (named_same n e (early_facts n e passed) division size ∙ T_true (named_good n e division) named_fine)

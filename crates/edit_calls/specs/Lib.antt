@@ -1,3 +1,4 @@
 pub mod Types
+pub mod Answers
 pub mod Lists
 pub mod between

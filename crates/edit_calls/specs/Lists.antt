@@ -12,7 +12,9 @@ use Rattle.timetable.specs.EditsFile.{read_edits_as}
 use Rattle.timetable.specs.Outputs.{Reply, written, refused_at, needed, output, output_after, put}
 use Rattle.sheet.specs.between.Passes.{division_passes}
 use Rattle.machine.specs.Calls.{division_answer, division_after}
-use Rattle.edit_calls.specs.Types.{Edit, Network, Answer, Run}
+use Rattle.std.specs.Prelude.{Result, Ok, Err}
+use Rattle.base.specs.RefusalNumbers.{number_of}
+use Rattle.edit_calls.specs.Types.{Edit, Network, Answer, RunError}
 
 -- "An answer is a refusal number or 0, and the count of visits removed": two numbers an edit
 unfoldable pub answer_numbers : Answer → List ℕ
@@ -43,10 +45,10 @@ abbrev pub Runs : Network → List Edit → List ℕ → List ℕ → List ℕ �
 Runs n es division out left written = (left ≡ division_of n es division) × (written ≡ put 0 (answers_of n es division) out)
 
 -- "When an answer is an enum, a definition gives this paper's number and values for each case of that enum."
-unfoldable pub reply : Run → Reply
-reply (Run.Answered k) = written k
-reply (Run.Refused k p) = refused_at k p
-reply (Run.TooShort k) = needed k
+unfoldable pub reply : Result ℕ RunError → Reply
+reply (Ok k) = written k
+reply (Err (RunError.Refused e)) = refused_at (number_of e.refusal) e.place
+reply (Err (RunError.TooShort k)) = needed k
 
 -- 5; then the file's refusal with its place; then 13
 module _ (n : Network) (division out : List ℕ) where
@@ -74,7 +76,7 @@ module _ (form : FileForm) (n : Network) (file division out : List ℕ) where
   run_answers = if eqb (length division) 49152 then answers_left n division out (read_edits_as form file) else out
 
   -- as its contract says it
-  abbrev pub RunsFile : Run → List ℕ → List ℕ → Type 0
+  abbrev pub RunsFile : Result ℕ RunError → List ℕ → List ℕ → Type 0
   RunsFile r left written = (reply r ≡ run_answer) × (left ≡ run_division) × (written ≡ run_answers)
 
 -- The key ring of this module: `unfolding opened` opens every definition above.

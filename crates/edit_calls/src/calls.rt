@@ -1,54 +1,55 @@
-// The calls of the central machine: an edit on a sheet, an edit on a division. Refusals in the documents' order: 5, 3,
-// 15, 14, 4, 7, 6, then 8 to 12. An edit that nothing refuses under a good network has its network's refusals from the
-// test of its sheets, so that the network is tested once.
-ghost use Rattle.std.specs.Prelude.{◌≡◌};
-ghost use Rattle.machine.specs.Calls.{refused_with, sheet_answer, sheet_after, division_answer, division_after};
+// The calls of the central machine: an edit on a sheet, an edit on a division; how many visits it removes. Refusals in
+// the documents' order: 5, 3, 15, 14, 4, 7, 6, then 8 to 12. An edit that nothing refuses under a good network has its
+// network's refusals from the test of its sheets, so that the network is tested once.
+ghost use Rattle.std.specs.Prelude.{◌≡◌, MatchResult, OnErr};
+ghost use Rattle.base.specs.RefusalNumbers.{number_of};
+ghost use Rattle.timetable.specs.Machine.{edit_refusal};
+ghost use Rattle.timetable.specs.Refusals.{early};
+ghost use Rattle.actions.specs.Early.{unknown_refusal, early_refusal};
+ghost use Rattle.machine.specs.Calls.{sheet_answer, sheet_after, division_answer, division_after};
+ghost use Rattle.edit_calls.specs.Answers.{answer_of};
 
 use crate::pages;
 use actions::early;
+use base::refusal::Refusal;
 use network::Network;
+use page_edits::Layout;
 use railway::edit::Edit;
 use sheet::test;
 use sheet::test::Extent;
-use timetable::Answer;
 
-pub fn refused(k: u8) -> Answer
-    ensures { result ≡ refused_with k }
+// What refuses the edit before a sheet is looked at; nothing where only its network may refuse it.
+fn test_early(n: &Network, e: Edit) -> Result<(), Refusal>
+    ensures { MatchResult result (λ x. early (edit_refusal e) 0 (unknown_refusal n.now e) ≡ 0) (λ r. number_of r ≡ early_refusal n.now e) }
 {
-    Answer {
-        refusal: k,
-        removed: 0,
+    match early::refusal_under(n, Ok(()), e) {
+        Ok(()) => Ok(()),
+        Err(_) => early::early_refusal(n, e),
     }
 }
 
-pub fn edit_sheet(sheet: &mut [u8], n: Network, e: Edit) -> Answer
-    ensures { (result ≡ sheet_answer n e sheet.old) × (sheet.new ≡ sheet_after n e sheet.old) }
+pub fn edit_sheet(sheet: &mut [u8], n: &Network, e: Edit) -> Result<u8, Refusal>
+    ensures answer { answer_of result ≡ sheet_answer n.now e sheet.old }
+    ensures after { sheet.new ≡ sheet_after n.now e sheet.old }
+    ensures err { OnErr result (sheet.new ≡ sheet.old) }
 {
     if sheet.len() != 8192 {
-        return refused(5);
+        return Err(Refusal::WrongLength);
     }
-    if early::refusal_under(n, 0, e) != 0 {
-        return refused(early::early_refusal(n, e));
-    }
-    let later = test::sheet_refusal(sheet, n, Extent::Whole);
-    if later == 0 {
-        return pages::edit_pages(sheet, false, n, e);
-    }
-    refused(later)
+    test_early(n, e)?;
+    test::sheet_refusal(sheet, n, Extent::Whole)?;
+    pages::edit_pages(sheet, Layout::Sheet, n, e)
 }
 
-pub fn edit_division(division: &mut [u8], n: Network, e: Edit) -> Answer
-    ensures { (result ≡ division_answer n e division.old) × (division.new ≡ division_after n e division.old) }
+pub fn edit_division(division: &mut [u8], n: &Network, e: Edit) -> Result<u8, Refusal>
+    ensures answer { answer_of result ≡ division_answer n.now e division.old }
+    ensures after { division.new ≡ division_after n.now e division.old }
+    ensures err { OnErr result (division.new ≡ division.old) }
 {
     if division.len() != 49152 {
-        return refused(5);
+        return Err(Refusal::WrongLength);
     }
-    if early::refusal_under(n, 0, e) != 0 {
-        return refused(early::early_refusal(n, e));
-    }
-    let later = named_sheets::named_refusal(division, n, e);
-    if later == 0 {
-        return pages::edit_pages(division, true, n, e);
-    }
-    refused(later)
+    test_early(n, e)?;
+    named_sheets::named_refusal(division, n, e)?;
+    pages::edit_pages(division, Layout::Division, n, e)
 }

@@ -4,13 +4,14 @@
 // it names, as the single call does.
 #![tactic(auto)]
 
-ghost use Rattle.std.specs.Prelude.{◌≡◌, true, ◌+◌, ◌*◌, ◌≤◌, length};
+ghost use Rattle.std.specs.Prelude.{◌≡◌, true, ◌+◌, ◌*◌, ◌≤◌, length, OnErr};
 ghost use Rattle.timetable.specs.Outputs.{put};
+ghost use Rattle.edit_calls.specs.Answers.{answer_of};
 ghost use Rattle.edit_calls.specs.Lists.{known_good, answer_numbers, EditsKnown, Runs, RunsFile};
 ghost use Rattle.edit_calls.specs.between.Taken.{edits_at, CanRun};
 
-use edit_files::edit;
-use edit_files::edit::{Cursor, NextEdit};
+use base::refusal::{FileError, Refusal};
+use edit_files::edit::{Cursor, next_edit};
 use edit_files::list::read_edits;
 use network::Network;
 use railway::edit::Edit;
@@ -21,31 +22,39 @@ pub mod calls; // an edit on a sheet, an edit on a division
 mod pages; // an edit on pages that are not tested
 mod untested; // an edit on a division that is known to be good
 
-// What running a list answers.
-#[derive(Clone, Copy)]
-pub enum Run {
-    // How many numbers were written: two an edit.
-    Answered(usize),
-    // 5, or the file's refusal, with its place.
-    Refused(u8, usize),
-    // 13, with the needed length.
+/// Why a list is not run.
+#[derive(Clone, Copy, Debug, PartialEq, Eq, Hash)]
+pub enum RunError {
+    /// 5 with place 0, or the file's refusal with its place.
+    Refused(FileError),
+    /// 13, with the needed length.
     TooShort(usize),
 }
 
-// The network and all six sheets are good.
-fn all_good(division: &[u8], n: Network) -> bool
-    ensures { result ≡ known_good n division.now }
-{
-    if n.refusal() == 0 {
-        return test::good_division(division, n);
+impl From<FileError> for RunError {
+    ghost use Rattle.edit_calls.specs.declared.RunError.{RunError};
+
+    ghost from_gives = { λ e r. r ≡ RunError.Refused e };
+
+    fn from(error: FileError) -> RunError {
+        RunError::Refused(error)
     }
-    false
+}
+
+// The network and all six sheets are good.
+fn all_good(division: &[u8], n: &Network) -> bool
+    ensures { result ≡ known_good n.now division.now }
+{
+    match n.check() {
+        Ok(()) => test::good_division(division, n),
+        Err(_) => false,
+    }
 }
 
 // An edit as its single call; `tested` where the division is known to be good.
-fn edit_once(division: &mut [u8], n: Network, e: Edit, tested: bool) -> Answer
-    requires { tested ≡ true → known_good n division.old ≡ true }
-    ensures { EditsKnown n e tested division.old result division.new }
+fn edit_once(division: &mut [u8], n: &Network, e: Edit, tested: bool) -> Result<u8, Refusal>
+    requires { tested ≡ true → known_good n.now division.old ≡ true }
+    ensures { EditsKnown n.now e tested division.old (answer_of result) division.new }
 {
     if tested {
         return untested::edit_untested(division, n, e);
@@ -53,7 +62,24 @@ fn edit_once(division: &mut [u8], n: Network, e: Edit, tested: bool) -> Answer
     calls::edit_division(division, n, e)
 }
 
+// An edit's answer as its two numbers.
+fn answer_from(ended: Result<u8, Refusal>) -> Answer
+    ensures { result ≡ answer_of ended }
+{
+    match ended {
+        Ok(removed) => Answer {
+            refusal: 0,
+            removed,
+        },
+        Err(refusal) => Answer {
+            refusal: u8::from(refusal),
+            removed: 0,
+        },
+    }
+}
+
 // The two numbers of the answer to the edit at i.
+#[tactic(auto, unfolding(timetable::specs::Outputs::put, crate::specs::Lists::answer_numbers))]
 fn put_answer(out: &mut [u8], i: usize, a: Answer)
     requires { (2 * i + 2 ≤ length out.old) × (i ≤ 1000) }
     ensures { out.new ≡ put (2 * i) (answer_numbers a) out.old }
@@ -65,7 +91,7 @@ fn put_answer(out: &mut [u8], i: usize, a: Answer)
 // `count` edits from the place on, which can all be read; there is room for their answers.
 fn run_edits(
     division: &mut [u8],
-    n: Network,
+    n: &Network,
     file: &[u8],
     at: usize,
     form: FileForm,
@@ -73,45 +99,47 @@ fn run_edits(
     tested: bool,
     out: &mut [u8],
 )
-    requires { (CanRun form count file.now at out.old) × (tested ≡ true → known_good n division.old ≡ true) }
-    ensures { Runs n (edits_at form count file.now at) division.old out.old division.new out.new }
+    requires { (CanRun form count file.now at out.old) × (tested ≡ true → known_good n.now division.old ≡ true) }
+    ensures { Runs n.now (edits_at form count file.now at) division.old out.old division.new out.new }
 {
-    let mut cursor = Cursor { at: at };
-    let mut i: usize = 0;
-    while i < count {
-        let next = edit::next_edit(file, cursor, form);
-        match next {
-            NextEdit::Refused(_k, _p) => {
-                return;
-            }
-            NextEdit::Entry(e, c) => {
+    let mut cursor = Cursor { at };
+    for i in 0..count {
+        match next_edit(file, cursor, form) {
+            Ok((e, next)) => {
                 let a = edit_once(division, n, e, tested);
-                put_answer(out, i, a);
-                cursor = c;
+                put_answer(out, i, answer_from(a));
+                cursor = next;
             }
+            Err(_) => return,
         }
-        i += 1;
     }
 }
 
-// The edits of a file in a form. 5 for the division's length, the file's refusal, 13; then each edit answers as its
-// single call does on what the one before left.
-pub fn run_list(division: &mut [u8], n: Network, file: &[u8], form: FileForm, out: &mut [u8]) -> Run
-    ensures { RunsFile form n file.now division.old out.old result division.new out.new }
+/// The edits of a file in a form. 5 for the division's length, the file's refusal, 13; then each edit answers as its
+/// single call does on what the one before left: two numbers an edit, and how many are written.
+pub fn run_list(
+    division: &mut [u8],
+    n: &Network,
+    file: &[u8],
+    form: FileForm,
+    out: &mut [u8],
+) -> Result<usize, RunError>
+    ensures told { RunsFile form n.now file.now division.old out.old result division.new out.new }
+    ensures err { OnErr result ((division.new ≡ division.old) × (out.new ≡ out.old)) }
 {
     if division.len() != 49152 {
-        return Run::Refused(5, 0);
+        return Err(RunError::Refused(FileError {
+            refusal: Refusal::WrongLength,
+            place: 0,
+        }));
     }
-    let read = read_edits(file, form);
-    if read.refusal != 0 {
-        return Run::Refused(read.refusal, read.place);
-    }
-    let count = read.count as usize;
+    let list = read_edits(file, form)?;
+    let count = usize::from(list.count);
     let needed = 2 * count;
     if out.len() < needed {
-        return Run::TooShort(needed);
+        return Err(RunError::TooShort(needed));
     }
     let tested = all_good(division, n);
-    run_edits(division, n, file, read.first, form, count, tested, out);
-    Run::Answered(needed)
+    run_edits(division, n, file, list.first, form, count, tested, out);
+    Ok(needed)
 }

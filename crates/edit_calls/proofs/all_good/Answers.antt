@@ -1,13 +1,13 @@
 -- `edit_calls::all_good` meets its contract: the network's test and the sheets'. Assumes nothing.
-use mathlib.Core.Path.{sym}
-use borrow.Author.Tests.{eq-eqb, ne_eqb}
+use borrow.Author.Tests.{ne_eqb}
+use Rattle.timetable.proofs.OutputLaws.{number_there}
 use Rattle.edit_calls.specs.Lists.{known_good}
 use Rattle.edit_calls.proofs.all_good.Goals as goal
 
-pub returns-then-refusal-eq0 : goal.returns-then-refusal-eq0
+pub returns-in-Ok : goal.returns-in-Ok
 unfolding known_good
-returns-then-refusal-eq0 c = rw (sym c.refusal.ensures, eq-eqb _ 0 c.if-refusal-eq0.true) c.good_division.ensures
+returns-in-Ok c = rw (← c.in-Ok.ensures) c.good_division.ensures
 
-pub returns : goal.returns
+pub returns-in-Err : goal.returns-in-Err
 unfolding known_good
-returns c = rw (sym c.refusal.ensures, ne_eqb _ 0 c.if-refusal-eq0.false)
+returns-in-Err c = let r = c.in-Err.field-0 in rw (← c.in-Err.ensures, ne_eqb _ 0 (number_there r))

@@ -4,9 +4,7 @@ use Prim.Native.Nat.{ℕ, suc, ◌+◌, ◌-◌, ◌*◌}
 use mathlib.Core.Path.{◌≡◌, refl, sym, ◌∙◌, ap}
 use mathlib.Core.List.{List, []}
 use native.Mathlib.Omega.{arith}
-use borrow.Author.Rules.{rules}
 use Rattle.timetable.specs.Outputs.{put}
-use Rattle.edit_files.specs.Answers.{next_outcome}
 use Rattle.edit_calls.specs.Types.{Edit}
 use Rattle.edit_calls.specs.Lists.{answers_of, division_of}
 use Rattle.edit_calls.specs.between.Taken.{edits_at}
@@ -19,18 +17,12 @@ loop-i-init c =
     let all : s.count - 0 ≡ s.count = omega arith in
     (omega arith, refl, refl, rw all c.requires.0.2, rw all, rw all, c.requires.1)
 
-pub next_edit-next-requires : goal.next_edit-next-requires
-next_edit-next-requires c = search rules
-
-pub returns-in-Refused : goal.returns-in-Refused
-unfolding next_outcome
-returns-in-Refused c =
+pub returns-in-Err : goal.returns-in-Err
+returns-in-Err c =
     let s = c.args in
     let l = c.loop-i in
-    let h = c.loop-i-test.true in
-    let x = sym c.next_edit-next.ensures ∙ ap next_outcome c.in-Refused.is in
-    let step : s.count - l.i ≡ suc (s.count - (l.i + 1)) = omega (arith, h) in
-    absurd (not_stopped s.form (s.count - (l.i + 1)) s.file.now l.cursor.at _ _ x (rw step at l.invariant.3))
+    let step : s.count - l.i ≡ suc (s.count - (l.i + 1)) = omega arith in
+    absurd (not_stopped s.form (s.count - (l.i + 1)) s.file.now l.cursor.at _ _ (sym c.in-Err.ensures) (rw step at l.invariant.3))
 
 pub edit_once-a-requires : goal.edit_once-a-requires
 edit_once-a-requires c = c.loop-i.invariant.6
@@ -38,32 +30,24 @@ edit_once-a-requires c = c.loop-i.invariant.6
 pub put_answer-requires : goal.put_answer-requires
 put_answer-requires c =
     let l = c.loop-i in
-    let h = c.loop-i-test.true in
-    (omega (arith, h, l.invariant.2, c.requires.0.0), omega (arith, h, c.requires.0.1))
-
-pub overflow_add-i : goal.overflow_add-i
-overflow_add-i c = omega arith
-
-pub loop-i-smaller : goal.loop-i-smaller
-loop-i-smaller c = omega arith
+    (omega (arith, l.invariant.2, c.requires.0.0), omega (arith, c.requires.0.1))
 
 pub loop-i-preserved : goal.loop-i-preserved
-unfolding next_outcome
 loop-i-preserved c =
     let s = c.args in
     let l = c.loop-i in
-    let h = c.loop-i-test.true in
-    let x = sym c.next_edit-next.ensures ∙ ap next_outcome c.in-Entry.is in
-    let step : s.count - l.i ≡ suc (s.count - (l.i + 1)) = omega (arith, h) in
+    let x = sym c.in-Ok.ensures in
+    let step : s.count - l.i ≡ suc (s.count - (l.i + 1)) = omega arith in
     let t = rw step at l.invariant.3 in
     let e = c.edit_once-a in
-    let a = c.put_answer in (
-      omega (arith, h),
+    let a = c.put_answer in
+    let w = c.answer_from.ensures ∙ e.ensures.0 in (
+      omega arith,
       e.auto.division ∙ l.invariant.1,
       a.auto.out ∙ l.invariant.2,
       rest_read s.form (s.count - (l.i + 1)) s.file.now l.cursor.at _ _ x t,
-      rw e.ensures.1 (sym (turn_division s.form s.n s.file.now l.cursor.at (s.count - (l.i + 1)) _ _ x t l.division l.out l.i) ∙ (rw step at l.invariant.4)),
-      rw (a.ensures, e.ensures.1, e.ensures.0) (sym (turn_answers s.form s.n s.file.now l.cursor.at (s.count - (l.i + 1)) _ _ x t l.division l.out l.i) ∙ (rw step at l.invariant.5)),
+      rw e.ensures.1 (sym (turn_division s.form s.n.now s.file.now l.cursor.at (s.count - (l.i + 1)) _ _ x t l.division l.out l.i) ∙ (rw step at l.invariant.4)),
+      rw (a.ensures, e.ensures.1, w) (sym (turn_answers s.form s.n.now s.file.now l.cursor.at (s.count - (l.i + 1)) _ _ x t l.division l.out l.i) ∙ (rw step at l.invariant.5)),
       e.ensures.2,
     )
 
@@ -72,8 +56,8 @@ unfolding put
 returns c =
     let s = c.args in
     let l = c.loop-i in
-    let none : s.count - l.i ≡ 0 = omega (arith, c.loop-i-test.false) in
+    let none : s.count - l.i ≡ 0 = omega arith in
     let last : edits_at s.form (s.count - l.i) s.file.now l.cursor.at ≡ [] = ap (λ (j : ℕ). edits_at s.form j s.file.now l.cursor.at) none ∙ none_taken s.form s.file.now l.cursor.at in (
-      sym (division_none s.n l.division) ∙ ap (λ (es : List Edit). division_of s.n es l.division) (sym last) ∙ l.invariant.4,
-      ap (λ (as' : List ℕ). put (2 * l.i) as' l.out) (sym (answers_none s.n l.division) ∙ ap (λ (es : List Edit). answers_of s.n es l.division) (sym last)) ∙ l.invariant.5,
+      sym (division_none s.n.now l.division) ∙ ap (λ (es : List Edit). division_of s.n.now es l.division) (sym last) ∙ l.invariant.4,
+      ap (λ (as' : List ℕ). put (2 * l.i) as' l.out) (sym (answers_none s.n.now l.division) ∙ ap (λ (es : List Edit). answers_of s.n.now es l.division) (sym last)) ∙ l.invariant.5,
     )

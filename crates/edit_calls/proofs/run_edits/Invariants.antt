@@ -18,6 +18,3 @@ invariant-loop-i l =
     × (division_of l.n (edits_at l.form (l.count - l.i) l.file l.cursor.at) l.division ≡ division_of l.n (edits_at l.form l.count l.file l.at) l.initial.division)
     × (put (2 * l.i) (answers_of l.n (edits_at l.form (l.count - l.i) l.file l.cursor.at) l.division) l.out ≡ put 0 (answers_of l.n (edits_at l.form l.count l.file l.at) l.initial.division) l.initial.out)
     × (l.tested ≡ true → known_good l.n l.division ≡ true)
-
-abbrev pub decreases-loop-i : goal.decreases-loop-i
-decreases-loop-i l = l.count - l.i
