@@ -36,13 +36,12 @@ fn early_refusal(n: &Network, s: Station, t: Train, a: Minute) -> Result<(), Ref
 
 // The rows: counted first, then written where there is room.
 fn write_rows(
-    sheet: &[u8],
+    sheet: &[u8; 8192],
     s: Station,
     t: Train,
     a: Minute,
     out: &mut [i32],
 ) -> Result<usize, OutputError>
-    requires { length sheet.now ≡ 8192 }
     ensures { (reply_of result ≡ output 0 (projected s t a sheet.now) out.old)
         × (out.new ≡ output_after 0 (projected s t a sheet.now) out.old) }
 {
@@ -69,9 +68,9 @@ pub fn project(
     ensures { (reply_of result ≡ project_answer n.now s t a sheet.now out.old)
         × (out.new ≡ project_after n.now s t a sheet.now out.old) }
 {
-    if sheet.len() != 8192 {
+    let Some(sheet) = sheet.as_array() else {
         return Err(OutputError::Refused(Refusal::WrongLength));
-    }
+    };
     early_refusal(n, s, t, a)?;
     if !test::good_sheet(sheet, n, Extent::Whole) {
         return Err(OutputError::Refused(Refusal::BadSheet));

@@ -15,16 +15,14 @@ use sheet::station_page;
 use timetable::Row;
 
 // The train's visit at a station.
-pub(crate) fn visit_at(sheet: &[u8], s: Station, t: Train) -> Option<Visit>
-    requires { length sheet.now ≡ 8192 }
+pub(crate) fn visit_at(sheet: &[u8; 8192], s: Station, t: Train) -> Option<Visit>
     ensures { result ≡ visit_of t (decode_sheet sheet.now s) }
 {
     page::visit_of(station_page::page_of(sheet, s), t)
 }
 
 // The out-link of the visit of t at s is answered: the far visit has s and the line as its in-link.
-fn is_answered(sheet: &[u8], s: Station, t: Train, o: Outward) -> bool
-    requires { length sheet.now ≡ 8192 }
+fn is_answered(sheet: &[u8; 8192], s: Station, t: Train, o: Outward) -> bool
     ensures { result ≡ out_answered s t o (decode_sheet sheet.now o.station) }
 {
     match visit_at(sheet, o.station, t) {
@@ -56,7 +54,7 @@ fn put_row(out: &mut [i32], at: usize, r: Row)
 // are.
 #[cycle(arrive_depart)]
 pub(crate) fn arrive(
-    sheet: &[u8],
+    sheet: &[u8; 8192],
     t: Train,
     s: Station,
     a: u32,
@@ -64,7 +62,7 @@ pub(crate) fn arrive(
     out: &mut [i32],
     at: usize,
 ) -> usize
-    requires { (length sheet.now ≡ 8192) × (left ≤ 16) × (a + 256 * left ≤ 70000) × (at + 4 * left ≤ 64) }
+    requires { (left ≤ 16) × (a + 256 * left ≤ 70000) × (at + 4 * left ≤ 64) }
     ensures { (result ≡ length (arrival_numbers left sheet.now t s a))
         × (out.new ≡ put at (arrival_numbers left sheet.now t s a) out.old)
         × (result ≤ 4 * left) }
@@ -85,7 +83,7 @@ pub(crate) fn arrive(
 // From a departure on: the rows from the next arrival on, at most `left` visits, where the link is answered.
 #[cycle(arrive_depart)]
 fn depart(
-    sheet: &[u8],
+    sheet: &[u8; 8192],
     t: Train,
     s: Station,
     v: Visit,
@@ -94,7 +92,7 @@ fn depart(
     out: &mut [i32],
     at: usize,
 ) -> usize
-    requires { (length sheet.now ≡ 8192) × (left ≤ 15) × (d + 255 + 256 * left ≤ 70000) × (at + 4 * left ≤ 64) }
+    requires { (left ≤ 15) × (d + 255 + 256 * left ≤ 70000) × (at + 4 * left ≤ 64) }
     ensures { (result ≡ length (departure_numbers left sheet.now t s v d))
         × (out.new ≡ put at (departure_numbers left sheet.now t s v d) out.old)
         × (result ≤ 4 * left) }
