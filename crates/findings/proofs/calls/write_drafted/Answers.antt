@@ -8,14 +8,7 @@ use Rattle.rule_tests.proofs.HeldLaws.{held_is}
 use Rattle.builder.specs.between.Builder.{all_numbers}
 use Rattle.findings.proofs.ListCalls.{too_short, written, answers_as}
 use Rattle.timetable.proofs.DraftsHandedOver.{draft_holds}
-use borrow.Author.Rules.{rules}
 use Rattle.findings.proofs.calls.write_drafted.Goals as goal
-
-pub list_all-needed-requires : goal.list_all-needed-requires
-list_all-needed-requires c = search rules
-
-pub hand_over-requires : goal.hand_over-requires
-hand_over-requires c = search rules
 
 pub returns-then-needed-draft : goal.returns-then-needed-draft
 returns-then-needed-draft c =
@@ -35,9 +28,6 @@ returns-then-out-needed c =
     let w = c.list_all-needed in
     rw (← held_is s.sheet.now c.requires)
     (too_short (all_numbers s.n.now s.scope (held s.sheet.now)) s.out.now w.result w.ensures.0 c.if-out-needed.true)
-
-pub list_all-requires : goal.list_all-requires
-list_all-requires c = search rules
 
 pub returns : goal.returns
 returns c =

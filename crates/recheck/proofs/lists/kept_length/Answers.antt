@@ -8,9 +8,6 @@ use Rattle.recheck.proofs.lists.kept_length.Goals as goal
 pub loop-i-init : goal.loop-i-init
 loop-i-init c = (omega arith, omega arith, omega arith, refl)
 
-pub overflow_sub-k : goal.overflow_sub-k
-overflow_sub-k c = omega arith
-
 pub run_end-end-requires : goal.run_end-end-requires
 run_end-end-requires c = (omega arith, c.loop-i.invariant.3, c.requires)
 

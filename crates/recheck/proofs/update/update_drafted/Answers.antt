@@ -12,14 +12,7 @@ use Rattle.builder.specs.between.Builder.{redone_numbers}
 use Rattle.findings.proofs.ListCalls.{answers_as}
 use Rattle.recheck.specs.between.Kept.{list_with}
 use Rattle.recheck.proofs.UpdateLaws.{kept_no_longer, short_answers, redone_fours, can_weave, woven_answers}
-use borrow.Author.Rules.{rules}
 use Rattle.recheck.proofs.update.update_drafted.Goals as goal
-
-pub kept_length-kept-requires : goal.kept_length-kept-requires
-kept_length-kept-requires c = search rules
-
-pub list_redone-redone-requires : goal.list_redone-redone-requires
-list_redone-redone-requires c = search rules
 
 pub overflow_add-needed : goal.overflow_add-needed
 overflow_add-needed c =
@@ -33,18 +26,6 @@ returns-then-out-needed c =
     let k = c.kept_length-kept in
     let w = c.list_redone-redone in
     short_answers s.marks s.list.now xs (redone_fours s.n.now s.scope s.marks (held s.sheet.now)) s.out.now k.result w.result (sym k.ensures) (omega (arith, w.ensures.0)) (omega arith)
-
-pub offset_bounds-out-kept : goal.offset_bounds-out-kept
-offset_bounds-out-kept c = search rules
-
-pub slice_bounds-fill-count : goal.slice_bounds-fill-count
-slice_bounds-fill-count c = search rules
-
-pub slice_bounds-fill-start : goal.slice_bounds-fill-start
-slice_bounds-fill-start c = search rules
-
-pub slice_bounds-fill-end : goal.slice_bounds-fill-end
-slice_bounds-fill-end c = search rules
 
 pub fill-requires : goal.fill-requires
 fill-requires c =
