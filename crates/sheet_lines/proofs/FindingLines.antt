@@ -8,10 +8,13 @@ use native.Mathlib.Omega.{arith}
 use lib.Dec.{ltb}
 use lib.ListN.{length, get_or, take, length-append, length-take}
 use borrow.Author.Tests.{ltb-false, le-leb, eq-eqb, ne_eqb}
+use Rattle.std.specs.Prelude.{Option, Some, None, Result, Ok, Err}
+use Rattle.base.specs.declared.refusal.Refusal.{Refusal}
+use Rattle.base.specs.declared.refusal.OutputError.{OutputError}
 use Rattle.base.specs.Choice.{◌if◌else◌}
 use Rattle.std.specs.Prelude.{if◌then◌else◌}
 use Rattle.timetable.specs.Findings.{numbers_of, findings}
-use Rattle.timetable.specs.Outputs.{reply, output, output_after}
+use Rattle.timetable.specs.Outputs.{reply_of, output, output_after}
 use Rattle.sheet.specs.Sheets.{decode_sheet}
 use Rattle.page.proofs.FlatLaws.{flat_append}
 use Rattle.findings.specs.Lists.{sheet_list, sheet_list_refusal}
@@ -19,11 +22,10 @@ use Rattle.findings.proofs.BoundLaws.{sheet_list_most}
 use Rattle.listings.specs.Text.{digits, decimal, word, head, line}
 use Rattle.listings.specs.Inspect.{listed_text, whole_text}
 use Rattle.builder.specs.between.Builder.{list_most, findings_most}
-use Rattle.sheet_lines.specs.Types.{Network, Finding, Output}
+use Rattle.sheet_lines.specs.Types.{Network, Finding}
 use Rattle.text.specs.between.Lines.{far, findings_text}
 use Rattle.text.proofs.OutputLaws.{written_unrefused, short_unrefused, refused_not, written_fits, short_lacks, written_whole, written_many}
 use Rattle.sheet_lines.specs.declared.whole.Whole.{Whole}
-use Rattle.sheet_lines.specs.declared.whole.Listed.{Listed}
 use Rattle.sheet_lines.specs.between.Sheets.{is_listed, whole_at, whole_count, PutsWhole, Lists}
 
 -- digits
@@ -153,25 +155,25 @@ module _ (at : ℕ) (near : at ≤ far) (n : Network) (sheet : List ℕ) (good :
 
 -- the list of a sheet, as the call that lists it in a buffer answers it
 module _ (n : Network) (sheet buffer : List ℕ) (at : ℕ) (near : at ≤ far)
-    (r : Output) (told : reply r ≡ output (sheet_list_refusal n sheet) (sheet_list n sheet) buffer) where
+    (r : Result ℕ OutputError) (told : reply_of r ≡ output (sheet_list_refusal n sheet) (sheet_list n sheet) buffer) where
   abbrev xs : List ℕ
   xs = sheet_list n sheet
 
   abbrev fs : List Finding
   fs = findings n (decode_sheet sheet)
 
-  pub refused_none : (k : ℕ) → r ≡ Output.Refused k → (whole_at at n sheet ≡ []) × (whole_count at n sheet ≡ 0)
+  pub refused_none : (k : Refusal) → r ≡ Err (OutputError.Refused k) → (whole_at at n sheet ≡ []) × (whole_count at n sheet ≡ 0)
   unfolding whole_at whole_count is_listed
   refused_none k e =
       let no = ne_eqb (sheet_list_refusal n sheet) 0 (refused_not (sheet_list_refusal n sheet) xs buffer r told k e) in
       (rw (le-leb at far near, no), rw (le-leb at far near, no))
 
-  pub short_left : (k : ℕ) → r ≡ Output.TooShort k → (sheet_list_refusal n sheet ≡ 0) × (length buffer < length (sheet_list n sheet))
+  pub short_left : (k : ℕ) → r ≡ Err (OutputError.TooShort k) → (sheet_list_refusal n sheet ≡ 0) × (length buffer < length (sheet_list n sheet))
   short_left k e =
       let good = short_unrefused (sheet_list_refusal n sheet) xs buffer r told k e in
       (good, short_lacks (sheet_list_refusal n sheet) xs buffer r told good k e)
 
-  module _ (k : ℕ) (e : r ≡ Output.Written k) where
+  module _ (k : ℕ) (e : r ≡ Ok k) where
     good : sheet_list_refusal n sheet ≡ 0
     good = written_unrefused (sheet_list_refusal n sheet) xs buffer r told k e
 
@@ -203,11 +205,11 @@ pub room_for_any : (n : Network) (sheet : List ℕ) (room : ℕ) → room ≡ li
 room_for_any n sheet room e good h = absurd (omega (arith, e, h, sheet_list_most n sheet good))
 
 -- what listing in an array came to, by its case
-module _ (at : ℕ) (n : Network) (sheet : List ℕ) (room : ℕ) (before after : List ℕ) (r : Listed) (came : Lists at n sheet room before after r) where
-  pub lines_put : (w : Whole) → r ≡ Listed.Lines w → PutsWhole at n sheet before w after
+module _ (at : ℕ) (n : Network) (sheet : List ℕ) (room : ℕ) (before after : List ℕ) (r : Option Whole) (came : Lists at n sheet room before after r) where
+  pub lines_put : (w : Whole) → r ≡ Some w → PutsWhole at n sheet before w after
   unfolding Lists
   lines_put w e = rw e at came
 
-  pub none_put : r ≡ Listed.TooShort → (sheet_list_refusal n sheet ≡ 0) × (room < length (sheet_list n sheet)) × (after ≡ before)
+  pub none_put : r ≡ None → (sheet_list_refusal n sheet ≡ 0) × (room < length (sheet_list n sheet)) × (after ≡ before)
   unfolding Lists
   none_put e = rw e at came

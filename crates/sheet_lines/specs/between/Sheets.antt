@@ -1,6 +1,6 @@
 -- What the functions put of a sheet. A sheet whose list of findings is refused, and a place that is further than any
 -- text, put no finding. Assumes nothing.
-use Rattle.std.specs.Prelude.{ℕ, ◌*◌, ◌<◌, ◌≡◌, Bool, ◌&&◌, List, [], ◌∷◌, eqb, leb, length}
+use Rattle.std.specs.Prelude.{ℕ, ◌*◌, ◌<◌, ◌≡◌, Bool, ◌&&◌, List, [], ◌∷◌, eqb, leb, length, Option, Some, None}
 use Rattle.base.specs.Choice.{◌if◌else◌}
 use Rattle.std.specs.Prelude.{if◌then◌else◌}
 use Rattle.timetable.specs.Findings.{findings}
@@ -13,7 +13,6 @@ use Rattle.listings.specs.Inspect.{whole_text}
 use Rattle.text.specs.between.Lines.{far, line_at}
 use Rattle.sheet_lines.specs.Types.{Network}
 use Rattle.sheet_lines.specs.declared.whole.Whole.{Whole}
-use Rattle.sheet_lines.specs.declared.whole.Listed.{Listed}
 
 module _ (at : ℕ) (n : Network) (sheet : List ℕ) where
   unfoldable pub is_listed : Bool
@@ -31,9 +30,9 @@ module _ (at : ℕ) (n : Network) (sheet : List ℕ) where
   PutsWhole before r after = (Puts at whole_at before r.at after (26 * findings_most)) × (r.count ≡ whole_count)
 
   -- what listing in an array of such a length comes to: the lines are put; or the list is longer, and nothing is
-  unfoldable pub Lists : ℕ → List ℕ → List ℕ → Listed → Type 0
-  Lists room before after (Listed.Lines w) = PutsWhole before w after
-  Lists room before after Listed.TooShort = (sheet_list_refusal n sheet ≡ 0) × (room < length (sheet_list n sheet)) × (after ≡ before)
+  unfoldable pub Lists : ℕ → List ℕ → List ℕ → Option Whole → Type 0
+  Lists room before after (Some w) = PutsWhole before w after
+  Lists room before after None = (sheet_list_refusal n sheet ≡ 0) × (room < length (sheet_list n sheet)) × (after ≡ before)
 
   -- the line of totals, with so many findings
   unfoldable pub totals_at : ℕ → List ℕ

@@ -9,19 +9,19 @@ use Rattle.sheet_lines.proofs.whole.+put_any.Goals as goal
 pub put_any-requires : goal.put_any-requires
 put_any-requires t c =
     let s = c.args in
-    let f = c.put_listed-listed in
-    let none = none_put s.at s.n s.sheet.now _ s.out.now _ f.result f.ensures c.in-TooShort.is in
-    absurd (room_for_any s.n s.sheet.now _ (length-replicate {A = ℕ} list_most 0) none.0 none.1)
+    let f = c.put_listed in
+    let none = none_put s.at s.n.now s.sheet.now _ s.out.now _ f.result f.ensures c.in-None.is in
+    absurd (room_for_any s.n.now s.sheet.now _ (length-replicate {A = ℕ} list_most 0) none.0 none.1)
 
-pub returns-in-Lines : goal.returns-in-Lines
-returns-in-Lines t c =
+pub returns-in-Some : goal.returns-in-Some
+returns-in-Some t c =
     let s = c.args in
-    let f = c.put_listed-listed in
-    lines_put s.at s.n s.sheet.now _ s.out.now _ f.result f.ensures _ c.in-Lines.is
+    let f = c.put_listed in
+    lines_put s.at s.n.now s.sheet.now _ s.out.now _ f.result f.ensures _ c.in-Some.is
 
-pub returns-in-TooShort : goal.returns-in-TooShort
-returns-in-TooShort t c =
+pub returns-in-None : goal.returns-in-None
+returns-in-None t c =
     let s = c.args in
-    let f = c.put_listed-listed in
-    let none = none_put s.at s.n s.sheet.now _ s.out.now _ f.result f.ensures c.in-TooShort.is in
-    absurd (room_for_any s.n s.sheet.now _ (length-replicate {A = ℕ} list_most 0) none.0 none.1)
+    let f = c.put_listed in
+    let none = none_put s.at s.n.now s.sheet.now _ s.out.now _ f.result f.ensures c.in-None.is in
+    absurd (room_for_any s.n.now s.sheet.now _ (length-replicate {A = ℕ} list_most 0) none.0 none.1)

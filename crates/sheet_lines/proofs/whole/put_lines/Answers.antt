@@ -13,7 +13,6 @@ unfolding of_areas flat_map
 returns c =
     let s = c.args in
     let w = c.put_findings.ensures in
-    let known = c.shared_slice_known-1 in
     let all = puts_as s.at _ _ _ _ _ _ (findings_there s.at c.requires.0 70 [] s.count s.numbers.now c.requires.1 c.requires.2) w in
-    let most = lines_short 70 [] 26 (line_most 70 [] 0 (omega arith)) s.numbers.now s.count (λ i. (known.given i).fits) c.requires.2 in
+    let most = lines_short 70 [] 26 (line_most 70 [] 0 (omega arith)) s.numbers.now s.count (λ i. (c.type_inv.numbers i).fits) c.requires.2 in
     (all.0, all.1, omega (arith, all.0, most))
