@@ -3,7 +3,7 @@
 -- The other calls by their definitions. Assumes nothing.
 use Prim.Native.Nat.{ℕ}
 use mathlib.Core.Path.{◌≡◌, refl, sym, ◌∙◌, ap}
-use mathlib.Core.Bool.{Bool, true, false, ◌||◌}
+use mathlib.Core.Bool.{Bool, ◌||◌}
 use mathlib.Core.List.{List, [], ◌∷◌}
 use lib.Dec.{T, leb, eqb}
 use lib.ListN.{length}
@@ -20,20 +20,21 @@ use Rattle.timetable.specs.EditsFile.{edit_numbers, read_edits, read_edits_as}
 use Rattle.timetable.specs.Formats as formats
 use Rattle.timetable.specs.Formats.{Outcome, accepted, refused, Placed, bytes_of}
 use Rattle.timetable.specs.InspectFile.{Inspection}
-use Rattle.timetable.specs.Machine.{Timetable, meaning}
+use Rattle.timetable.specs.Machine.{Timetable}
 use Rattle.timetable.specs.NetworkFile.{network_numbers, read_network_as}
 use Rattle.timetable.specs.Outputs.{output, output_after}
 use Rattle.timetable.specs.Turning.{turned, turned_reply, turned_after, turn_reply, turn_after}
 use Rattle.timetable.proofs.RefusalLaws.{call_passed}
 use Rattle.actions.specs.Early.{early_refusal}
-use Rattle.actions.specs.between.Shapes.{shape_of}
 use Rattle.actions.proofs.EarlyLaws.{early_facts}
 use Rattle.listings.specs.Shift.{refusal_text, shift_text}
 use Rattle.text.specs.RefusalLine.{line_refusal}
 use Rattle.inspect_lines.specs.Parts.{input_outcome, input_answer, input_after, part_refusal, part_text}
 use Rattle.sheet.specs.Sheets.{good_sheet, whole_refusal, divide_refusal, after_divide, merge_refusal, after_merge}
 use Rattle.machine.specs.Calls.{sheet_refusal, sheet_answer, sheet_after, named_good, division_refusal, division_answer, division_after}
-use Rattle.page_edits.specs.between.PageEdits.{place_of, pair_refusal, pair_answer, pair_after, frames_answer, frames_after}
+use Rattle.page_edits.specs.declared.Layout.{Layout}
+use Rattle.page_edits.specs.between.PageEdits.{frames_refusal, frames_answer, frames_after}
+use Rattle.page_edits.proofs.PairSteps.{frames_told, frames_left}
 use Rattle.machine.proofs.EditCalls.{sheet_answers, sheet_bytes, division_answers, division_bytes, sheet_is, sheet_not, division_is, division_not}
 use Rattle.findings.specs.Lists.{sheet_list, area_list, two_list, sheet_list_refusal, area_list_refusal, two_list_refusal}
 use Rattle.recheck.specs.Rechecks.{recheck_refusal, recheck_list, area_recheck_refusal, area_recheck_list}
@@ -51,16 +52,11 @@ use Rattle.demands.specs.Refusals.{Untouched, RefusalsLeaveAll}
 
 -- an edit on pages that is refused
 
-pair_refused : (n : Network) (e : Edit) (i j : ℕ) (b : List ℕ) → ¬ ((pair_answer n e i j b).refusal ≡ 0) → Untouched (pair_answer n e i j b) b (pair_after n e i j b)
-unfolding pair_answer pair_after
-pair_refused n e i j b z = record { none_removed = rw (ne_eqb (pair_refusal n e i j b) 0 z); same_bytes = rw (ne_eqb (pair_refusal n e i j b) 0 z) }
-
-frames_refused : (divided : Bool) (n : Network) (e : Edit) (b : List ℕ) → ¬ ((frames_answer divided n e b).refusal ≡ 0)
-    → Untouched (frames_answer divided n e b) b (frames_after divided n e b)
-unfolding frames_answer frames_after
-frames_refused divided n e b z = by_value (shape_of (meaning e)).everywhere
-    (λ p. absurd (z (rw p)))
-    (λ p. rw p (pair_refused n e (place_of divided n (shape_of (meaning e)).home) (place_of divided n (shape_of (meaning e)).away) b (rw p at z)))
+frames_refused : (layout : Layout) (n : Network) (e : Edit) (b : List ℕ) → ¬ ((frames_answer layout n e b).refusal ≡ 0)
+    → Untouched (frames_answer layout n e b) b (frames_after layout n e b)
+frames_refused layout n e b z =
+    let q : ¬ (frames_refusal layout n e b ≡ 0) = λ r. z (rw (frames_told layout n e b) r) in
+    record { none_removed = rw (frames_told layout n e b, ne_eqb (frames_refusal layout n e b) 0 q); same_bytes = rw (frames_left layout n e b, ne_eqb (frames_refusal layout n e b) 0 q) }
 
 -- refused before a sheet is looked at, or as the edit on pages is
 
@@ -73,9 +69,9 @@ sheet_refused n e sheet z = by_value (eqb (sheet_refusal n e sheet) 0)
     let early = early_facts n e p.1 in
     let size : length sheet ≡ 8192 = eqb-true (length sheet) 8192 p.0 in
     let fine : T (good_sheet n (listed n) sheet) = true_T (good_sheet n (listed n) sheet) p.2 in
-    let told : sheet_answer n e sheet ≡ frames_answer false n e sheet = (sheet_is n e sheet r).0 ∙ sym (sheet_answers n e early sheet size fine) in
-    let left : sheet_after n e sheet ≡ frames_after false n e sheet = (sheet_is n e sheet r).1 ∙ sym (sheet_bytes n e early sheet size fine) in
-    rw (told, left) (frames_refused false n e sheet (rw told at z)))
+    let told : sheet_answer n e sheet ≡ frames_answer Layout.Sheet n e sheet = (sheet_is n e sheet r).0 ∙ sym (sheet_answers n e early sheet size fine) in
+    let left : sheet_after n e sheet ≡ frames_after Layout.Sheet n e sheet = (sheet_is n e sheet r).1 ∙ sym (sheet_bytes n e early sheet size fine) in
+    rw (told, left) (frames_refused Layout.Sheet n e sheet (rw told at z)))
     (λ b.
     let (told, left) = sheet_not n e sheet (sheet_refusal n e sheet) refl (eqb-false (sheet_refusal n e sheet) 0 b) in
     record { none_removed = ap (λ (x : Answer). x.removed) told; same_bytes = left })
@@ -90,9 +86,9 @@ division_refused n e division z = by_value (eqb (division_refusal n e division) 
     let early = early_facts n e p.1 in
     let size : length division ≡ 49152 = eqb-true (length division) 49152 p.0 in
     let fine : T (named_good n e division) = true_T (named_good n e division) p.2 in
-    let told : division_answer n e division ≡ frames_answer true n e division = (division_is n e division r).0 ∙ sym (division_answers n e early division size fine) in
-    let left : division_after n e division ≡ frames_after true n e division = (division_is n e division r).1 ∙ sym (division_bytes n e early division size fine) in
-    rw (told, left) (frames_refused true n e division (rw told at z)))
+    let told : division_answer n e division ≡ frames_answer Layout.Division n e division = (division_is n e division r).0 ∙ sym (division_answers n e early division size fine) in
+    let left : division_after n e division ≡ frames_after Layout.Division n e division = (division_is n e division r).1 ∙ sym (division_bytes n e early division size fine) in
+    rw (told, left) (frames_refused Layout.Division n e division (rw told at z)))
     (λ b.
     let (told, left) = division_not n e division (division_refusal n e division) refl (eqb-false (division_refusal n e division) 0 b) in
     record { none_removed = ap (λ (x : Answer). x.removed) told; same_bytes = left })
