@@ -12,13 +12,18 @@ use mathlib.Core.Logic.{by_cases}
 use lib.Dec.{T, eqb, leb, leb→le}
 use lib.ListN.{length, take, length-append}
 use borrow.Author.Tests.{eq-eqb, ne_eqb}
+use Rattle.std.specs.Prelude.{Result, Ok, Err, is_err}
+use Rattle.base.specs.RefusalNumbers.{refusal_number}
+use Rattle.base.specs.declared.refusal.Refusal.{Refusal}
+use Rattle.timetable.proofs.OutputLaws.{number_there}
+use Rattle.base.specs.declared.refusal.OutputError.{OutputError}
 use Rattle.base.proofs.Tests.{T_true, true_T, and_l, and_r}
 use Rattle.railway.specs.Ranges.{area_ok}
 use Rattle.network.specs.Networks.{network_refusal, listed, area_of}
 use Rattle.timetable.specs.Machine.{Timetable}
 use Rattle.timetable.specs.Groups.{divide}
 use Rattle.timetable.specs.Findings.{numbers_of, group_findings, pair_findings}
-use Rattle.timetable.specs.Outputs.{Puts, put, reply, output, output_after}
+use Rattle.timetable.specs.Outputs.{Puts, put, reply_of, output, output_after}
 use Rattle.timetable.specs.Refusals.{call_refusal}
 use Rattle.timetable.proofs.RefusalLaws.{call_passed}
 use Rattle.theory.proofs.Reach.{own_part, pair_part}
@@ -31,12 +36,12 @@ use Rattle.findings.proofs.BoundLaws.{area_list_most, two_list_most}
 use Rattle.listings.specs.Text.{decimal, word}
 use Rattle.listings.specs.Inspect.{listed_text, area_text, pair_text}
 use Rattle.builder.specs.between.Builder.{list_most, findings_most}
-use Rattle.area_lines.specs.Types.{Area, Network, Finding, Output}
+use Rattle.area_lines.specs.Types.{Area, Network, Finding}
 use Rattle.area_lines.specs.between.Areas.{area_lines, pair_lines}
 use Rattle.text.specs.between.Lines.{of_areas, findings_text}
 use Rattle.text.proofs.FourByFour.{of_none, of_one, of_two}
 use Rattle.sheet_lines.proofs.FindingLines.{one_digit, Short, line_most, lines_short, list_there, list_printed}
-use Rattle.text.proofs.OutputLaws.{written_unrefused, short_unrefused, written_many, never_refused, never_short}
+use Rattle.text.proofs.OutputLaws.{written_unrefused, written_many, never_refused}
 use Rattle.findings.proofs.ListedSheet.{fine_size, fine_network, fine_sheet}
 
 -- how long a line is
@@ -59,6 +64,22 @@ pub area_low : (a : Area) → area_ok a ≡ true → (1 ≤ a.0) × (a.0 ≤ 9)
 area_low a ok =
     let t : T (area_ok a) = true_T (area_ok a) ok in
     (leb→le 1 a.0 (and_l (leb 1 a.0) (leb a.0 6) t), omega (arith, leb→le a.0 6 (and_r (leb 1 a.0) (leb a.0 6) t)))
+
+-- a call that did not fail is not refused, and one that failed is
+module _ (b : Bool) (r : Result (Unit {0}) Refusal) (e : b ≡ is_err r) where
+  pub went : b ≡ false → refusal_number r ≡ 0
+  went f = go r (sym e ∙ f)
+    where
+      go : (x : Result (Unit {0}) Refusal) → is_err x ≡ false → refusal_number x ≡ 0
+      go (Ok u) q = refl
+      go (Err k) q = let z : true ≡ false = q in cc
+
+  pub stopped : b ≡ true → ¬ (refusal_number r ≡ 0)
+  stopped f = go r (sym e ∙ f)
+    where
+      go : (x : Result (Unit {0}) Refusal) → is_err x ≡ true → ¬ (refusal_number x ≡ 0)
+      go (Ok u) q = let z : false ≡ true = q in cc
+      go (Err k) q = number_there k
 
 -- nothing is put where there is no text
 pub nothing_put : (xs b : List ℕ) (w : ℕ) → xs ≡ [] → Puts 0 xs b 0 b w
@@ -130,14 +151,14 @@ module _ (n : Network) (sheet : List ℕ) (fine : sheet_list_refusal n sheet ≡
 
     -- the call on it: d is the division, `part` the area's sheet, r what the call answers
     module _ (z d part b : List ℕ) (long : length z ≡ 49152) (made : d ≡ after_divide n sheet z) (lent : part ≡ area_part d a) (room : length b ≡ list_most)
-        (r : Output) (answered : reply r ≡ output (area_list_refusal n part a) (area_list n part a) b) where
+        (r : Result ℕ OutputError) (answered : reply_of r ≡ output (area_list_refusal n part a) (area_list n part a) b) where
       own_sheet : part ≡ area_part (divided n sheet) a
       own_sheet = lent ∙ ap (λ (x : List ℕ). area_part x a) (made ∙ divided_there z long)
 
       own-fits : area_list_refusal n part a ≡ 0 → length (area_list n part a) ≤ length b
       own-fits none = omega (arith, room, area_list_most n part a none)
 
-      pub own-refused : (k : ℕ) → r ≡ Output.Refused k → area_lines n sheet a ≡ []
+      pub own-refused : (k : OutputError) → r ≡ Err k → area_lines n sheet a ≡ []
       unfolding area_lines
       own-refused k e = go (area_ok a) refl
         where
@@ -147,12 +168,7 @@ module _ (n : Network) (sheet : List ℕ) (fine : sheet_list_refusal n sheet ≡
               never_refused (area_list_refusal n part a) (area_list n part a) b none (own-fits none) r answered k e
           go false d = rw (eq-eqb (sheet_list_refusal n sheet) 0 fine, d)
 
-      pub own-roomy {ℓ} : {P : Type ℓ} (k : ℕ) → r ≡ Output.TooShort k → P
-      own-roomy k e =
-          let none = short_unrefused (area_list_refusal n part a) (area_list n part a) b r answered k e in
-          never_short (area_list_refusal n part a) (area_list n part a) b none (own-fits none) r answered k e
-
-      module _ (k : ℕ) (e : r ≡ Output.Written k) where
+      module _ (k : ℕ) (e : r ≡ Ok k) where
         own-fine : area_list_refusal n part a ≡ 0
         own-fine = written_unrefused (area_list_refusal n part a) (area_list n part a) b r answered k e
 
@@ -199,7 +215,7 @@ module _ (n : Network) (sheet : List ℕ) (fine : sheet_list_refusal n sheet ≡
 
     -- the call on them
     module _ (z d first second out : List ℕ) (long : length z ≡ 49152) (made : d ≡ after_divide n sheet z) (lent : first ≡ area_part d a) (other : second ≡ area_part d b)
-        (room : length out ≡ list_most) (r : Output) (answered : reply r ≡ output (two_list_refusal n first second a b) (two_list n first second a b) out) where
+        (room : length out ≡ list_most) (r : Result ℕ OutputError) (answered : reply_of r ≡ output (two_list_refusal n first second a b) (two_list n first second a b) out) where
       first-sheet : first ≡ area_part (divided n sheet) a
       first-sheet = lent ∙ ap (λ (x : List ℕ). area_part x a) (made ∙ divided_there z long)
 
@@ -209,7 +225,7 @@ module _ (n : Network) (sheet : List ℕ) (fine : sheet_list_refusal n sheet ≡
       two_fits : two_list_refusal n first second a b ≡ 0 → length (two_list n first second a b) ≤ length out
       two_fits none = omega (arith, room, two_list_most n first second a b none)
 
-      pub two_refused : (k : ℕ) → r ≡ Output.Refused k → pair_lines n sheet a b ≡ []
+      pub two_refused : (k : OutputError) → r ≡ Err k → pair_lines n sheet a b ≡ []
       unfolding pair_lines
       two_refused k e = go (two_areas a b) refl
         where
@@ -219,12 +235,7 @@ module _ (n : Network) (sheet : List ℕ) (fine : sheet_list_refusal n sheet ≡
               never_refused (two_list_refusal n first second a b) (two_list n first second a b) out none (two_fits none) r answered k e
           go false d = rw (eq-eqb (sheet_list_refusal n sheet) 0 fine, d)
 
-      pub two-roomy {ℓ} : {P : Type ℓ} (k : ℕ) → r ≡ Output.TooShort k → P
-      two-roomy k e =
-          let none = short_unrefused (two_list_refusal n first second a b) (two_list n first second a b) out r answered k e in
-          never_short (two_list_refusal n first second a b) (two_list n first second a b) out none (two_fits none) r answered k e
-
-      module _ (k : ℕ) (e : r ≡ Output.Written k) where
+      module _ (k : ℕ) (e : r ≡ Ok k) where
         two-fine : two_list_refusal n first second a b ≡ 0
         two-fine = written_unrefused (two_list_refusal n first second a b) (two_list n first second a b) out r answered k e
 

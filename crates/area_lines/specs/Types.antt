@@ -2,4 +2,3 @@
 pub use Rattle.railway.specs.declared.sorts.Area.{Area}
 pub use Rattle.network.specs.declared.Network.{Network}
 pub use Rattle.timetable.specs.declared.Finding.{Finding}
-pub use Rattle.timetable.specs.declared.Output.{Output}

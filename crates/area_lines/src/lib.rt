@@ -12,7 +12,6 @@ use network::Network;
 use railway::sorts::Area;
 use text::found;
 use text::found::Heading;
-use timetable::Output;
 
 // The findings whose k numbers the slice begins with, with at most 30 bytes a line.
 fn put_list(out: &mut [u8], h: Heading, numbers: &[u16], k: usize) -> usize
@@ -26,21 +25,19 @@ fn put_list(out: &mut [u8], h: Heading, numbers: &[u16], k: usize) -> usize
 fn area_in(
     out: &mut [u8],
     sheet: &[u8],
-    n: Network,
+    n: &Network,
     a: Area,
     numbers: &mut [u16],
     sheets: &mut [u8],
 ) -> usize
     requires { (length numbers.old ≡ list_most) × (length sheets.old ≡ 49152) }
-    ensures { Puts 0 (area_lines n sheet.now a) out.old result out.new (30 * findings_most) }
+    ensures { Puts 0 (area_lines n.now sheet.now a) out.old result out.new (30 * findings_most) }
 {
-    let refused = division::divide(sheet, sheets, n);
-    if refused != 0 {
+    if division::divide(sheet, sheets, n).is_err() {
         return 0;
     }
-    let listed = calls::area_findings(division::area_sheet(sheets, a), n, a, numbers);
-    match listed {
-        Output::Written(k) => {
+    match calls::area_findings(division::area_sheet(sheets, a), n, a, numbers) {
+        Ok(k) => {
             let h = Heading {
                 letter: 68,
                 one: a.0,
@@ -48,14 +45,13 @@ fn area_in(
             };
             put_list(out, h, numbers, k)
         }
-        Output::Refused(_k) => 0,
-        Output::TooShort(_k) => 0,
+        Err(_) => 0,
     }
 }
 
 // The same with arrays of its own; nothing where the sheet is refused or there is no such area.
-pub fn put_area(out: &mut [u8], sheet: &[u8], n: Network, a: Area) -> usize
-    ensures { Puts 0 (area_lines n sheet.now a) out.old result out.new (30 * findings_most) }
+pub fn put_area(out: &mut [u8], sheet: &[u8], n: &Network, a: Area) -> usize
+    ensures { Puts 0 (area_lines n.now sheet.now a) out.old result out.new (30 * findings_most) }
 {
     let mut numbers = [0u16; findings::MOST];
     let mut sheets = [0u8; 49152];
@@ -66,24 +62,22 @@ pub fn put_area(out: &mut [u8], sheet: &[u8], n: Network, a: Area) -> usize
 fn pair_in(
     out: &mut [u8],
     sheet: &[u8],
-    n: Network,
+    n: &Network,
     a: Area,
     b: Area,
     numbers: &mut [u16],
     sheets: &mut [u8],
 ) -> usize
     requires { (length numbers.old ≡ list_most) × (length sheets.old ≡ 49152) }
-    ensures { Puts 0 (pair_lines n sheet.now a b) out.old result out.new (30 * findings_most) }
+    ensures { Puts 0 (pair_lines n.now sheet.now a b) out.old result out.new (30 * findings_most) }
 {
-    let refused = division::divide(sheet, sheets, n);
-    if refused != 0 {
+    if division::divide(sheet, sheets, n).is_err() {
         return 0;
     }
     let first = division::area_sheet(sheets, a);
     let second = division::area_sheet(sheets, b);
-    let listed = calls::pair_findings(first, second, n, a, b, numbers);
-    match listed {
-        Output::Written(k) => {
+    match calls::pair_findings(first, second, n, a, b, numbers) {
+        Ok(k) => {
             let h = Heading {
                 letter: 80,
                 one: a.0,
@@ -91,14 +85,13 @@ fn pair_in(
             };
             put_list(out, h, numbers, k)
         }
-        Output::Refused(_k) => 0,
-        Output::TooShort(_k) => 0,
+        Err(_) => 0,
     }
 }
 
 // The same with arrays of its own; nothing where the sheet is refused or these are not two areas.
-pub fn put_pair(out: &mut [u8], sheet: &[u8], n: Network, a: Area, b: Area) -> usize
-    ensures { Puts 0 (pair_lines n sheet.now a b) out.old result out.new (30 * findings_most) }
+pub fn put_pair(out: &mut [u8], sheet: &[u8], n: &Network, a: Area, b: Area) -> usize
+    ensures { Puts 0 (pair_lines n.now sheet.now a b) out.old result out.new (30 * findings_most) }
 {
     let mut numbers = [0u16; findings::MOST];
     let mut sheets = [0u8; 49152];

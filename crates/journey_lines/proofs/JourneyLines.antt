@@ -4,13 +4,14 @@ use Prim.Native.Nat.{ℕ, zero, suc, ◌+◌, ◌*◌, ◌/◌, ◌≤◌, ◌<�
 use mathlib.Core.Path.{◌≡◌, sym, ◌∙◌, ap}
 use mathlib.Core.Bool.{true}
 use mathlib.Core.List.{List, [], ◌∷◌, flat_map}
-use mathlib.Core.Option.{map}
 use native.Mathlib.Omega.{arith}
 use lib.Dec.{T, leb, eqb, leb→le, eqb_refl}
 use lib.IntN.{ℤ}
 use lib.ListN.{length, get_or, take, length-take}
-use lib.Seq.{get_or-take}
 use borrow.Author.Tests.{le-leb, eq-eqb}
+use Rattle.std.specs.Prelude.{Result, Ok, Err}
+use Rattle.base.specs.declared.refusal.OutputError.{OutputError}
+use Rattle.std.specs.Prelude.{option_map}
 use Rattle.base.specs.Lists.{every, first, is}
 use Rattle.base.proofs.Tests.{by_value, T_true, true_T, and_l, and_r, parts, every_map, every_at}
 use Rattle.railway.specs.Ranges.{station_ok, train_ok, same_train}
@@ -21,7 +22,7 @@ use Rattle.timetable.specs.Machine.{Timetable}
 use Rattle.timetable.specs.Good.{visit_good, entry_good, visits_good, table_good}
 use Rattle.timetable.specs.Projection.{from_arrival, projection}
 use Rattle.timetable.specs.Visits.{arr}
-use Rattle.timetable.specs.Outputs.{reply}
+use Rattle.timetable.specs.Outputs.{reply_of}
 use Rattle.sheet.specs.Sheets.{decode_sheet}
 use Rattle.network.proofs.AreaLaws.{listed_ok}
 use Rattle.records.specs.Records.{decode_entry}
@@ -35,9 +36,9 @@ use Rattle.findings.specs.Lists.{sheet_list_refusal}
 use Rattle.builder.proofs.BuildLaws.{flat_map_lem}
 use Rattle.listings.specs.Inspect.{row_text, visit_text, journeys_text}
 use Rattle.journey_lines.specs.between.Journeys.{journey_lines}
-use Rattle.journey_lines.specs.Types.{Station, Train, Minute, Visit, StationRow, Network, Row, Output}
+use Rattle.journey_lines.specs.Types.{Station, Train, Minute, Visit, StationRow, Network, Row}
 use Rattle.text.specs.between.Rows.{rows_text}
-use Rattle.text.proofs.OutputLaws.{written_whole, written_many, never_refused, never_short}
+use Rattle.text.proofs.OutputLaws.{written_whole, written_many, never_refused}
 use Rattle.journey_lines.proofs.RowTexts.{rows_lines}
 use Rattle.journey_lines.proofs.RowRanges.{numbers_many, rows_few, rows_small}
 use Rattle.findings.proofs.ListedSheet.{parts_fine, fine_network, sheet_whole}
@@ -45,7 +46,7 @@ use Rattle.findings.proofs.ListedSheet.{parts_fine, fine_network, sheet_whole}
 abbrev entry : Train → Visit → Entry
 entry t v = record { train = t; visit = v }
 
-first_there : (es : List Entry) (i : ℕ) (d : Entry) → i < length es → is (λ v. true) (map (λ e. e.visit) (first (λ e. same_train e.train (get_or es i d).train) es)) ≡ true
+first_there : (es : List Entry) (i : ℕ) (d : Entry) → i < length es → is (λ v. true) (option_map (λ e. e.visit) (first (λ e. same_train e.train (get_or es i d).train) es)) ≡ true
 unfolding first
 first_there [] i d h = absurd (omega arith)
 first_there (e ∷ es) zero d h = rw (T_true (eqb e.train.0 e.train.0) (eqb_refl e.train.0))
@@ -76,18 +77,14 @@ module _ (n : Network) (sheet : List ℕ) (fine : sheet_list_refusal n sheet ≡
     fits : length (projected s t a sheet) ≤ length b
     fits = omega (arith, few, room)
 
-    module _ (r : Output) (answered : reply r ≡ project_answer n s t a sheet b) where
-      pub rows-many : (k : ℕ) → r ≡ Output.Written k → k ≡ length (projected s t a sheet)
+    module _ (r : Result ℕ OutputError) (answered : reply_of r ≡ project_answer n s t a sheet b) where
+      pub rows-many : (k : ℕ) → r ≡ Ok k → k ≡ length (projected s t a sheet)
       unfolding project_answer
       rows-many k e = written_many (project_refusal n s t a sheet) (projected s t a sheet) b not_refused fits r answered k e
 
-      pub rows-unrefused {ℓ} : {P : Type ℓ} (k : ℕ) → r ≡ Output.Refused k → P
+      pub rows-unrefused {ℓ} : {P : Type ℓ} (k : OutputError) → r ≡ Err k → P
       unfolding project_answer
       rows-unrefused k e = never_refused (project_refusal n s t a sheet) (projected s t a sheet) b not_refused fits r answered k e
-
-      pub rows_fit {ℓ} : {P : Type ℓ} (k : ℕ) → r ≡ Output.TooShort k → P
-      unfolding project_answer
-      rows_fit k e = never_short (project_refusal n s t a sheet) (projected s t a sheet) b not_refused fits r answered k e
 
     rows_whole : take (length (projected s t a sheet)) (project_after n s t a sheet b) ≡ projected s t a sheet
     unfolding project_after
@@ -131,17 +128,16 @@ module _ (n : Network) (sheet : List ℕ) (fine : sheet_list_refusal n sheet ≡
 
 -- the stations of a good network, row by row
 module _ (n : Network) (good : network_refusal n ≡ 0) (m : Timetable) where
-  pub count_high : n.stationcount ≤ 16
-  count_high = leb→le n.stationcount 16 (and_r (leb 1 n.stationcount) (leb n.stationcount 16) (network_facts n good).station_count)
+  pub rows_many : length (station_rows n) ≤ 16
+  unfolding station_rows
+  rows_many = omega (arith, length-take n.stationcount n.stations, leb→le n.stationcount 16 (and_r (leb 1 n.stationcount) (leb n.stationcount 16) (network_facts n good).station_count))
 
-  pub row_listed : (i : ℕ) → i < n.stationcount → length n.stations ≡ 16 → listed n (get_or n.stations i blank_station).station ≡ true
-  unfolding stations_of station_rows
-  row_listed i h many =
+  pub row_listed : (i : ℕ) → i < length (station_rows n) → listed n (get_or (station_rows n) i blank_station).station ≡ true
+  unfolding stations_of
+  row_listed i h =
       let all : T (every (λ r. listed n r.station) (station_rows n)) = rw (every_map (listed n) (λ (r : StationRow). r.station) (station_rows n)) at (stations_listed n) in
-      T_true (listed n (get_or n.stations i blank_station).station)
-      (rw (get_or-take n.stationcount n.stations i blank_station h) at
-      (every_at (λ r. listed n r.station) (station_rows n) i blank_station all (simp length-take (omega (arith, h, many, count_high)))))
+      T_true (listed n (get_or (station_rows n) i blank_station).station) (every_at (λ r. listed n r.station) (station_rows n) i blank_station all h)
 
-  pub rows_journeys : flat_map (λ (r : StationRow). flat_map (visit_text n m r.station) (m r.station).visits) (take n.stationcount n.stations) ≡ journeys_text n m
-  unfolding journeys_text stations_of station_rows
-  rows_journeys = sym (flat_map_lem (λ s. flat_map (visit_text n m s) (m s).visits) (λ (r : StationRow). r.station) (take n.stationcount n.stations))
+  pub rows_journeys : flat_map (λ (r : StationRow). flat_map (visit_text n m r.station) (m r.station).visits) (station_rows n) ≡ journeys_text n m
+  unfolding journeys_text stations_of
+  rows_journeys = sym (flat_map_lem (λ s. flat_map (visit_text n m s) (m s).visits) (λ (r : StationRow). r.station) (station_rows n))

@@ -1,4 +1,3 @@
-pub mod PutEach
 pub mod RowRanges
 pub mod RowTexts
 pub mod JourneyLines

@@ -5,7 +5,7 @@ use Prim.Native.Nat.{ℕ, zero, suc, ◌+◌, ◌-◌, ◌*◌, ◌≤◌, max}
 use mathlib.Core.Path.{◌≡◌, refl, sym, ◌∙◌, ap}
 use mathlib.Core.Bool.{Bool, true, false, cond}
 use mathlib.Core.List.{List, [], ◌∷◌, flat_map}
-use mathlib.Core.Option.{Option, none, some, map}
+use Rattle.std.specs.Prelude.{Option, None, Some}
 use native.Mathlib.Omega.{arith}
 use lib.Dec.{T, ltb, leb, leb→le}
 use lib.IntN.{pos, negsuc, sub_ℕ}
@@ -14,6 +14,7 @@ use lib.Signed.{mag}
 use borrow.Author.Tests.{le-leb}
 use Rattle.base.specs.Choice.{◌if◌else◌}
 use Rattle.std.specs.Prelude.{if◌then◌else◌}
+use Rattle.std.specs.Prelude.{option_map}
 use Rattle.base.specs.Lists.{every, first}
 use Rattle.base.proofs.Tests.{by_value, true_T, and_r, parts, every_head, every_tail, every_append}
 use Rattle.railway.specs.Ranges.{station_ok, train_ok, same_train}
@@ -42,8 +43,8 @@ numbers_many (r ∷ rs) = omega (arith, numbers_many rs)
 abbrev from_found : (Station → ℕ → List Row) → Timetable → Train → Station → ℕ → Option Visit → List Row
 from_found go_on m t s a found =
     elim found [
-      | none ↦ []
-      | some v ↦
+      | None ↦ []
+      | Some v ↦
           row s v (expected_arrival v a)
           ∷ from_departure go_on m s t v (expected_departure v (expected_arrival v a))
     ]
@@ -59,8 +60,8 @@ departure_few k go_on few m s t v d = go v.outward
 
 found_few : (k : ℕ) (go_on : Station → ℕ → List Row) → ((s : Station) (a : ℕ) → length (go_on s a) ≤ k) → (m : Timetable) (t : Train) (s : Station) (a : ℕ) (o : Option Visit)
     → length (from_found go_on m t s a o) ≤ suc k
-found_few k go_on few m t s a none = omega arith
-found_few k go_on few m t s a (some v) = omega (arith, departure_few k go_on few m s t v (expected_departure v (expected_arrival v a)))
+found_few k go_on few m t s a None = omega arith
+found_few k go_on few m t s a (Some v) = omega (arith, departure_few k go_on few m s t v (expected_departure v (expected_arrival v a)))
 
 pub rows_few : (k : ℕ) (m : Timetable) (t : Train) (s : Station) (a : ℕ) → length (from_arrival k m t s a) ≤ k
 unfolding from_arrival
@@ -70,11 +71,11 @@ rows_few (suc k) m t s a = found_few k (from_arrival k m t) (rows_few k m t) m t
 -- how large their numbers are: an arrival of a whole timetable is a minute, or at most 241 minutes behind the one
 -- before it
 
-first_good : (ok f : Entry → Bool) (es : List Entry) (v : Visit) → T (every ok es) → map (λ (e : Entry). e.visit) (first f es) ≡ some v → (e : Entry) × T (ok e) × (e.visit ≡ v)
+first_good : (ok f : Entry → Bool) (es : List Entry) (v : Visit) → T (every ok es) → option_map (λ (e : Entry). e.visit) (first f es) ≡ Some v → (e : Entry) × T (ok e) × (e.visit ≡ v)
 unfolding first
 first_good ok f [] v h q = let z : ◌≡◌ {A = ℕ} 0 1 = cc in absurd (omega arith)
 first_good ok f (x ∷ xs) v h q = by_value (f x)
-    (λ p. let y : some x.visit ≡ some v = rw p at q in (x, every_head ok x xs h, cc))
+    (λ p. let y : Some x.visit ≡ Some v = rw p at q in (x, every_head ok x xs h, cc))
     (λ p. first_good ok f xs v (every_tail ok x xs h) (rw p at q))
 
 late_small : (a b k : ℕ) → a ≤ k → b ≤ k → mag (sub_ℕ a b) ≤ k
@@ -114,7 +115,7 @@ row_small s v a k ok p q r h =
 
 module _ (n : Network) (good : network_refusal n ≡ 0) (m : Timetable) (w : Whole n m) (t : Train) where
   -- a visit that is found stands at a listed station, and is good
-  found_good : (s : Station) (v : Visit) → visit_of t (m s) ≡ some v → T (listed n s) × GoodVisit n s v
+  found_good : (s : Station) (v : Visit) → visit_of t (m s) ≡ Some v → T (listed n s) × GoodVisit n s v
   unfolding visit_of table_good visits_good entry_good empty first
   found_good s v q = by_value (listed n s) here bare
     where
@@ -129,7 +130,7 @@ module _ (n : Network) (good : network_refusal n ≡ 0) (m : Timetable) (w : Who
       bare : listed n s ≡ false → T (listed n s) × GoodVisit n s v
       bare p =
           let b : m s ≡ empty = w.bare s (rw p tt) in
-          let y : none ≡ some v = sym (ap (λ (tab : Table). map (λ (e : Entry). e.visit) (first (λ e. same_train e.train t) tab.visits)) b) ∙ q in
+          let y : None ≡ Some v = sym (ap (λ (tab : Table). option_map (λ (e : Entry). e.visit) (first (λ e. same_train e.train t) tab.visits)) b) ∙ q in
           let z : ◌≡◌ {A = ℕ} 0 1 = cc in absurd (omega arith)
 
   module _ (j : ℕ) (low : j ≤ 15) (go_on : Station → ℕ → List Row) (later : (s : Station) (a : ℕ) → a ≤ 2879 + 241 * (j + 1) → T (every small (rows_numbers (go_on s a)))) where
@@ -147,8 +148,8 @@ module _ (n : Network) (good : network_refusal n ≡ 0) (m : Timetable) (w : Who
 
     found_small : (s : Station) (a : ℕ) → a ≤ 2879 + 241 * j → (o : Option Visit) → visit_of t (m s) ≡ o → T (every small (rows_numbers (from_found go_on m t s a o)))
     unfolding rows_numbers flat_map every
-    found_small s a h none q = tt
-    found_small s a h (some v) q =
+    found_small s a h None q = tt
+    found_small s a h (Some v) q =
         let (l, g) = found_good s v q in
         let k : ℕ = 2879 + 241 * j in
         let p : arr v ≤ 2879 = leb→le (arr v) 2879 g.arrival in

@@ -7,4 +7,3 @@ pub use Rattle.railway.specs.declared.visit.Visit.{Visit}
 pub use Rattle.network.specs.declared.StationRow.{StationRow}
 pub use Rattle.network.specs.declared.Network.{Network}
 pub use Rattle.timetable.specs.declared.Row.{Row}
-pub use Rattle.timetable.specs.declared.Output.{Output}

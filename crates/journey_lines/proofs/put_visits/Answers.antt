@@ -2,7 +2,6 @@
 use mathlib.Core.Path.{◌∙◌, ap}
 use mathlib.Core.List.{[], flat_map}
 use native.Mathlib.Omega.{arith}
-use borrow.Author.Rules.{rules}
 use Rattle.timetable.specs.Tables.{Table}
 use Rattle.records.specs.Records.{decode_entry}
 use Rattle.sheet.specs.Sheets.{decode_sheet}
@@ -20,34 +19,34 @@ use Rattle.journey_lines.proofs.put_visits.Goals as goal
 
 pub overflow_sub-first : goal.overflow_sub-first
 overflow_sub-first c =
-    omega (arith, c.size.ensures.0, station_low c.args.s (here_ok c.args.n c.args.sheet.now c.requires.1 c.args.s c.requires.2))
+    omega (arith, c.from.ensures, station_low c.args.s (here_ok c.args.n.now c.args.sheet.now c.requires.1 c.args.s c.requires.2))
 
 pub overflow_mul-first : goal.overflow_mul-first
-overflow_mul-first c = omega (arith, c.size.ensures.1)
+overflow_mul-first c = omega (arith, c.from.ensures, c.from.type_inv)
 
 pub overflow_add-part : goal.overflow_add-part
-overflow_add-part c = omega (arith, c.size.ensures.1)
+overflow_add-part c = omega (arith, c.from.ensures, c.from.type_inv)
 
 pub slice_bounds-part-end : goal.slice_bounds-part-end
 slice_bounds-part-end c =
     let fine = c.requires.1 in
-    let ok = here_ok c.args.n c.args.sheet.now fine c.args.s c.requires.2 in
-    omega (arith, c.size.ensures.0, station_low c.args.s ok, station_high c.args.s ok, fine_size c.args.n c.args.sheet.now fine)
+    let ok = here_ok c.args.n.now c.args.sheet.now fine c.args.s c.requires.2 in
+    omega (arith, c.from.ensures, station_low c.args.s ok, station_high c.args.s ok, fine_size c.args.n.now c.args.sheet.now fine)
 
 pub loop-i-init : goal.loop-i-init
-loop-i-init c = none_put (visit_text c.args.n (decode_sheet c.args.sheet.now) c.args.s) [] 1152 _ _
+loop-i-init c = none_put (visit_text c.args.n.now (decode_sheet c.args.sheet.now) c.args.s) [] 1152 _ _
 
 pub put_projection-next-requires : goal.put_projection-next-requires
 put_projection-next-requires c =
     let s = c.args in
-    let z = c.size in
-    let ok = T_true (station_ok s.s) (here_ok s.n s.sheet.now c.requires.1 s.s c.requires.2) in
-    let same = page_there s.sheet.now s.s z.result (fine_size s.n s.sheet.now c.requires.1) z.ensures.0 ok in
+    let z = c.from in
+    let ok = T_true (station_ok s.s) (here_ok s.n.now s.sheet.now c.requires.1 s.s c.requires.2) in
+    let same = page_there s.sheet.now s.s z.result (fine_size s.n.now s.sheet.now c.requires.1) z.ensures ok in
     let k = c.visit_count-i-end in
     let l = c.loop-i in
     let h = c.loop-i-test.true in
     let read = entry_parts _ _ _ c.train_in-t.ensures c.visit_in-v.ensures ∙ entry_of _ _ _ c.entry_record-r.ensures in
-    let there = entry_there s.n s.sheet.now c.requires.1 s.s c.requires.2 _ same l.i (omega (arith, h, k.ensures.0)) _ _ read in
+    let there = entry_there s.n.now s.sheet.now c.requires.1 s.s c.requires.2 _ same l.i (omega (arith, h, k.ensures.0)) _ _ read in
     (omega (arith, c.requires.0, k.ensures.1, l.invariant.1, h), c.requires.1, c.requires.2, there.0, there.1)
 
 pub loop-i-preserved : goal.loop-i-preserved
@@ -55,16 +54,16 @@ unfolding entry_at
 loop-i-preserved c =
     let s = c.args in
     let read = entry_parts _ _ _ c.train_in-t.ensures c.visit_in-v.ensures ∙ entry_of _ _ _ c.entry_record-r.ensures in
-    let text = visit_text s.n (decode_sheet s.sheet.now) s.s in
+    let text = visit_text s.n.now (decode_sheet s.sheet.now) s.s in
     one_put text _ 1152 s.at s.out.now c.loop-i.i _ _ _ _ (decode_entry []) (omega (arith, c.loop-i-test.true, c.visit_count-i-end.ensures.0)) c.loop-i.invariant (puts_as _ _ _ _ _ _ 1152 (ap text read) c.put_projection-next.ensures)
 
 pub returns : goal.returns
 returns c =
     let s = c.args in
-    let z = c.size in
-    let ok = T_true (station_ok s.s) (here_ok s.n s.sheet.now c.requires.1 s.s c.requires.2) in
-    let same = page_there s.sheet.now s.s z.result (fine_size s.n s.sheet.now c.requires.1) z.ensures.0 ok in
-    let text = visit_text s.n (decode_sheet s.sheet.now) s.s in
+    let z = c.from in
+    let ok = T_true (station_ok s.s) (here_ok s.n.now s.sheet.now c.requires.1 s.s c.requires.2) in
+    let same = page_there s.sheet.now s.s z.result (fine_size s.n.now s.sheet.now c.requires.1) z.ensures ok in
+    let text = visit_text s.n.now (decode_sheet s.sheet.now) s.s in
     let many = c.visit_count-i-end.ensures in
     let all = all_put text _ 1152 s.at s.out.now c.loop-i.i _ _ (omega (arith, c.loop-i-test.false, many.0)) c.loop-i.invariant in
     let whole = puts_as s.at _ _ _ _ _ _ (ap (λ (tab : Table). flat_map text tab.visits) same) all in
