@@ -41,6 +41,7 @@ pub fn edit_sheet(sheet: &mut [u8], n: &Network, e: Edit) -> Result<u8, Refusal>
     pages::edit_pages(sheet, Layout::Sheet, n, e)
 }
 
+// It stays beside `edit_sheet`: length, test and definition differ, and the rest is one function already.
 pub fn edit_division(division: &mut [u8], n: &Network, e: Edit) -> Result<u8, Refusal>
     ensures answer { answer_of result ≡ division_answer n.now e division.old }
     ensures after { division.new ≡ division_after n.now e division.old }

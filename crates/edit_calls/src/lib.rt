@@ -51,7 +51,8 @@ fn all_good(division: &[u8], n: &Network) -> bool
     }
 }
 
-// An edit as its single call; `tested` where the division is known to be good.
+// An edit as its single call; `tested` where the division is known to be good. It stays a truth value: it is the answer of
+// `all_good`, and the `requires` says what it tells.
 fn edit_once(division: &mut [u8], n: &Network, e: Edit, tested: bool) -> Result<u8, Refusal>
     requires { tested ≡ true → known_good n.now division.old ≡ true }
     ensures { EditsKnown n.now e tested division.old (answer_of result) division.new }

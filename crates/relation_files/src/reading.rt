@@ -15,7 +15,7 @@ use railway::edit::StationRelation;
 use railway::relation::{Pair, Relation, Trains};
 use railway::sorts::{Station, Train};
 
-// The least train behind another.
+// The least train behind another. `rise` stays a truth value, as `trains_format` of the definitions takes it.
 fn least_train(rise: bool, before: u16) -> u32
     ensures { result ≡ (if rise then before + 1 else 1) }
 {
@@ -47,7 +47,8 @@ fn trains(
     Ok((values, place))
 }
 
-// The relation of such trains, zeros where there are fewer.
+// The relation of such trains, zeros where there are fewer. The kind stays the number that the file has: `relation_of`
+// of the definitions is total over every number.
 #[tactic(auto, using(crate::proofs::ReadingLaws::group_places), unfolding(timetable::specs::EditsFile::relation_of, timetable::specs::EditsFile::pair_of))]
 fn relation_from(kind: u16, i: u16, trains: [u16; 4]) -> Relation
     ensures { i < 256 → result ≡ relation_of kind i trains }
@@ -71,7 +72,7 @@ fn relation_from(kind: u16, i: u16, trains: [u16; 4]) -> Relation
     }
 }
 
-// "a dependency an arriver and a departer": its count is 2.
+// "a dependency an arriver and a departer": its count is 2. The definition is total over every number.
 fn most_trains(kind: u16) -> u16
     ensures { (result ≡ most_trains kind) × (result ≤ 4) }
 {
