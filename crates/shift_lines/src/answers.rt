@@ -11,12 +11,12 @@ ghost use Rattle.text.specs.between.Lines.{far};
 ghost use Rattle.shift_lines.specs.between.Listing.{answer_at, answers_from, answers_text, next_tally, next_place};
 
 use edit_files::edit;
-use edit_files::edit::{Cursor, NextEdit};
+use edit_files::edit::Cursor;
 use text::line;
 use timetable::{Answer, FileForm, Tally};
 
 // The place behind the lines, and the tally.
-#[derive(Clone, Copy)]
+#[derive(Clone, Copy, Debug, PartialEq, Eq, Hash)]
 pub struct Progress {
     pub at: usize,
     pub tally: Tally,
@@ -43,32 +43,15 @@ fn put_answer(out: &mut [u8], at: usize, i: u32, a: Answer) -> usize
     line::put_line(out, at, 69, &[i, refusal, removed])
 }
 
-// The tally, and the place of the next edit.
-#[derive(Clone, Copy)]
-struct Counted {
-    tally: Tally,
-    cursor: Cursor,
-}
-
-// The edit at the cursor and its answer, counted; one that cannot be read counts nothing.
-fn count_next(file: &[u8], cursor: Cursor, a: Answer, tally: Tally) -> Counted
-    ensures { (result.tally ≡ next_tally (read (edit_entry newest_form) file.now cursor.at) a tally)
-        × (result.cursor.at ≡ next_place (read (edit_entry newest_form) file.now cursor.at) cursor.at) }
+// The tally with the edit at the cursor and its answer, and the place of the next edit; one that cannot be read counts
+// nothing.
+fn count_next(file: &[u8], cursor: Cursor, a: Answer, tally: Tally) -> (Tally, Cursor)
+    ensures { (result.0 ≡ next_tally (read (edit_entry newest_form) file.now cursor.at) a tally)
+        × (result.1.at ≡ next_place (read (edit_entry newest_form) file.now cursor.at) cursor.at) }
 {
-    let next = edit::next_edit(file, cursor, FileForm::Newest);
-    match next {
-        NextEdit::Refused(_k, _p) => Counted {
-            tally: tally,
-            cursor: cursor,
-        },
-        NextEdit::Entry(e, c) => {
-            let raised = raising::raise_own(tally, e, a);
-            let later = raised.tally;
-            Counted {
-                tally: later,
-                cursor: c,
-            }
-        }
+    match edit::next_edit(file, cursor, FileForm::Newest) {
+        Ok((e, next)) => (raising::raise_own(tally, e, a).unwrap_or(tally), next),
+        Err(_) => (tally, cursor),
     }
 }
 
@@ -91,16 +74,12 @@ pub(crate) fn put_answers(
         added: 0,
         removed: 0,
     };
-    let mut at: usize = 0;
+    let mut at = 0;
     let mut cursor = Cursor { at: first };
-    let mut i: u32 = 0;
-    while i < count {
+    for i in 0..count {
         let a = answer_at(answers, i as usize);
         at = put_answer(out, at, i + 1, a);
-        let counted = count_next(file, cursor, a, tally);
-        tally = counted.tally;
-        cursor = counted.cursor;
-        i += 1;
+        (tally, cursor) = count_next(file, cursor, a, tally);
     }
     Progress {
         at: at,

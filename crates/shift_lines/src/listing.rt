@@ -3,7 +3,7 @@ ghost use Rattle.std.specs.Prelude.{◌≡◌, true, ◌+◌, ◌*◌, ◌≤◌
 ghost use Rattle.network.specs.Networks.{network_refusal};
 ghost use Rattle.timetable.specs.FileForms.{newest_form};
 ghost use Rattle.timetable.specs.Listing.{tally_line};
-ghost use Rattle.timetable.specs.Outputs.{Puts, reply, output, output_after};
+ghost use Rattle.timetable.specs.Outputs.{Puts, reply_of, output, output_after};
 ghost use Rattle.sheet.specs.Sheets.{decode_sheet, merged};
 ghost use Rattle.records.specs.Bytes.{zeros};
 ghost use Rattle.edit_calls.specs.Lists.{known_good};
@@ -14,11 +14,12 @@ ghost use Rattle.text.specs.between.Lines.{far};
 ghost use Rattle.shift_lines.specs.between.Listing.{shift_most, EditsFile, end_text, run_text};
 
 use crate::answers;
+use base::refusal::OutputError;
 use edit_files::input::read_shift;
 use network::Network;
 use sheet_lines::{totals, whole};
 use text::{draft, line, refusal};
-use timetable::{FileForm, Output, Tally};
+use timetable::{FileForm, Tally};
 
 // As many bytes as are printed at most: shift_most of specs/between/Listing.antt.
 pub const MOST: usize = 68 * 1000 + (26 * (findings::MOST / 4) + 136);
@@ -39,23 +40,24 @@ fn end_in(
     out: &mut [u8],
     at: usize,
     division: &[u8],
-    n: Network,
+    n: &Network,
     y: Tally,
     sheet: &mut [u8],
 ) -> usize
-    requires { (known_good n division.now ≡ true) × (at ≤ 1000000) × (length sheet.old ≡ 8192) }
-    ensures { Puts at (end_text n (decode_sheet (merged n division.now)) y) out.old result out.new (26 * findings_most + 136) }
+    requires { (known_good n.now division.now ≡ true) × (at ≤ 1000000) × (length sheet.old ≡ 8192) }
+    ensures { Puts at (end_text n.now (decode_sheet (merged n.now division.now)) y) out.old result out.new (26 * findings_most + 136) }
 {
-    division::merge(division, sheet, n);
+    // a division that is known to be good merges
+    let _ = division::merge(division, sheet, n);
     let found = whole::put_whole(out, at, sheet, n);
     let next = totals::put_totals(out, found.at, sheet, n, found.count);
     put_tally(out, next, y)
 }
 
 // The same with a sheet of its own.
-fn put_end(out: &mut [u8], at: usize, division: &[u8], n: Network, y: Tally) -> usize
-    requires { (known_good n division.now ≡ true) × (at ≤ 1000000) }
-    ensures { Puts at (end_text n (decode_sheet (merged n division.now)) y) out.old result out.new (26 * findings_most + 136) }
+fn put_end(out: &mut [u8], at: usize, division: &[u8], n: &Network, y: Tally) -> usize
+    requires { (known_good n.now division.now ≡ true) × (at ≤ 1000000) }
+    ensures { Puts at (end_text n.now (decode_sheet (merged n.now division.now)) y) out.old result out.new (26 * findings_most + 136) }
 {
     let mut sheet = [0u8; 8192];
     end_in(out, at, division, n, y, &mut sheet)
@@ -65,27 +67,28 @@ fn put_end(out: &mut [u8], at: usize, division: &[u8], n: Network, y: Tally) -> 
 fn run_in(
     out: &mut [u8],
     file: &[u8],
-    n: Network,
+    n: &Network,
     first: usize,
     count: u32,
     answers: &mut [u8],
     division: &mut [u8],
 ) -> usize
-    requires { (network_refusal n ≡ 0)
+    requires { (network_refusal n.now ≡ 0)
         × EditsFile file.now first count
         × (length answers.old ≡ 2000)
         × (division.old ≡ zeros 49152) }
-    ensures { Puts 0 (run_text n (edits_at newest_form count file.now first)) out.old result out.new shift_most }
+    ensures { Puts 0 (run_text n.now (edits_at newest_form count file.now first)) out.old result out.new shift_most }
 {
-    edit_calls::run_list(division, n, file, FileForm::Newest, answers);
+    // the file can be read, and there is room for the answers
+    let _ = edit_calls::run_list(division, n, file, FileForm::Newest, answers);
     let progress = answers::put_answers(out, file, first, count, answers);
     put_end(out, progress.at, division, n, progress.tally)
 }
 
 // "network, then edits, from an empty division": the edits' file, from the place of its first edit on.
-fn put_run(out: &mut [u8], file: &[u8], n: Network, first: usize, count: u32) -> usize
-    requires { (network_refusal n ≡ 0) × EditsFile file.now first count }
-    ensures { Puts 0 (run_text n (edits_at newest_form count file.now first)) out.old result out.new shift_most }
+fn put_run(out: &mut [u8], file: &[u8], n: &Network, first: usize, count: u32) -> usize
+    requires { (network_refusal n.now ≡ 0) × EditsFile file.now first count }
+    ensures { Puts 0 (run_text n.now (edits_at newest_form count file.now first)) out.old result out.new shift_most }
 {
     let mut answers = [0u8; 2000];
     let mut division = [0u8; 49152];
@@ -100,43 +103,32 @@ fn put_listing(out: &mut [u8], input: &[u8]) -> usize
     if 16384 < input.len() {
         return refusal::put_refusal(out, 5, 0);
     }
-    let r = read_shift(input);
-    if r.refusal != 0 {
-        return refusal::put_refusal(out, r.refusal, r.place);
+    match read_shift(input) {
+        Err(e) => refusal::put_refusal(out, u8::from(e.refusal), e.place),
+        Ok(read) => {
+            // behind the network stands an edits file: its count, and then the first edit
+            let width = numbers::width_of(read.edits.count);
+            let at = read.edits.first - width;
+            put_run(
+                out,
+                &input[at..],
+                &read.network,
+                width,
+                u32::from(read.edits.count),
+            )
+        }
     }
-    // behind the network stands an edits file: its count, and then the first edit
-    let count = r.count;
-    let width = numbers::width_of(count);
-    let at = r.first - width;
-    put_run(out, &input[at..], r.network, width, count as u32)
 }
 
-// The text is made in a lent draft first, so that a buffer that is too short is left as it was; one that the draft has
-// no room for is then made again.
-fn write_drafted(input: &[u8], out: &mut [u8], draft: &mut [u8]) -> Output
-    ensures { (reply result ≡ output 0 (shift_text input.now) out.old)
+// All lines.
+pub fn write_listing(input: &[u8], out: &mut [u8]) -> Result<usize, OutputError>
+    ensures { (reply_of result ≡ output 0 (shift_text input.now) out.old)
         × (out.new ≡ output_after 0 (shift_text input.now) out.old) }
 {
-    let needed = put_listing(draft, input);
-    if needed <= draft.len() {
-        return draft::hand_over(out, draft, needed);
-    }
-    if out.len() < needed {
-        return Output::TooShort(needed);
-    }
-    put_listing(out, input);
-    Output::Written(needed)
-}
-
-// All lines; a buffer that has room for any text is written at once.
-pub fn write_listing(input: &[u8], out: &mut [u8]) -> Output
-    ensures { (reply result ≡ output 0 (shift_text input.now) out.old)
-        × (out.new ≡ output_after 0 (shift_text input.now) out.old) }
-{
-    if MOST <= out.len() {
-        let length = put_listing(out, input);
-        return Output::Written(length);
-    }
-    let mut draft = [0u8; SHORT];
-    write_drafted(input, out, &mut draft)
+    draft::drafted(
+        out,
+        MOST,
+        &mut [0u8; SHORT],
+        |buffer| put_listing(buffer, input),
+    )
 }

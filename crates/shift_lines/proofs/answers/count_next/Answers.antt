@@ -4,14 +4,14 @@ use Rattle.edit_files.specs.Answers.{next_outcome}
 use Rattle.shift_lines.specs.between.Listing.{next_tally, next_place}
 use Rattle.shift_lines.proofs.answers.count_next.Goals as goal
 
-pub returns-in-Refused : goal.returns-in-Refused
-unfolding next_tally next_place next_outcome
-returns-in-Refused c =
-    let x = sym c.next_edit-next.ensures ∙ ap next_outcome c.in-Refused.is in
-    rw x (refl, refl)
+pub returns-in-Ok : goal.returns-in-Ok
+unfolding next_tally next_place
+returns-in-Ok c =
+    let x = sym c.next_edit.ensures ∙ ap next_outcome c.in-Ok.is in
+    rw x (c.unwrap_or.ensures ∙ c.raise_own.ensures.1, refl)
 
-pub returns-in-Entry : goal.returns-in-Entry
-unfolding next_tally next_place next_outcome
-returns-in-Entry c =
-    let x = sym c.next_edit-next.ensures ∙ ap next_outcome c.in-Entry.is in
-    rw x (c.raise_own-raised.ensures.1, refl)
+pub returns-in-Err : goal.returns-in-Err
+unfolding next_tally next_place
+returns-in-Err c =
+    let x = sym c.next_edit.ensures ∙ ap next_outcome c.in-Err.is in
+    rw x (refl, refl)

@@ -6,4 +6,4 @@ use Rattle.shift_lines.proofs.answers.put_answer.Goals as goal
 
 pub returns : goal.returns
 returns c =
-    puts_as _ _ _ _ _ _ _ (line_there c.args.at c.requires 69 _ (omega arith)) c.put_line.ensures
+    rw (← c.from-refusal.ensures, ← c.from-removed.ensures) (puts_as _ _ _ _ _ _ _ (line_there c.args.at c.requires 69 _ (omega arith)) c.put_line.ensures)

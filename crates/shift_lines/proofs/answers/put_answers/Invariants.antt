@@ -13,13 +13,9 @@ use Rattle.shift_lines.proofs.answers.put_answers.Given as goal
 
 abbrev pub invariant-loop-i : goal.invariant-loop-i
 invariant-loop-i l =
-    (l.i ≤ l.count)
-    × (l.at ≤ 68 * l.i)
+    (l.at ≤ 68 * l.i)
     × (length l.out ≡ length l.initial.out)
     × (can_be_read newest_form (l.count - l.i) l.file l.cursor.at ≡ true)
     × Left 0 (answers_text 1 (answers_from l.count l.answers 0)) l.initial.out l.at (answers_text (l.i + 1) (answers_from (l.count - l.i) l.answers l.i)) l.out
     × (raise_all zero_tally (edits_at newest_form l.count l.file l.first) (answers_from l.count l.answers 0)
     ≡ raise_all l.tally (edits_at newest_form (l.count - l.i) l.file l.cursor.at) (answers_from (l.count - l.i) l.answers l.i))
-
-abbrev pub decreases-loop-i : goal.decreases-loop-i
-decreases-loop-i l = l.count - l.i

@@ -10,10 +10,10 @@ use Rattle.shift_lines.proofs.listing.end_in.Goals as goal
 pub returns : goal.returns
 returns c =
     let s = c.args in
-    let good = network_good s.n s.division.now c.requires.0 in
-    let same = c.merge.ensures.1 ∙ merges s.n good s.division.now c.requires.0 _ c.requires.2 in
-    let fine = ap (sheet_list_refusal s.n) same ∙ merged_listed s.n good s.division.now c.requires.0 in
+    let good = network_good s.n.now s.division.now c.requires.0 in
+    let same = c.merge.ensures.1 ∙ merges s.n.now good s.division.now c.requires.0 _ c.requires.2 in
+    let fine = ap (sheet_list_refusal s.n.now) same ∙ merged_listed s.n.now good s.division.now c.requires.0 in
     let w = c.put_whole-found in
     let t = c.put_totals-next in
     let u = c.put_tally in
-    end_put s.n _ (merged s.n s.division.now) s.y s.at w.result.at t.result u.result w.result.count _ _ _ _ same fine c.requires.1 w.ensures.0 w.ensures.1 t.ensures u.ensures
+    end_put s.n.now _ (merged s.n.now s.division.now) s.y s.at w.result.at t.result u.result w.result.count _ _ _ _ same fine c.requires.1 w.ensures.0 w.ensures.1 t.ensures u.ensures

@@ -31,9 +31,9 @@ put_end-requires c =
     let f = c.requires.1 in
     let w = c.put_answers-progress in
     let size : length s.division.now ≡ 49152 = ap length c.requires.3 ∙ length-replicate {A = ℕ} 49152 0 in
-    let left = l.ensures.1 ∙ division_run s.n s.file.now s.first s.count f s.division.now s.answers.now size c.requires.2
-    ∙ ap (division_of s.n (edits_at newest_form s.count s.file.now s.first)) c.requires.3 in
-    (ap (known_good s.n) left ∙ left_known s.n c.requires.0 (edits_at newest_form s.count s.file.now s.first), omega (arith, w.ensures.0.2, f.0))
+    let left = l.ensures.told.1 ∙ division_run s.n.now s.file.now s.first s.count f s.division.now s.answers.now size c.requires.2
+    ∙ ap (division_of s.n.now (edits_at newest_form s.count s.file.now s.first)) c.requires.3 in
+    (ap (known_good s.n.now) left ∙ left_known s.n.now c.requires.0 (edits_at newest_form s.count s.file.now s.first), omega (arith, w.ensures.0.2, f.0))
 
 pub returns : goal.returns
 returns c =
@@ -43,11 +43,11 @@ returns c =
     let w = c.put_answers-progress in
     let es : List Edit = edits_at newest_form s.count s.file.now s.first in
     let size : length s.division.now ≡ 49152 = ap length c.requires.3 ∙ length-replicate {A = ℕ} 49152 0 in
-    let left = l.ensures.1 ∙ division_run s.n s.file.now s.first s.count f s.division.now s.answers.now size c.requires.2
-    ∙ ap (division_of s.n es) c.requires.3 in
-    let same : answers_from s.count l.new.out 0 ≡ told s.n es (zeros 49152) =
-    ap (λ (xs : List ℕ). answers_from s.count xs 0) l.ensures.2
-    ∙ answers_told s.n s.file.now s.first s.count f s.division.now s.answers.now size c.requires.2
-    ∙ ap (told s.n es) c.requires.3 in
-    run-put s.n c.requires.0 es (answers_from s.count l.new.out 0) same l.new.division left w.result.tally w.ensures.1
+    let left = l.ensures.told.1 ∙ division_run s.n.now s.file.now s.first s.count f s.division.now s.answers.now size c.requires.2
+    ∙ ap (division_of s.n.now es) c.requires.3 in
+    let same : answers_from s.count l.new.out 0 ≡ told s.n.now es (zeros 49152) =
+    ap (λ (xs : List ℕ). answers_from s.count xs 0) l.ensures.told.2
+    ∙ answers_told s.n.now s.file.now s.first s.count f s.division.now s.answers.now size c.requires.2
+    ∙ ap (told s.n.now es) c.requires.3 in
+    run-put s.n.now c.requires.0 es (answers_from s.count l.new.out 0) same l.new.division left w.result.tally w.ensures.1
     w.result.at c.put_end.result s.count _ _ _ w.ensures.0 f.0 c.put_end.ensures
