@@ -1,3 +1,3 @@
-pub mod EditFile
 pub mod NameLaws
 pub mod RaiseLaws
+pub mod OutputTold

@@ -1,10 +1,14 @@
 -- The areas that an edit names: its refusal, or the bits that the code adds up. Assumes nothing.
 use Prim.Native.Nat.{ℕ}
 use mathlib.Core.Path.{◌≡◌, sym, ◌∙◌, ap}
-use borrow.Author.Tests.{eq-eqb, ne_eqb}
+use mathlib.Core.Bool.{false}
+use lib.Dec.{eqb}
+use Rattle.base.specs.declared.refusal.Refusal.{Refusal}
+use Rattle.base.specs.RefusalNumbers.{number_of}
 use Rattle.network.specs.Networks.{area_of}
 use Rattle.timetable.specs.Groups.{names_group}
 use Rattle.actions.specs.Early.{early_refusal}
+use Rattle.actions.proofs.OrderLaws.{not_nought}
 use Rattle.actions.proofs.EarlyLaws.{Early, early_facts}
 use Rattle.named_sheets.specs.between.Named.{touches_area}
 use Rattle.edit_calls.proofs.CallTests.{area_named}
@@ -18,12 +22,12 @@ module _ (n : Network) (e : Edit) where
   same_bits early =
       rw (area_named n e early 1, area_named n e early 2, area_named n e early 3, area_named n e early 4, area_named n e early 5, area_named n e early 6)
 
-  module _ (k : ℕ) (q : k ≡ early_refusal n e) where
-    pub names_none : ¬ (k ≡ 0) → plain k ≡ named n e
-    unfolding named
-    names_none z = ap (λ (x : ℕ). plain x) q ∙ sym (rw (ne_eqb (early_refusal n e) 0 (λ w. z (q ∙ w))))
+  pub names_none : (r : Refusal) → number_of r ≡ early_refusal n e → plain (number_of r) ≡ named n e
+  unfolding named
+  names_none r q =
+      let z : eqb (early_refusal n e) 0 ≡ false = ap (λ (k : ℕ). eqb k 0) (sym q) ∙ not_nought r in
+      sym (rw (z, ← q))
 
-    pub names_some : k ≡ 0 → (m : ℕ) → m ≡ bits (touches_area n e) → sized 0 m ≡ named n e
-    unfolding named
-    names_some z m p =
-        ap (λ (x : ℕ). sized 0 x) (p ∙ same_bits (early_facts n e (sym q ∙ z))) ∙ sym (rw (eq-eqb (early_refusal n e) 0 (sym q ∙ z)))
+  pub names_some : 0 ≡ early_refusal n e → (m : ℕ) → m ≡ bits (touches_area n e) → sized 0 m ≡ named n e
+  unfolding named
+  names_some q m p = ap (λ (x : ℕ). sized 0 x) (p ∙ same_bits (early_facts n e (sym q))) ∙ sym (rw (← q))

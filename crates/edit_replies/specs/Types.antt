@@ -4,5 +4,5 @@ pub use Rattle.railway.specs.declared.edit.Edit.{Edit}
 pub use Rattle.network.specs.declared.Network.{Network}
 pub use Rattle.timetable.specs.declared.Answer.{Answer}
 pub use Rattle.timetable.specs.declared.Tally.{Tally}
-pub use Rattle.single_edit.specs.declared.OneEdit.{OneEdit}
 pub use Rattle.replies.specs.declared.Reply.{Reply}
+pub use Rattle.replies.specs.declared.CallError.{CallError}
