@@ -10,51 +10,54 @@ use lib.ListN.{length, drop, length-drop}
 use borrow.Author.Tests.{lt-ltb, le-ltb, ltb-false, eq-eqb}
 use Rattle.base.specs.Choice.{◌if◌else◌}
 use Rattle.std.specs.Prelude.{if◌then◌else◌}
+use Rattle.std.specs.Prelude.{Result, Err}
+use Rattle.base.specs.RefusalNumbers.{number_of}
+use Rattle.base.specs.declared.refusal.Refusal.{Refusal}
+use Rattle.base.specs.declared.refusal.Refusal.TheVariants.{WrongLength}
+use Rattle.base.specs.declared.refusal.OutputError.{OutputError}
 use Rattle.base.specs.Lists as Lists
 use Rattle.timetable.specs.Formats.{Outcome, accepted, refused, number, place_of, value_or}
 use Rattle.timetable.specs.Machine.{Timetable}
-use Rattle.timetable.specs.Outputs.{reply, output, output_after}
+use Rattle.timetable.specs.Outputs.{reply_of, output, output_after}
 use Rattle.timetable.specs.InspectFile.{Inspection, read_inspect}
-use Rattle.timetable.proofs.BuffersFilled.{refused_so}
+use Rattle.timetable.proofs.OutputLaws.{refused_with}
 use Rattle.roundtrips.specs.RoundTrips.{Bytes}
 use Rattle.sheet.specs.Sheets.{encode_sheet, decode_sheet}
 use Rattle.findings.specs.Lists.{sheet_list_refusal}
-use Rattle.timetable_files.specs.declared.input.InspectRead.{InspectRead}
-use Rattle.timetable_files.specs.Inspect.{inspect_outcome, inspect_read, inspect_sheet, inspect_answer, inspect_after}
+use Rattle.timetable_files.specs.Inspect.{InspectTold, inspect_outcome, inspect_read, inspect_sheet, inspect_answer, inspect_after}
 use Rattle.network_files.proofs.PlaceLaws.{Within}
 use Rattle.timetable_files.proofs.PlaceLaws.{inspect_within}
 use Rattle.listings.specs.Shift.{refusal_text}
 use Rattle.listings.specs.Inspect.{parts_of, inspect_told, inspect_parts, inspect_text}
-use Rattle.inspect_lines.specs.Types.{Network, Output}
+use Rattle.inspect_lines.specs.Types.{Network}
 use Rattle.inspect_lines.specs.Parts.{input_outcome, input_answer, input_after, part_refusal, part_text}
 use Rattle.inspect_lines.proofs.InputHeld.{inspected}
 
 -- the calls
 
-pub input_long : (input none sheet : List ℕ) (r : InspectRead) → 16384 < length input → length none ≡ 1 → r ≡ inspect_answer input none
-    → (r ≡ input_answer input sheet) × (sheet ≡ input_after input sheet)
-unfolding inspect_answer inspect_outcome input_answer input_after input_outcome inspect_sheet
-input_long input none sheet r h one e = rw (lt-ltb 16384 (length input) h) (e ∙ rw one, refl)
+pub input_long : (input sheet : List ℕ) → 16384 < length input → (inspect_read (refused 5 0) ≡ input_answer input sheet) × (sheet ≡ input_after input sheet)
+unfolding input_answer input_after input_outcome inspect_sheet
+input_long input sheet h = rw (lt-ltb 16384 (length input) h) (refl, refl)
 
-pub input_read : (input sheet later : List ℕ) (r : InspectRead) → length input ≤ 16384 → r ≡ inspect_answer input sheet → later ≡ inspect_after input sheet
+pub input_read : (input sheet later : List ℕ) (r : InspectTold) → length input ≤ 16384 → r ≡ inspect_answer input sheet → later ≡ inspect_after input sheet
     → (r ≡ input_answer input sheet) × (later ≡ input_after input sheet)
 unfolding inspect_answer inspect_after input_answer input_after input_outcome
 input_read input sheet later r h e f = rw (le-ltb 16384 (length input) h) (e, f)
 
 module _ (n : Network) (sheet bytes : List ℕ) where
-  abbrev Answers : ℕ → List ℕ → List ℕ → Output → List ℕ → Type 0
-  Answers k xs b r later = (reply r ≡ output k xs b) × (later ≡ output_after k xs b)
+  abbrev Answers : ℕ → List ℕ → List ℕ → Result ℕ OutputError → List ℕ → Type 0
+  Answers k xs b r later = (reply_of r ≡ output k xs b) × (later ≡ output_after k xs b)
 
-  pub too_long_part : 16384 < length bytes → (xs b : List ℕ) → Answers (part_refusal n sheet bytes) xs b (Output.Refused 5) b
+  pub too_long_part : 16384 < length bytes → (xs b : List ℕ) → Answers (part_refusal n sheet bytes) xs b (Err (OutputError.Refused WrongLength)) b
   unfolding part_refusal
-  too_long_part h xs b = rw (lt-ltb 16384 (length bytes) h) (refused_so xs b 5 (λ e. omega arith))
+  too_long_part h xs b = rw (lt-ltb 16384 (length bytes) h) (refused_with xs b WrongLength)
 
   module _ (h : length bytes ≤ 16384) where
-    pub sheet_part : (k : ℕ) → k ≡ sheet_list_refusal n sheet → ¬ (k ≡ 0) → (xs b : List ℕ) → Answers (part_refusal n sheet bytes) xs b (Output.Refused k) b
+    pub sheet_part : (k : Refusal) → number_of k ≡ sheet_list_refusal n sheet → (xs b : List ℕ) → Answers (part_refusal n sheet bytes) xs b (Err (OutputError.Refused k)) b
     unfolding part_refusal
-    sheet_part k e z xs b = rw (le-ltb 16384 (length bytes) h, ← e) (refused_so xs b k z)
+    sheet_part k e xs b = rw (le-ltb 16384 (length bytes) h, ← e) (refused_with xs b k)
 
-    pub answers_as : sheet_list_refusal n sheet ≡ 0 → (xs b : List ℕ) (r : Output) (later : List ℕ) → Answers 0 xs b r later
+    pub answers_as : sheet_list_refusal n sheet ≡ 0 → (xs b : List ℕ) (r : Result ℕ OutputError) (later : List ℕ) → Answers 0 xs b r later
         → Answers (part_refusal n sheet bytes) xs b r later
     unfolding part_refusal
     answers_as e xs b r later w = rw (le-ltb 16384 (length bytes) h, e) w
@@ -75,7 +78,7 @@ unfolding part_text parts_of Lists.opened flat_map
 parts_indexed n sheet bytes = refl
 
 module _ (input sheet : List ℕ) (size : length sheet ≡ 8192) where
-  abbrev r : InspectRead
+  abbrev r : InspectTold
   r = input_answer input sheet
 
   abbrev own : List ℕ

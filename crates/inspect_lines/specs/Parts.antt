@@ -7,8 +7,7 @@ use Rattle.timetable.specs.Formats.{Outcome, refused}
 use Rattle.timetable.specs.InspectFile.{Inspection}
 use Rattle.sheet.specs.Sheets.{decode_sheet}
 use Rattle.findings.specs.Lists.{sheet_list_refusal}
-use Rattle.timetable_files.specs.declared.input.InspectRead.{InspectRead}
-use Rattle.timetable_files.specs.Inspect.{inspect_outcome, inspect_read, inspect_sheet}
+use Rattle.timetable_files.specs.Inspect.{InspectTold, inspect_outcome, inspect_read, inspect_sheet}
 use Rattle.listings.specs.Inspect.{parts_of}
 use Rattle.inspect_lines.specs.Types.{Network}
 
@@ -16,7 +15,7 @@ use Rattle.inspect_lines.specs.Types.{Network}
 unfoldable pub input_outcome : List ℕ → List ℕ → Outcome Inspection
 input_outcome input sheet = if ltb 16384 (length input) then refused 5 0 else inspect_outcome input sheet
 
-unfoldable pub input_answer : List ℕ → List ℕ → InspectRead
+unfoldable pub input_answer : List ℕ → List ℕ → InspectTold
 input_answer input sheet = inspect_read (input_outcome input sheet)
 
 unfoldable pub input_after : List ℕ → List ℕ → List ℕ

@@ -8,29 +8,25 @@ ghost use Rattle.findings.specs.Lists.{sheet_list_refusal};
 ghost use Rattle.listings.specs.Inspect.{written_text};
 
 use network::Network;
-use sheet::test::is_same;
 use text::line;
-use timetable::Output;
 use timetable_writing::calls::write_timetable;
 
 // Whether the bytes are the file of the sheet's timetable. A file that is longer than any input is not.
-fn is_written(sheet: &[u8], n: Network, bytes: &[u8]) -> bool
-    requires { (sheet_list_refusal n sheet.now ≡ 0) × (length bytes.now ≤ 16384) }
-    ensures { result ≡ same (timetable_bytes n sheet.now) bytes.now }
+fn is_written(sheet: &[u8], n: &Network, bytes: &[u8]) -> bool
+    requires { (sheet_list_refusal n.now sheet.now ≡ 0) × (length bytes.now ≤ 16384) }
+    ensures { result ≡ same (timetable_bytes n.now sheet.now) bytes.now }
 {
     let mut file = [0u8; 16384];
-    let output = write_timetable(sheet, n, &mut file);
-    match output {
-        Output::Written(k) => is_same(&file[0..k], bytes),
-        Output::Refused(_k) => false,
-        Output::TooShort(_k) => false,
+    match write_timetable(sheet, n, &mut file) {
+        Ok(k) => &file[..k] == bytes,
+        Err(_) => false,
     }
 }
 
 // 1 where it is, else 0.
-pub(crate) fn put_written(out: &mut [u8], sheet: &[u8], n: Network, bytes: &[u8]) -> usize
-    requires { (sheet_list_refusal n sheet.now ≡ 0) × (length bytes.now ≤ 16384) }
-    ensures { Puts 0 (written_text n (decode_sheet sheet.now) bytes.now) out.old result out.new 68 }
+pub(crate) fn put_written(out: &mut [u8], sheet: &[u8], n: &Network, bytes: &[u8]) -> usize
+    requires { (sheet_list_refusal n.now sheet.now ≡ 0) × (length bytes.now ≤ 16384) }
+    ensures { Puts 0 (written_text n.now (decode_sheet sheet.now) bytes.now) out.old result out.new 68 }
 {
     line::put_line(out, 0, 87, &[u32::from(is_written(sheet, n, bytes))])
 }

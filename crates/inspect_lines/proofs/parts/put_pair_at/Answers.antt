@@ -13,6 +13,6 @@ returns c =
     let s = c.args in
     let p = c.pair_at-pair in
     let two = two_at s.i c.requires.1 p.result.first p.result.second p.ensures in
-    let text = pair_there s.n s.sheet.now c.requires.0 p.result.first p.result.second two in
+    let text = pair_there s.n.now s.sheet.now c.requires.0 p.result.first p.result.second two in
     let e = puts_as 0 _ _ _ _ _ (30 * findings_most) text c.put_pair.ensures in
     rw (← p.ensures) (e.0, e.1, omega (arith, e.2))
