@@ -6,12 +6,30 @@ ghost use Rattle.recheck.specs.between.Kept.{before_at, kept_numbers, Ordered, R
 use scope::redone;
 use scope::redone::Marks;
 
-// The four numbers of a at i are before those of b at j.
+// The four numbers of a at i are before those of b at j. Number by number, since `a[i..i + 4] < b[j..j + 4]` was tried
+// and is slower: a recheck of 6,332 findings took 350 k instructions in place of 156 k.
 pub(crate) fn is_before(a: &[u16], i: usize, b: &[u16], j: usize) -> bool
     requires { (i + 4 ≤ length a.now) × (j + 4 ≤ length b.now) }
     ensures { result ≡ before_at i a.now j b.now }
 {
-    a[i..i + 4] < b[j..j + 4]
+    let station = a[i];
+    let other_station = b[j];
+    if station != other_station {
+        return station < other_station;
+    }
+    let rule = a[i + 1];
+    let other_rule = b[j + 1];
+    if rule != other_rule {
+        return rule < other_rule;
+    }
+    let first = a[i + 2];
+    let other_first = b[j + 2];
+    if first != other_first {
+        return first < other_first;
+    }
+    let second = a[i + 3];
+    let other_second = b[j + 3];
+    second < other_second
 }
 
 // "3 unless it rises", strictly, in whole findings.

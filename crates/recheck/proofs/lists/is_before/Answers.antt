@@ -1,14 +1,21 @@
--- `recheck::lists::is_before` meets its contract: std's order of lists of numbers is `below`. Assumes nothing.
-use Rattle.std.proofs.Common.{◌∙◌}
-use mathlib.Core.Path.{ap₂}
-use Rattle.base.specs.Lists.{below}
-use Rattle.base.proofs.Orders.{below_lists}
-use Rattle.recheck.specs.between.Kept.{before_at}
-use Rattle.recheck.proofs.FourLaws.{four_part}
+-- `recheck::lists::is_before` meets its contract: the numbers before those that decide are equal. Assumes nothing.
+use mathlib.Core.Path.{sym, ◌∙◌}
+use Rattle.recheck.specs.between.Kept.{four_at, before_at}
+use Rattle.recheck.proofs.RisingLaws.{below_apart, below_on, below_last}
 use Rattle.recheck.proofs.lists.is_before.Goals as goal
 
+pub returns-then-station-other_station : goal.returns-then-station-other_station
+unfolding before_at four_at
+returns-then-station-other_station c = sym (below_apart _ _ _ _ c.if-station-other_station.true)
+
+pub returns-then-rule-other_rule : goal.returns-then-rule-other_rule
+unfolding before_at four_at
+returns-then-rule-other_rule c = sym (below_on _ _ _ _ c.if-station-other_station.false ∙ below_apart _ _ _ _ c.if-rule-other_rule.true)
+
+pub returns-then-first-other_first : goal.returns-then-first-other_first
+unfolding before_at four_at
+returns-then-first-other_first c = sym (below_on _ _ _ _ c.if-station-other_station.false ∙ below_on _ _ _ _ c.if-rule-other_rule.false ∙ below_apart _ _ _ _ c.if-first-other_first.true)
+
 pub returns : goal.returns
-unfolding before_at
-returns c =
-    let s = c.args in
-    c.lt.ensures ∙ below_lists _ _ ∙ ap₂ below (four_part s.i s.a.now c.requires.0) (four_part s.j s.b.now c.requires.1)
+unfolding before_at four_at
+returns c = sym (below_on _ _ _ _ c.if-station-other_station.false ∙ below_on _ _ _ _ c.if-rule-other_rule.false ∙ below_on _ _ _ _ c.if-first-other_first.false ∙ below_last _ _)
