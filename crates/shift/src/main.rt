@@ -2,10 +2,10 @@
 // from an empty division." One byte more than that is read, so that a longer file is seen to be longer.
 #![tactic(auto)]
 
+use base::refusal::OutputError;
 use shift_lines::listing;
 use std::io;
 use std::io::Write;
-use timetable::Output;
 
 // A buffer that has room for any text; made by a function of its own, so that no proof looks at its millions of zeros.
 fn roomy() -> [u8; listing::MOST] {
@@ -18,10 +18,8 @@ fn print_long<W: Write>(writer: &mut W, input: &[u8], tries: u8) -> io::Result<(
     let mut out = roomy();
     let output = listing::write_listing(input, &mut out);
     let printed = console::print(writer, &out, output)?;
-    if printed == 0 {
-        if 0 < tries {
-            return print_long(writer, input, tries - 1);
-        }
+    if printed == 0 && 0 < tries {
+        return print_long(writer, input, tries - 1);
     }
     Ok(())
 }
@@ -32,9 +30,8 @@ fn print_listing<W: Write>(writer: &mut W, input: &[u8]) -> io::Result<()> {
     let output = listing::write_listing(input, &mut out);
     console::print(writer, &out, output)?;
     match output {
-        Output::Written(_k) => Ok(()),
-        Output::Refused(_k) => Ok(()),
-        Output::TooShort(_k) => print_long(writer, input, 1),
+        Err(OutputError::TooShort(_)) => print_long(writer, input, 1),
+        _ => Ok(()),
     }
 }
 
