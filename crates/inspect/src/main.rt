@@ -3,48 +3,31 @@
 // read, so that a longer one is told from it.
 #![tactic(auto)]
 
+use base::refusal::FileError;
 use inspect_lines::parts;
 use network::Network;
 use std::io;
 use std::io::Write;
 use text::refusal;
 
-// The part with index k; the buffer has room for any, so none is refused.
-fn print_part<W: Write>(
-    writer: &mut W,
-    sheet: &[u8],
-    n: Network,
-    bytes: &[u8],
-    k: usize,
-    out: &mut [u8],
-) -> io::Result<()> {
-    let output = parts::inspect_part(sheet, n, bytes, k, out);
-    console::print(writer, out, output)?;
-    Ok(())
-}
-
-// All parts, one behind the other.
+// All parts, one behind the other; the buffer has room for any, so none is refused.
 fn print_parts<W: Write>(
     writer: &mut W,
     sheet: &[u8],
-    n: Network,
+    n: &Network,
     bytes: &[u8],
     out: &mut [u8],
 ) -> io::Result<()> {
     for k in 0..25 {
-        print_part(writer, sheet, n, bytes, k, out)?;
+        let output = parts::inspect_part(sheet, n, bytes, k, out);
+        console::print(writer, out, output)?;
     }
     Ok(())
 }
 
 // The line of a refusal.
-fn print_refusal<W: Write>(
-    writer: &mut W,
-    number: u8,
-    place: usize,
-    out: &mut [u8],
-) -> io::Result<()> {
-    let output = refusal::refusal_line(number, place, out);
+fn print_refusal<W: Write>(writer: &mut W, e: FileError, out: &mut [u8]) -> io::Result<()> {
+    let output = refusal::refusal_line(u8::from(e.refusal), e.place, out);
     console::print(writer, out, output)?;
     Ok(())
 }
@@ -56,16 +39,13 @@ fn print_input<W: Write>(
     sheet: &mut [u8],
     out: &mut [u8],
 ) -> io::Result<()> {
-    let read = parts::read_input(input, sheet);
-    if read.refusal != 0 {
-        return print_refusal(writer, read.refusal, read.place, out);
+    match parts::read_input(input, sheet) {
+        Ok(read) if read.first <= input.len() => {
+            print_parts(writer, sheet, &read.network, &input[read.first..], out)
+        }
+        Ok(_) => Ok(()),
+        Err(e) => print_refusal(writer, e, out),
     }
-    let network = read.network;
-    let first = read.first;
-    if first <= input.len() {
-        return print_parts(writer, sheet, network, &input[first..], out);
-    }
-    Ok(())
 }
 
 // The buffer for what is printed is lent.
