@@ -97,8 +97,7 @@ fn rows(n: &Network) -> &[StationRow]
 }
 
 // What is counted on the pages of the rows' stations, in all.
-fn total<F: Fn(&[u8]) -> usize>(sheet: &[u8], rows: &[StationRow], count: F) -> usize
-    requires sheet { length sheet.now ≡ 8192 }
+fn total<F: Fn(&[u8]) -> usize>(sheet: &[u8; 8192], rows: &[StationRow], count: F) -> usize
     requires few { length rows.now ≤ 16 }
     requires callable { F.IsAlwaysCallable count }
     requires small { (x : Bor (List ℕ)) (k : ℕ) → F.post count x k → k ≤ 24 }
@@ -112,15 +111,13 @@ fn total<F: Fn(&[u8]) -> usize>(sheet: &[u8], rows: &[StationRow], count: F) -> 
     total
 }
 
-fn visit_total(sheet: &[u8], n: &Network) -> usize
-    requires { length sheet.now ≡ 8192 }
+fn visit_total(sheet: &[u8; 8192], n: &Network) -> usize
     ensures { (result ≡ visit_count n.now (decode_sheet sheet.now)) × (result ≤ 384) }
 {
     total(sheet, rows(n), page::visit_count)
 }
 
-fn relation_total(sheet: &[u8], n: &Network) -> usize
-    requires { length sheet.now ≡ 8192 }
+fn relation_total(sheet: &[u8; 8192], n: &Network) -> usize
     ensures { (result ≡ relation_count n.now (decode_sheet sheet.now)) × (result ≤ 96) }
 {
     total(sheet, rows(n), page::relation_count)
@@ -131,9 +128,9 @@ pub fn sheet_totals(sheet: &[u8], n: &Network) -> Result<Totals, Refusal>
     ensures told { totals_told result ≡ sheet_totals n.now sheet.now }
     ensures few { IfOk result (λ t. (t.visits ≤ 384) × (t.relations ≤ 96)) }
 {
-    if sheet.len() != 8192 {
+    let Some(sheet) = sheet.as_array() else {
         return Err(Refusal::WrongLength);
-    }
+    };
     Ok(Totals {
         visits: visit_total(sheet, n),
         relations: relation_total(sheet, n),
@@ -144,11 +141,10 @@ pub fn sheet_totals(sheet: &[u8], n: &Network) -> Result<Totals, Refusal>
 fn put_all<F: Fn(&mut [u8], usize, &[u8], Station) -> usize>(
     out: &mut [u8],
     at: usize,
-    sheet: &[u8],
+    sheet: &[u8; 8192],
     rows: &[StationRow],
     put: F,
 ) -> usize
-    requires sheet { length sheet.now ≡ 8192 }
     requires few { length rows.now ≤ 16 }
     requires near { at ≤ 600000000 }
     requires callable { (b : MutBor (List ℕ)) (k : ℕ) (x : Bor (List ℕ)) (s : Station) → k ≤ 700000000 → F.pre put b k x s }
@@ -168,23 +164,22 @@ fn put_all<F: Fn(&mut [u8], usize, &[u8], Station) -> usize>(
     next
 }
 
-fn put_all_visits(out: &mut [u8], at: usize, sheet: &[u8], n: &Network) -> usize
-    requires { (length sheet.now ≡ 8192) × (at ≤ 600000000) }
+fn put_all_visits(out: &mut [u8], at: usize, sheet: &[u8; 8192], n: &Network) -> usize
+    requires { at ≤ 600000000 }
     ensures { Places at (visit_part n.now (decode_sheet sheet.now)) out.old result out.new 41472 }
 {
     put_all(out, at, sheet, rows(n), put_visits)
 }
 
-fn put_all_relations(out: &mut [u8], at: usize, sheet: &[u8], n: &Network) -> usize
-    requires { (length sheet.now ≡ 8192) × (at ≤ 600000000) }
+fn put_all_relations(out: &mut [u8], at: usize, sheet: &[u8; 8192], n: &Network) -> usize
+    requires { at ≤ 600000000 }
     ensures { Places at (relation_part n.now (decode_sheet sheet.now)) out.old result out.new 3744 }
 {
     put_all(out, at, sheet, rows(n), put_relations)
 }
 
 // "count of visits (0..384), .. count of relations (0..96), .."
-fn put_timetable(out: &mut [u8], sheet: &[u8], n: &Network) -> usize
-    requires { length sheet.now ≡ 8192 }
+fn put_timetable(out: &mut [u8], sheet: &[u8; 8192], n: &Network) -> usize
     ensures { (result ≡ length (bytes_of (file_rows n.now (decode_sheet sheet.now))))
         × (out.new ≡ put 0 (bytes_of (file_rows n.now (decode_sheet sheet.now))) out.old) }
 {
@@ -199,9 +194,9 @@ pub fn write_timetable(sheet: &[u8], n: &Network, out: &mut [u8]) -> Result<usiz
     ensures { (reply_of result ≡ write_timetable n.now sheet.now out.old)
         × (out.new ≡ timetable_written n.now sheet.now out.old) }
 {
-    if sheet.len() != 8192 {
+    let Some(sheet) = sheet.as_array() else {
         return Err(OutputError::Refused(Refusal::WrongLength));
-    }
+    };
     n.check()?;
     if !test::good_sheet(sheet, n, Extent::Whole) {
         return Err(OutputError::Refused(Refusal::BadSheet));

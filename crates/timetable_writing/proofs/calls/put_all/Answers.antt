@@ -4,6 +4,7 @@ use mathlib.Core.List.{flat_map}
 use Rattle.std.proofs.Math.Nat.{mul-le-mul_left}
 use Rattle.timetable.specs.Formats.{bytes_of}
 use Rattle.timetable.specs.Outputs.{put}
+use borrow.Author.Rules.{rules}
 use Rattle.page.specs.between.Changes.{table_in}
 use Rattle.sheet.specs.Sheets.{decode_sheet}
 use Rattle.sheet.proofs.StationLaws.{station_table}
@@ -24,7 +25,7 @@ loop-row-preserved g c =
       near = omega (arith, c.requires.small _ _ _ _ _ _ w.ensures);
       put = λ f most h.
           puts_more s.rows.now l.row-index _ c.loop-row-test.true (λ r. f r.station (decode_sheet s.sheet.now r.station)) s.at l.next w.result _ s.out.now l.out w.new.arg2 most
-          (l.invariant.put f most h) (ap (f _) (ap table_in c.page_of.ensures ∙ station_table s.sheet.now _ c.requires.sheet)) (h _ _ _ _ _ _ w.ensures);
+          (l.invariant.put f most h) (ap (f _) (ap table_in c.page_of.ensures ∙ station_table s.sheet.now _ (search rules))) (h _ _ _ _ _ _ w.ensures);
     }
 
 pub returns : goal.returns

@@ -2,6 +2,7 @@
 use Rattle.std.proofs.Common.{ℕ, ◌+◌, refl, sym, ap, ◌∙◌, arith}
 use lib.Seq.{take_all}
 use Rattle.base.specs.Lists.{sum}
+use borrow.Author.Rules.{rules}
 use Rattle.page.specs.between.Changes.{table_in}
 use Rattle.sheet.specs.Sheets.{decode_sheet}
 use Rattle.sheet.proofs.StationLaws.{station_table}
@@ -21,7 +22,7 @@ loop-row-preserved g c =
       sum = λ f h.
           ap (λ (k : ℕ). k + w.result) (l.invariant.sum f h)
           ∙ sym (sum_more s.rows.now l.row-index _ c.loop-row-test.true (λ r. f (decode_sheet s.sheet.now r.station)) w.result
-          (h _ _ w.ensures ∙ ap f (ap table_in c.page_of.ensures ∙ station_table s.sheet.now _ c.requires.sheet)));
+          (h _ _ w.ensures ∙ ap f (ap table_in c.page_of.ensures ∙ station_table s.sheet.now _ (search rules))));
       bound = λ most h. one_turn most l.row-index l.total w.result (l.invariant.bound most h) (h _ _ w.ensures);
     }
 
