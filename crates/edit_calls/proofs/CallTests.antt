@@ -3,7 +3,7 @@
 -- nothing.
 use Prim.Native.Nat.{ℕ}
 use mathlib.Core.Path.{◌≡◌, refl, sym, ◌∙◌, ap, ap₂}
-use mathlib.Core.Bool.{Bool, true, false, not, ◌&&◌, ◌||◌}
+use mathlib.Core.Bool.{Bool, true, not, ◌&&◌, ◌||◌}
 use mathlib.Core.List.{List, [], ◌∷◌}
 use lib.Dec.{T, leb, eqb, leb→le, eqb_refl}
 use lib.ListN.{length}
@@ -20,7 +20,8 @@ use Rattle.network.specs.Networks.{stations_of, listed, area_of, network_refusal
 use Rattle.timetable.specs.Machine.{Meaning, local, throughout, meaning, known, sound, edit_refusal}
 use Rattle.timetable.specs.Refusals.{or_else, early, call_refusal}
 use Rattle.timetable.specs.Groups.{six, reaches, names, names_group, in_group}
-use Rattle.timetable.proofs.RefusalLaws.{or_first, or_later, or_passed, call_short, call_early, early_not, early_only}
+use Rattle.timetable.proofs.RefusalLaws as laws
+use Rattle.timetable.proofs.RefusalLaws.{or_first, or_later, or_passed, early_not, early_only}
 use Rattle.actions.specs.between.Shapes.{touches}
 use Rattle.actions.specs.Early.{fits_network, unknown_refusal, early_refusal}
 use Rattle.actions.proofs.EarlyLaws.{Early, early_facts}
@@ -32,13 +33,14 @@ use Rattle.sheet.proofs.SheetLaws.{area_number, sheet_size, all_areas}
 use Rattle.railway.specs.declared.sorts.Station.{Station}
 use Rattle.railway.specs.declared.edit.Edit.{Edit}
 use Rattle.network.specs.declared.Network.{Network}
-use Rattle.machine.specs.Calls.{sheet_refusal, sheet_answer, sheet_after}
+use Rattle.machine.specs.Calls.{refused_with, sheet_refusal, sheet_answer, sheet_after}
 use Rattle.machine.specs.Calls.{named_good, division_refusal, division_answer, division_after}
-use Rattle.page_edits.specs.between.PageEdits.{frames_answer, frames_after}
+use Rattle.page_edits.specs.between.PageEdits.{bytes_of, frames_answer, frames_after}
 use Rattle.page_edits.specs.declared.Layout.{Layout}
 use Rattle.named_sheets.specs.between.Named.{touches_at, touches_area, area_passes, named_pass, named_refusal}
 use Rattle.machine.proofs.ByteEdits.{call_good}
-use Rattle.machine.proofs.EditCalls.{sheet_answers, sheet_bytes, division_answers, division_bytes, sheet_is, division_is}
+use Rattle.machine.proofs.EditCalls.{sheet_answers, sheet_bytes, division_answers, division_bytes, sheet_is, division_is, sheet_not, division_not}
+use Rattle.edit_calls.specs.between.Layouts.{call_answer, call_after, call_refused, sheets_refusal}
 
 -- the areas that the code tests are those that the edit names
 
@@ -130,13 +132,13 @@ module _ (n : Network) (e : Edit) where
 module _ (n : Network) (e : Edit) (sheet : List ℕ) where
   pub sheet_short : ¬ (length sheet ≡ 8192) → sheet_refusal n e sheet ≡ 5
   unfolding sheet_refusal
-  sheet_short h = call_short (eqb (length sheet) 8192) (early_refusal n e) (good_sheet n (listed n) sheet) 0 (ne_eqb (length sheet) 8192 h)
+  sheet_short h = laws.call_short (eqb (length sheet) 8192) (early_refusal n e) (good_sheet n (listed n) sheet) 0 (ne_eqb (length sheet) 8192 h)
 
   module _ (size : length sheet ≡ 8192) where
     pub sheet_early : (k : ℕ) → k ≡ early_refusal n e → ¬ (k ≡ 0) → sheet_refusal n e sheet ≡ k
     unfolding sheet_refusal
     sheet_early k q z =
-        call_early (eqb (length sheet) 8192) (early_refusal n e) (good_sheet n (listed n) sheet) 0 (eq-eqb (length sheet) 8192 size) (λ r. z (q ∙ r)) ∙ sym q
+        laws.call_early (eqb (length sheet) 8192) (early_refusal n e) (good_sheet n (listed n) sheet) 0 (eq-eqb (length sheet) 8192 size) (λ r. z (q ∙ r)) ∙ sym q
 
     passes_good : sheet_passes n Extent.Whole sheet ≡ good_sheet n (listed n) sheet
     unfolding sheet_passes
@@ -167,13 +169,13 @@ module _ (n : Network) (e : Edit) (sheet : List ℕ) where
 module _ (n : Network) (e : Edit) (division : List ℕ) where
   pub division_short : ¬ (length division ≡ 49152) → division_refusal n e division ≡ 5
   unfolding division_refusal
-  division_short h = call_short (eqb (length division) 49152) (early_refusal n e) (named_good n e division) 0 (ne_eqb (length division) 49152 h)
+  division_short h = laws.call_short (eqb (length division) 49152) (early_refusal n e) (named_good n e division) 0 (ne_eqb (length division) 49152 h)
 
   module _ (size : length division ≡ 49152) where
     pub division_early : (k : ℕ) → k ≡ early_refusal n e → ¬ (k ≡ 0) → division_refusal n e division ≡ k
     unfolding division_refusal
     division_early k q z =
-        call_early (eqb (length division) 49152) (early_refusal n e) (named_good n e division) 0 (eq-eqb (length division) 49152 size) (λ r. z (q ∙ r)) ∙ sym q
+        laws.call_early (eqb (length division) 49152) (early_refusal n e) (named_good n e division) 0 (eq-eqb (length division) 49152 size) (λ r. z (q ∙ r)) ∙ sym q
 
     pub division_late : early (edit_refusal e) 0 (unknown_refusal n e) ≡ 0 → (k : ℕ) → k ≡ named_refusal n e division → division_refusal n e division ≡ k
     unfolding division_refusal named_refusal
@@ -197,3 +199,44 @@ module _ (n : Network) (e : Edit) (division : List ℕ) where
         → (frames_answer Layout.Division n e division ≡ division_answer n e division) × (frames_after Layout.Division n e division ≡ division_after n e division)
     unfolding named_refusal
     division_made h k q z = let x = passed_under n e (named_pass n e division) k h q z in division_call x.0 x.1
+
+-- by how the pages lie
+module _ (layout : Layout) (n : Network) (e : Edit) (b : List ℕ) where
+  pub call_not : (k : ℕ) → call_refused layout n e b ≡ k → ¬ (k ≡ 0) → (call_answer layout n e b ≡ refused_with k) × (call_after layout n e b ≡ b)
+  call_not = go layout
+    where
+      go : (l : Layout) (k : ℕ) → call_refused l n e b ≡ k → ¬ (k ≡ 0) → (call_answer l n e b ≡ refused_with k) × (call_after l n e b ≡ b)
+      go Layout.Sheet k q z = sheet_not n e b k q z
+      go Layout.Division k q z = division_not n e b k q z
+
+  pub call_short : ¬ (length b ≡ bytes_of layout) → call_refused layout n e b ≡ 5
+  call_short = go layout
+    where
+      go : (l : Layout) → ¬ (length b ≡ bytes_of l) → call_refused l n e b ≡ 5
+      go Layout.Sheet h = sheet_short n e b h
+      go Layout.Division h = division_short n e b h
+
+  module _ (size : length b ≡ bytes_of layout) where
+    pub call_early : (k : ℕ) → k ≡ early_refusal n e → ¬ (k ≡ 0) → call_refused layout n e b ≡ k
+    call_early = go layout size
+      where
+        go : (l : Layout) → length b ≡ bytes_of l → (k : ℕ) → k ≡ early_refusal n e → ¬ (k ≡ 0) → call_refused l n e b ≡ k
+        go Layout.Sheet s k q z = sheet_early n e b s k q z
+        go Layout.Division s k q z = division_early n e b s k q z
+
+    module _ (h : early (edit_refusal e) 0 (unknown_refusal n e) ≡ 0) (k : ℕ) (q : k ≡ sheets_refusal layout n e b) where
+      pub call_late : call_refused layout n e b ≡ k
+      unfolding sheets_refusal
+      call_late = go layout size q
+        where
+          go : (l : Layout) → length b ≡ bytes_of l → k ≡ sheets_refusal l n e b → call_refused l n e b ≡ k
+          go Layout.Sheet s q = sheet_late n e b s h k q
+          go Layout.Division s q = division_late n e b s h k q
+
+      pub call_made : k ≡ 0 → (frames_answer layout n e b ≡ call_answer layout n e b) × (frames_after layout n e b ≡ call_after layout n e b)
+      unfolding sheets_refusal
+      call_made z = go layout size q
+        where
+          go : (l : Layout) → length b ≡ bytes_of l → k ≡ sheets_refusal l n e b → (frames_answer l n e b ≡ call_answer l n e b) × (frames_after l n e b ≡ call_after l n e b)
+          go Layout.Sheet s q = sheet_made n e b s h k q z
+          go Layout.Division s q = division_made n e b s h k q z

@@ -9,7 +9,7 @@ use lib.ListN.{length}
 use borrow.Author.Tests.{eq-eqb, ne_eqb, le-leb, lt-leb}
 use Rattle.base.specs.Runs.{answers}
 use Rattle.timetable.specs.declared.FileForm.{FileForm}
-use Rattle.timetable.specs.Formats.{Outcome, accepted, refused, field_at, behind, read, read_file, Placed, placed}
+use Rattle.timetable.specs.Formats.{accepted, refused, field_at, behind, read, read_file, Placed, placed}
 use Rattle.timetable.specs.EditsFile.{edit_entry, edits_on, edits_format, read_edits_as}
 use Rattle.timetable.specs.Outputs as outputs
 use Rattle.timetable.specs.Outputs.{put}

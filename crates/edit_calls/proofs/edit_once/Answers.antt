@@ -1,7 +1,5 @@
 -- `edit_calls::edit_once` meets its contract: on a division that is known to be good the edit that tests no sheet is
 -- the single call. Assumes nothing.
-use mathlib.Core.Bool.{false≢true}
-use mathlib.Core.Path.{sym, ◌∙◌}
 use Rattle.edit_calls.proofs.KnownGood.{known_kept}
 use Rattle.edit_calls.proofs.edit_once.Goals as goal
 

@@ -1,6 +1,5 @@
 -- `edit_calls::calls::test_early` meets its contract: what refuses the edit so is told in the documents' order. Assumes
 -- nothing.
-use mathlib.Core.Path.{sym}
 use Rattle.edit_calls.proofs.CallTests.{told_early}
 use Rattle.edit_calls.proofs.calls.test_early.Goals as goal
 
