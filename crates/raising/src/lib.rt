@@ -1,4 +1,4 @@
-// The tally lent by `&mut`: one thin function over the step by value.
+// The tally lent by `&mut`: one thin function over the step by value, a rule of the project (docs/DECISIONS.md).
 #![tactic(auto)]
 
 ghost use Rattle.std.specs.Prelude.{◌≡◌};

@@ -32,7 +32,8 @@ pub fn is_unlikely(a: Answer) -> bool
     16 < a.removed || (a.refusal != 0 && 0 < a.removed)
 }
 
-// The tally after an edit and its answer; it stays as it was where the raise is refused, and after an answer of 5.
+// The tally after an edit and its answer; it stays as it was where the raise is refused, and after an answer of 5. The
+// answer is two numbers and no Result: C brings any numbers, and `unlikely` speaks of each.
 pub fn raised(y: Tally, e: Edit, a: Answer) -> Result<Tally, Refusal>
     ensures { (refusal_number result ≡ raise_refusal y a) × (result_unwrap_or result y ≡ raise y e a) }
 {
