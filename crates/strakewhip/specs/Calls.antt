@@ -1,8 +1,8 @@
 -- The calls: what each answers and what each lent buffer then holds, over the bytes that it is lent. Order: 5, the
 -- network's file, the other file, then the refusals of the call itself. Assumes nothing.
-use Rattle.std.specs.Prelude.{ℕ, Bool, ◌&&◌, List, eqb, ℤ, length}
-use Rattle.std.proofs.Math.Option.{Option, none, some}
+use Rattle.std.specs.Prelude.{ℕ, Bool, ◌&&◌, List, eqb, ℤ, length, Option, None, Some, Result, Ok, Err}
 use Rattle.std.specs.Prelude.{if◌then◌else◌}
+use Rattle.timetable.specs.Formats.{Outcome}
 use Rattle.timetable.specs.NetworkFile.{read_network}
 use Rattle.timetable.specs.Turning.{turn_reply, turn_after}
 use Rattle.timetable.specs.Outputs.{output, output_after}
@@ -15,13 +15,17 @@ use Rattle.projection.specs.Calls.{project_answer, project_after}
 use Rattle.replies.specs.Replies.{plain, placed, of_reply_in, of_reply, of_outcome, by_file, told, left}
 use Rattle.edit_replies.specs.Replies.{named_under, one_reply, one_left, sheet_one_reply, sheet_one_left}
 use Rattle.edit_replies.specs.Rechecks as rechecks
-use Rattle.strakewhip.specs.Types.{Area, NetworkForm, FileForm, Reply}
+use Rattle.strakewhip.specs.Types.{Area, Network, NetworkForm, FileForm, Reply}
 
 abbrev pub is_sheet : List ℕ → Bool
 is_sheet sheet = eqb (length sheet) 8192
 
 abbrev pub is_division : List ℕ → Bool
 is_division division = eqb (length division) 49152
+
+-- the network of a call whose buffers fit, or its answer: 5, then the refusal of the network's file
+unfoldable pub entering : Bool → Outcome Network → Result Network Reply
+entering fits o = if fits then by_file o (λ k p. Err (placed 1 k p)) (λ n. Ok n) else Err (plain 5)
 
 -- a network, and the areas that an edit names
 
@@ -34,16 +38,16 @@ names_reply network edit = by_file (read_network network) (placed 1) (λ n. name
 -- turning: the forms that there are, by number; 1 is W1's
 
 abbrev pub form_of : ℕ → Option NetworkForm
-form_of k = if eqb k 1 then some NetworkForm.OneTime else none
+form_of k = if eqb k 1 then Some NetworkForm.OneTime else None
 
 -- 3 for a form that there is not
 unfoldable pub turn_told : Option NetworkForm → List ℕ → List ℕ → Reply
-turn_told none file out = plain 3
-turn_told (some form) file out = of_reply_in 1 (turn_reply form file out)
+turn_told None file out = plain 3
+turn_told (Some form) file out = of_reply_in 1 (turn_reply form file out)
 
 unfoldable pub turn_left : Option NetworkForm → List ℕ → List ℕ → List ℕ
-turn_left none file out = out
-turn_left (some form) file out = turn_after form file out
+turn_left None file out = out
+turn_left (Some form) file out = turn_after form file out
 
 -- an edit
 
@@ -168,6 +172,6 @@ module _ (network sheet : List ℕ) (s t a : ℕ) (out : List ℤ) where
 
 -- The key ring of this module: `unfolding opened` opens every definition above.
 unfoldable pub opened : Unit {0}
-unfolding network_reply names_reply turn_told turn_left edit_reply edit_left sheet_edit_reply sheet_edit_left run_reply run_left answers_left divide_reply divide_left merge_reply merge_left findings_reply
+unfolding entering network_reply names_reply turn_told turn_left edit_reply edit_left sheet_edit_reply sheet_edit_left run_reply run_left answers_left divide_reply divide_left merge_reply merge_left findings_reply
     findings_left area_reply area_left pair_reply pair_left recheck_told recheck_left recheck_area_told recheck_area_left read_reply read_left write_reply write_left project_reply project_left
 opened = tt

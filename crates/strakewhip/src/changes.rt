@@ -6,10 +6,10 @@ ghost use Rattle.edit_calls.specs.Lists as lists;
 ghost use Rattle.replies.specs.Replies.{of_reply};
 ghost use Rattle.strakewhip.specs.Calls.{edit_reply, edit_left, sheet_edit_reply, sheet_edit_left, run_reply, run_left, answers_left};
 
-use edit_calls::Run;
+use crate::entering::{entered, is_division, is_sheet};
+use edit_calls::RunError;
 use edit_replies::changes;
-use network_files::reading::read_network;
-use replies::Reply;
+use replies::{CallError, Reply};
 use timetable::FileForm;
 
 // One edit, by the bytes that it has in a file.
@@ -17,14 +17,10 @@ use timetable::FileForm;
 pub extern "C" fn strakewhip_edit(network: &[u8], edit: &[u8], division: &mut [u8]) -> Reply
     ensures { (result ≡ edit_reply network.now edit.now division.old) × (division.new ≡ edit_left network.now edit.now division.old) }
 {
-    if division.len() != 49152 {
-        return replies::plain(5);
+    match entered(is_division(division), network) {
+        Ok(n) => changes::one_on_division(&n, edit, division),
+        Err(reply) => reply,
     }
-    let read = read_network(network);
-    if read.refusal != 0 {
-        return replies::placed(1, read.refusal, read.place);
-    }
-    changes::one_on_division(read.network, edit, division)
 }
 
 // The same on one sheet of all stations.
@@ -32,23 +28,20 @@ pub extern "C" fn strakewhip_edit(network: &[u8], edit: &[u8], division: &mut [u
 pub extern "C" fn strakewhip_edit_sheet(network: &[u8], edit: &[u8], sheet: &mut [u8]) -> Reply
     ensures { (result ≡ sheet_edit_reply network.now edit.now sheet.old) × (sheet.new ≡ sheet_edit_left network.now edit.now sheet.old) }
 {
-    if sheet.len() != 8192 {
-        return replies::plain(5);
+    match entered(is_sheet(sheet), network) {
+        Ok(n) => changes::one_on_sheet(&n, edit, sheet),
+        Err(reply) => reply,
     }
-    let read = read_network(network);
-    if read.refusal != 0 {
-        return replies::placed(1, read.refusal, read.place);
-    }
-    changes::one_on_sheet(read.network, edit, sheet)
 }
 
-fn of_run(r: Run) -> Reply
+#[tactic(auto, unfolding(edit_calls::specs::Lists::reply, replies::specs::Replies::opened))]
+fn of_run(r: Result<usize, RunError>) -> Reply
     ensures { result ≡ of_reply (lists.reply r) }
 {
     match r {
-        Run::Answered(k) => replies::sized(0, k),
-        Run::Refused(k, p) => replies::placed(2, k, p),
-        Run::TooShort(k) => replies::sized(13, k),
+        Ok(length) => replies::sized(0, length),
+        Err(RunError::Refused(e)) => Reply::from(CallError::InFile(2, e)),
+        Err(RunError::TooShort(needed)) => Reply::from(CallError::TooShort(needed)),
     }
 }
 
@@ -62,14 +55,10 @@ fn run_as(
 ) -> Reply
     ensures { (result ≡ run_reply form network.now edits.now division.old answers.old) × (division.new ≡ run_left form network.now edits.now division.old answers.old) × (answers.new ≡ answers_left form network.now edits.now division.old answers.old) }
 {
-    if division.len() != 49152 {
-        return replies::plain(5);
+    match entered(is_division(division), network) {
+        Ok(n) => of_run(edit_calls::run_list(division, &n, edits, form, answers)),
+        Err(reply) => reply,
     }
-    let read = read_network(network);
-    if read.refusal != 0 {
-        return replies::placed(1, read.refusal, read.place);
-    }
-    of_run(edit_calls::run_list(division, read.network, edits, form, answers))
 }
 
 #[unsafe(no_mangle)]

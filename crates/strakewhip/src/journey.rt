@@ -2,7 +2,7 @@
 ghost use Rattle.std.specs.Prelude.{◌≡◌};
 ghost use Rattle.strakewhip.specs.Calls.{project_reply, project_left};
 
-use network_files::reading::read_network;
+use crate::entering::{entered, is_sheet};
 use projection::calls;
 use railway::minute::Minute;
 use railway::sorts::{Station, Train};
@@ -19,19 +19,15 @@ pub extern "C" fn strakewhip_project(
 ) -> Reply
     ensures { (result ≡ project_reply network.now sheet.now station train arrival out.old) × (out.new ≡ project_left network.now sheet.now station train arrival out.old) }
 {
-    if sheet.len() != 8192 {
-        return replies::plain(5);
+    match entered(is_sheet(sheet), network) {
+        Ok(n) => replies::of_result(calls::project(
+            sheet,
+            &n,
+            Station(station),
+            Train(train),
+            Minute(arrival),
+            out,
+        )),
+        Err(reply) => reply,
     }
-    let read = read_network(network);
-    if read.refusal != 0 {
-        return replies::placed(1, read.refusal, read.place);
-    }
-    replies::of_output(calls::project(
-        sheet,
-        read.network,
-        Station(station),
-        Train(train),
-        Minute(arrival),
-        out,
-    ))
 }

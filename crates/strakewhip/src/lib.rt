@@ -3,6 +3,7 @@
 // out/libstrakewhip.a under the names that they have here; include/strakewhip.h says what each one does.
 #![tactic(auto)]
 
+mod entering; // whether the buffers fit, and the network
 mod asking; // a network read; the areas that an edit names
 mod turns; // a network file of an earlier form turned
 mod changes; // an edit, and a list of edits

@@ -2,8 +2,8 @@
 ghost use Rattle.std.specs.Prelude.{◌≡◌};
 ghost use Rattle.strakewhip.specs.Calls.{recheck_told, recheck_left, recheck_area_told, recheck_area_left};
 
+use crate::entering::{entered, is_sheet};
 use edit_replies::rechecks;
-use network_files::reading::read_network;
 use railway::sorts::Area;
 use replies::Reply;
 
@@ -17,14 +17,10 @@ pub extern "C" fn strakewhip_recheck(
 ) -> Reply
     ensures { (result ≡ recheck_told network.now sheet.now edit.now list.now out.old) × (out.new ≡ recheck_left network.now sheet.now edit.now list.now out.old) }
 {
-    if sheet.len() != 8192 {
-        return replies::plain(5);
+    match entered(is_sheet(sheet), network) {
+        Ok(n) => rechecks::on_sheet(&n, sheet, edit, list, out),
+        Err(reply) => reply,
     }
-    let read = read_network(network);
-    if read.refusal != 0 {
-        return replies::placed(1, read.refusal, read.place);
-    }
-    rechecks::on_sheet(read.network, sheet, edit, list, out)
 }
 
 #[unsafe(no_mangle)]
@@ -38,12 +34,8 @@ pub extern "C" fn strakewhip_recheck_area(
 ) -> Reply
     ensures { (result ≡ recheck_area_told network.now sheet.now edit.now area list.now out.old) × (out.new ≡ recheck_area_left network.now sheet.now edit.now area list.now out.old) }
 {
-    if sheet.len() != 8192 {
-        return replies::plain(5);
+    match entered(is_sheet(sheet), network) {
+        Ok(n) => rechecks::on_area(&n, sheet, edit, Area(area), list, out),
+        Err(reply) => reply,
     }
-    let read = read_network(network);
-    if read.refusal != 0 {
-        return replies::placed(1, read.refusal, read.place);
-    }
-    rechecks::on_area(read.network, sheet, edit, Area(area), list, out)
 }

@@ -6,19 +6,20 @@ ghost use Rattle.timetable_entries.specs.Answers.{timetable_outcome};
 ghost use Rattle.replies.specs.Replies.{of_outcome};
 ghost use Rattle.strakewhip.specs.Calls.{read_reply, read_left, write_reply, write_left};
 
-use network_files::reading::read_network;
-use replies::Reply;
+use crate::entering::{entered, is_sheet};
+use base::refusal::FileError;
+use replies::{CallError, Reply};
 use timetable::FileForm;
-use timetable_entries::rest::TimetableRead;
 use timetable_files::calls;
 use timetable_writing::calls as writing;
 
-fn of_read(r: TimetableRead) -> Reply
+#[tactic(auto, unfolding(replies::specs::Replies::opened))]
+fn of_read(r: Result<usize, FileError>) -> Reply
     ensures { result ≡ of_outcome 2 (timetable_outcome r) }
 {
     match r {
-        TimetableRead::Read(k) => replies::sized(0, k),
-        TimetableRead::Refused(k, p) => replies::placed(2, k, p),
+        Ok(length) => replies::sized(0, length),
+        Err(e) => Reply::from(CallError::InFile(2, e)),
     }
 }
 
@@ -26,14 +27,10 @@ fn of_read(r: TimetableRead) -> Reply
 fn read_as(form: FileForm, network: &[u8], timetable: &[u8], sheet: &mut [u8]) -> Reply
     ensures { (result ≡ read_reply form network.now timetable.now sheet.old) × (sheet.new ≡ read_left form network.now timetable.now sheet.old) }
 {
-    if sheet.len() != 8192 {
-        return replies::plain(5);
+    match entered(is_sheet(sheet), network) {
+        Ok(n) => of_read(calls::read_timetable_as(timetable, form, &n, sheet)),
+        Err(reply) => reply,
     }
-    let read = read_network(network);
-    if read.refusal != 0 {
-        return replies::placed(1, read.refusal, read.place);
-    }
-    of_read(calls::read_timetable_as(timetable, form, read.network, sheet))
 }
 
 #[unsafe(no_mangle)]
@@ -55,12 +52,8 @@ pub extern "C" fn strakewhip_read_early(network: &[u8], timetable: &[u8], sheet:
 pub extern "C" fn strakewhip_write(network: &[u8], sheet: &[u8], out: &mut [u8]) -> Reply
     ensures { (result ≡ write_reply network.now sheet.now out.old) × (out.new ≡ write_left network.now sheet.now out.old) }
 {
-    if sheet.len() != 8192 {
-        return replies::plain(5);
+    match entered(is_sheet(sheet), network) {
+        Ok(n) => replies::of_result(writing::write_timetable(sheet, &n, out)),
+        Err(reply) => reply,
     }
-    let read = read_network(network);
-    if read.refusal != 0 {
-        return replies::placed(1, read.refusal, read.place);
-    }
-    replies::of_output(writing::write_timetable(sheet, read.network, out))
 }

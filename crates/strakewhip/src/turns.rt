@@ -4,17 +4,18 @@ ghost use Rattle.turning.specs.Answers as answers;
 ghost use Rattle.replies.specs.Replies.{of_reply_in};
 ghost use Rattle.strakewhip.specs.Calls.{form_of, turn_told, turn_left};
 
-use replies::Reply;
+use replies::{CallError, Reply};
 use timetable::NetworkForm;
-use turning::Turned;
+use turning::TurnError;
 
-fn of_turned(t: Turned) -> Reply
+#[tactic(auto, unfolding(turning::specs::Answers::reply, replies::specs::Replies::opened))]
+fn of_turned(t: Result<usize, TurnError>) -> Reply
     ensures { result ≡ of_reply_in 1 (answers.reply t) }
 {
     match t {
-        Turned::Written(k) => replies::sized(0, k),
-        Turned::Refused(k, p) => replies::placed(1, k, p),
-        Turned::TooShort(k) => replies::sized(13, k),
+        Ok(length) => replies::sized(0, length),
+        Err(TurnError::InFile(e)) => Reply::from(CallError::InFile(1, e)),
+        Err(TurnError::TooShort(needed)) => Reply::from(CallError::TooShort(needed)),
     }
 }
 

@@ -1,18 +1,22 @@
 -- `strakewhip::asking::strakewhip_names` meets its contract: the network is refused, or what the edit names. Assumes
 -- nothing.
-use mathlib.Core.Path.{◌∙◌}
+use mathlib.Core.Path.{refl}
+use mathlib.Core.Bool.{true}
+use Rattle.timetable.specs.NetworkFile.{read_network}
+use Rattle.replies.specs.Replies.{told}
+use Rattle.edit_replies.specs.Replies.{named_under}
 use Rattle.strakewhip.specs.Calls.{names_reply}
-use Rattle.strakewhip.proofs.FileLaws.{network_refused, network_read}
+use Rattle.strakewhip.proofs.FileLaws.{stopped, reached}
 use Rattle.strakewhip.proofs.asking.strakewhip_names.Goals as goal
 
-pub returns-then-read-ne0 : goal.returns-then-read-ne0
-unfolding names_reply
-returns-then-read-ne0 c =
-    let r = c.read_network-read in
-    c.placed.ensures ∙ network_refused _ r.result r.ensures _ _ c.if-read-ne0.true
+pub returns-in-Ok : goal.returns-in-Ok
+unfolding names_reply told
+returns-in-Ok c =
+    let s = c.args in
+    (reached {X = Unit {0}} true (read_network s.network.now) tt (λ n. named_under n s.edit.now) (λ n. tt) _ true refl c.entered.ensures _ c.in-Ok.is _ tt c.names_under.ensures refl).0
 
-pub returns : goal.returns
-unfolding names_reply
-returns c =
-    let r = c.read_network-read in
-    c.names_under.ensures ∙ network_read _ r.result r.ensures _ _ c.if-read-ne0.false
+pub returns-in-Err : goal.returns-in-Err
+unfolding names_reply told
+returns-in-Err c =
+    let s = c.args in
+    (stopped {X = Unit {0}} true (read_network s.network.now) tt (λ n. named_under n s.edit.now) (λ n. tt) _ true refl c.entered.ensures _ c.in-Err.is).0

@@ -1,28 +1,14 @@
--- `strakewhip::rechecks::strakewhip_recheck_area` meets its contract: the buffers do not fit, the network is
--- refused, or the call is reached. Assumes nothing.
-use lib.ListN.{length}
-use borrow.Author.Tests.{eq-eqb, ne_eqb}
+-- `strakewhip::rechecks::strakewhip_recheck_area` meets its contract: it is stopped where it enters, or the call is reached. Assumes nothing.
 use Rattle.strakewhip.specs.Calls.{recheck_area_told, recheck_area_left}
-use Rattle.strakewhip.proofs.FileLaws.{unfit, stopped, reached, so}
+use Rattle.strakewhip.proofs.FileLaws.{stopped, reached}
 use Rattle.strakewhip.proofs.rechecks.strakewhip_recheck_area.Goals as goal
 
-pub returns-then-sheet-ne8192 : goal.returns-then-sheet-ne8192
+pub returns-in-Ok : goal.returns-in-Ok
 unfolding recheck_area_told recheck_area_left
-returns-then-sheet-ne8192 c =
-    let s = c.args in
-    so _ _ _ _ _ _ _ _ c.plain.ensures (unfit _ _ _ _ _ (ne_eqb (length s.sheet.now) 8192 c.if-sheet-ne8192.true))
-
-pub returns-then-read-ne0 : goal.returns-then-read-ne0
-unfolding recheck_area_told recheck_area_left
-returns-then-read-ne0 c =
-    let s = c.args in
-    let r = c.read_network-read in
-    so _ _ _ _ _ _ _ _ c.placed.ensures (stopped _ _ _ _ _ (eq-eqb (length s.sheet.now) 8192 c.if-sheet-ne8192.false) r.result r.ensures c.if-read-ne0.true)
-
-pub returns : goal.returns
-unfolding recheck_area_told recheck_area_left
-returns c =
-    let s = c.args in
-    let r = c.read_network-read in
+returns-in-Ok c =
     let x = c.on_area.ensures in
-    reached _ _ _ _ _ (eq-eqb (length s.sheet.now) 8192 c.if-sheet-ne8192.false) r.result r.ensures c.if-read-ne0.false _ _ x.0 x.1
+    reached _ _ _ _ _ _ _ c.is_sheet.ensures c.entered.ensures _ c.in-Ok.is _ _ x.0 x.1
+
+pub returns-in-Err : goal.returns-in-Err
+unfolding recheck_area_told recheck_area_left
+returns-in-Err c = stopped _ _ _ _ _ _ _ c.is_sheet.ensures c.entered.ensures _ c.in-Err.is
