@@ -7,13 +7,12 @@ ghost use Rattle.std.specs.Prelude.{◌≡◌, ◌<◌, ◌≤◌, length, take,
 ghost use Rattle.console.specs.Printed.{printed};
 ghost use Rattle.console.specs.Filled.{ReadPart};
 
-use base::refusal::OutputError;
 use std::io;
 use std::io::{Read, Write};
 
-// The head of the buffer that the call wrote, nothing where it was refused.
+// The head of the buffer that the call wrote, nothing where it was refused, whatever the error.
 #[tactic(auto, unfolding(crate::specs::Printed::printed))]
-fn written(out: &[u8], output: Result<usize, OutputError>) -> &[u8]
+fn written<E: Copy>(out: &[u8], output: Result<usize, E>) -> &[u8]
     ensures text { result.now ≡ take (printed output out.now) out.now }
     ensures count { length result.now ≡ printed output out.now }
 {
@@ -25,10 +24,10 @@ fn written(out: &[u8], output: Result<usize, OutputError>) -> &[u8]
 
 // Writes what the call wrote; answers how many bytes that is. An error, which only the writer brings, leaves open how
 // many of them were written; where there are none to write, none comes.
-pub fn print<W: Write>(
+pub fn print<W: Write, E: Copy>(
     writer: &mut W,
     out: &[u8],
-    output: Result<usize, OutputError>,
+    output: Result<usize, E>,
 ) -> io::Result<usize>
     ensures count { IfOk result (λ n. n ≡ printed output out.now) }
     ensures bytes { OnOk result (Appends (W.contents writer.old) (W.contents writer.new) (take (printed output out.now) out.now)) }
