@@ -365,14 +365,4 @@ impl Network {
         }
         Ok(())
     }
-
-    // The number of `check`, 0 for a good network.
-    pub fn refusal(&self) -> u8
-        ensures { result ≡ network_refusal self.now }
-    {
-        match self.check() {
-            Ok(()) => 0,
-            Err(refusal) => u8::from(refusal),
-        }
-    }
 }

@@ -6,10 +6,8 @@ use mathlib.Core.List.{List, [], ◌∷◌, ◌++◌, flat_map}
 use native.Mathlib.Omega.{arith}
 use lib.ListN.{length, get_or, set, take, drop, length-set, length-take, length-append, drop_of_length-le}
 use lib.Seq.{get_or-take}
-use borrow.Author.Tests.{le-leb, lt-leb, ne_eqb}
 use Rattle.base.proofs.Lengths.{drop_next}
-use Rattle.timetable.specs.Types.{Output}
-use Rattle.timetable.specs.Outputs.{reply, output, output_after, put, Puts}
+use Rattle.timetable.specs.Outputs.{put, Puts}
 
 module _ {X : Type 0} where
   pub put_length : (at : ℕ) (xs b : List X) → length (put at xs b) ≡ length b
@@ -36,24 +34,6 @@ module _ {X : Type 0} where
   put_whole (x ∷ xs) [] h = absurd (omega arith)
   put_whole (x ∷ xs) (y ∷ b) h =
       ap (λ (i : ℕ). put i xs (x ∷ b)) (omega arith) ∙ put_next 0 xs x b ∙ ap (λ (l : List X). x ∷ l) (put_whole xs b (omega arith))
-
-  -- a call that fills a buffer: refused; with more numbers than there is room for; and with room for all
-  module _ (xs b : List X) where
-    pub refused_so : (k : ℕ) → ¬ (k ≡ 0) → (reply (Output.Refused k) ≡ output k xs b) × (b ≡ output_after k xs b)
-    unfolding reply output output_after
-    refused_so k z = (sym (rw (ne_eqb k 0 z)), sym (rw (ne_eqb k 0 z)))
-
-    pub too_short : (k : ℕ) → k ≡ length xs → length b < k → (reply (Output.TooShort k) ≡ output 0 xs b) × (b ≡ output_after 0 xs b)
-    unfolding reply output output_after
-    too_short k e h =
-        let l : length b < length xs = omega (arith, e, h) in
-        (sym (rw (lt-leb (length xs) (length b) l, e)), sym (rw (lt-leb (length xs) (length b) l)))
-
-    pub fits_in : (k : ℕ) → k ≡ length xs → k ≤ length b → (reply (Output.Written k) ≡ output 0 xs b) × (put 0 xs b ≡ output_after 0 xs b)
-    unfolding reply output output_after
-    fits_in k e h =
-        let l : length xs ≤ length b = omega (arith, e, h) in
-        (sym (rw (le-leb (length xs) (length b) l, e)), put_whole xs b l ∙ sym (rw (le-leb (length xs) (length b) l)))
 
   -- two parts, the one written behind the other; r and s are the places behind them
   pub put_two : (at r s : ℕ) (xs ys b c d : List X) → r ≡ at + length xs → c ≡ put at xs b → s ≡ r + length ys → d ≡ put r ys c

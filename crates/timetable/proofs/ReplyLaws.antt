@@ -1,11 +1,14 @@
--- Document 01's number and values of an answer leave nothing open: they tell each case of its enum from the others.
--- Assumes nothing.
+-- The number and values of an answer leave nothing open: they tell each case of its type from the others. Assumes
+-- nothing.
 use Prim.Native.Nat.{ℕ}
 use mathlib.Core.Path.{◌≡◌, refl, sym, ◌∙◌, ap}
-use Rattle.std.specs.Prelude.{None, Some}
+use Rattle.std.specs.Prelude.{None, Some, Result, Ok, Err, if◌then◌else◌, eqb}
 use native.Mathlib.Omega.{arith}
-use Rattle.timetable.specs.Types.{Output}
-use Rattle.timetable.specs.Outputs.{Reply, written, needed, refused, reply}
+use Rattle.base.specs.RefusalNumbers.{number_of}
+use Rattle.base.specs.declared.refusal.Refusal.{Refusal}
+use Rattle.base.specs.declared.refusal.Refusal.TheVariants.{EndsOrGoesOn, NotShortest, OutOfRange, NotJoined, WrongLength, BadSheet, NotKnown, ThereAlready, Missing, LinkedOtherwise, AltersOccurred, LimitReached, OutputTooShort, ClosureBackwards, FromTheFuture}
+use Rattle.base.specs.declared.refusal.OutputError.{OutputError}
+use Rattle.timetable.specs.Outputs.{Reply, written, needed, refused, reply_of}
 
 -- what comes along with one of them does not come along with the other
 pub clash {ℓ} : {P : Type ℓ} (k : ℕ) → None ≡ Some k → P
@@ -14,27 +17,57 @@ clash k e = let z : ◌≡◌ {A = ℕ} 0 1 = cc in absurd (omega arith)
 pub same_size : (x y : Reply) (j k : ℕ) → x ≡ y → x.size ≡ Some j → y.size ≡ Some k → j ≡ k
 same_size x y j k e f g = let q : Some j ≡ Some k = sym f ∙ ap (λ (r : Reply). r.size) e ∙ g in cc
 
-pub written_alone : (r : Output) (k : ℕ) → reply r ≡ written k → r ≡ Output.Written k
-unfolding reply
-written_alone (Output.Written j) k e = ap Output.Written (same_size (written j) (written k) j k e refl refl)
-written_alone (Output.Refused j) k e = clash k (ap (λ (r : Reply). r.size) e)
-written_alone (Output.TooShort j) k e = let z : ◌≡◌ {A = ℕ} 13 0 = ap (λ (r : Reply). r.number) e in absurd (omega (arith, z))
+-- the refusal that has a number
+refusal_at : ℕ → Refusal
+refusal_at k =
+    if eqb k 1 then EndsOrGoesOn else (if eqb k 2 then NotShortest else (if eqb k 3 then OutOfRange else (if eqb k 4 then NotJoined
+    else (if eqb k 5 then WrongLength else (if eqb k 6 then BadSheet else (if eqb k 7 then NotKnown else (if eqb k 8 then ThereAlready
+    else (if eqb k 9 then Missing else (if eqb k 10 then LinkedOtherwise else (if eqb k 11 then AltersOccurred
+    else (if eqb k 12 then LimitReached else (if eqb k 13 then OutputTooShort else (if eqb k 14 then ClosureBackwards else FromTheFuture)))))))))))))
 
-pub needed_alone : (r : Output) (k : ℕ) → reply r ≡ needed k → r ≡ Output.TooShort k
-unfolding reply
-needed_alone (Output.Written j) k e = let z : ◌≡◌ {A = ℕ} 0 13 = ap (λ (r : Reply). r.number) e in absurd (omega (arith, z))
-needed_alone (Output.Refused j) k e = clash k (ap (λ (r : Reply). r.size) e)
-needed_alone (Output.TooShort j) k e = ap Output.TooShort (same_size (needed j) (needed k) j k e refl refl)
+refusal_back : (r : Refusal) → refusal_at (number_of r) ≡ r
+unfolding refusal_at
+refusal_back EndsOrGoesOn = refl
+refusal_back NotShortest = refl
+refusal_back OutOfRange = refl
+refusal_back NotJoined = refl
+refusal_back WrongLength = refl
+refusal_back BadSheet = refl
+refusal_back NotKnown = refl
+refusal_back ThereAlready = refl
+refusal_back Missing = refl
+refusal_back LinkedOtherwise = refl
+refusal_back AltersOccurred = refl
+refusal_back LimitReached = refl
+refusal_back OutputTooShort = refl
+refusal_back ClosureBackwards = refl
+refusal_back FromTheFuture = refl
 
-pub refused_alone : (r : Output) (k : ℕ) → reply r ≡ refused k → r ≡ Output.Refused k
-unfolding reply
-refused_alone (Output.Written j) k e = clash j (sym (ap (λ (r : Reply). r.size) e))
-refused_alone (Output.Refused j) k e = ap Output.Refused (ap (λ (r : Reply). r.number) e)
-refused_alone (Output.TooShort j) k e = clash j (sym (ap (λ (r : Reply). r.size) e))
+-- two refusals with one number are one
+pub number_fixes : (r s : Refusal) → number_of r ≡ number_of s → r ≡ s
+number_fixes r s e = sym (refusal_back r) ∙ ap refusal_at e ∙ refusal_back s
+
+pub written_alone : (r : Result ℕ OutputError) (k : ℕ) → reply_of r ≡ written k → r ≡ Ok k
+unfolding reply_of
+written_alone (Ok j) k e = ap Ok (same_size (written j) (written k) j k e refl refl)
+written_alone (Err (OutputError.Refused q)) k e = clash k (ap (λ (r : Reply). r.size) e)
+written_alone (Err (OutputError.TooShort j)) k e = let z : ◌≡◌ {A = ℕ} 13 0 = ap (λ (r : Reply). r.number) e in absurd (omega (arith, z))
+
+pub needed_alone : (r : Result ℕ OutputError) (k : ℕ) → reply_of r ≡ needed k → r ≡ Err (OutputError.TooShort k)
+unfolding reply_of
+needed_alone (Ok j) k e = let z : ◌≡◌ {A = ℕ} 0 13 = ap (λ (r : Reply). r.number) e in absurd (omega (arith, z))
+needed_alone (Err (OutputError.Refused q)) k e = clash k (ap (λ (r : Reply). r.size) e)
+needed_alone (Err (OutputError.TooShort j)) k e = ap (λ i. Err (OutputError.TooShort i)) (same_size (needed j) (needed k) j k e refl refl)
+
+pub refused_alone : (r : Result ℕ OutputError) (q : Refusal) → reply_of r ≡ refused (number_of q) → r ≡ Err (OutputError.Refused q)
+unfolding reply_of
+refused_alone (Ok j) q e = clash j (sym (ap (λ (r : Reply). r.size) e))
+refused_alone (Err (OutputError.Refused p)) q e = ap (λ x. Err (OutputError.Refused x)) (number_fixes p q (ap (λ (r : Reply). r.number) e))
+refused_alone (Err (OutputError.TooShort j)) q e = clash j (sym (ap (λ (r : Reply). r.size) e))
 
 -- so answers with one reply are one answer
-pub reply_fixes : (r s : Output) → reply r ≡ reply s → r ≡ s
-unfolding reply
-reply_fixes r (Output.Written k) e = written_alone r k e
-reply_fixes r (Output.Refused k) e = refused_alone r k e
-reply_fixes r (Output.TooShort k) e = needed_alone r k e
+pub reply_fixes : (r s : Result ℕ OutputError) → reply_of r ≡ reply_of s → r ≡ s
+unfolding reply_of
+reply_fixes r (Ok k) e = written_alone r k e
+reply_fixes r (Err (OutputError.Refused q)) e = refused_alone r q e
+reply_fixes r (Err (OutputError.TooShort k)) e = needed_alone r k e

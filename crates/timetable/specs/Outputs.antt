@@ -6,7 +6,6 @@ use Rattle.std.specs.Prelude.{Option, None, Some, Result, Ok, Err}
 use Rattle.std.specs.Prelude.{if◌then◌else◌}
 use Rattle.base.specs.RefusalNumbers.{number_of}
 use Rattle.base.specs.declared.refusal.OutputError.{OutputError}
-use Rattle.timetable.specs.Types.{Output}
 
 -- an answer as document 01 gives it: "a refusal number or 0", and what comes along: the place of a file's refusal, how
 -- many numbers are written or needed
@@ -29,12 +28,7 @@ refused_at k p = record { number = k; place = Some p; size = None }
 abbrev pub needed : ℕ → Reply
 needed k = record { number = 13; place = None; size = Some k }
 
--- "When an answer is an enum, a definition gives this paper's number and values for each case of that enum."
-unfoldable pub reply : Output → Reply
-reply (Output.Written k) = written k
-reply (Output.Refused k) = refused k
-reply (Output.TooShort k) = needed k
-
+-- an answer's number and what comes along, for each of its cases
 unfoldable pub reply_of : Result ℕ OutputError → Reply
 reply_of (Ok k) = written k
 reply_of (Err (OutputError.Refused r)) = refused (number_of r)
@@ -60,5 +54,5 @@ Puts at xs before r after k = (r ≡ at + length xs) × (after ≡ put at xs bef
 
 -- The key ring of this module: `unfolding opened` opens every definition above.
 unfoldable pub opened : Unit {0}
-unfolding reply reply_of output output_after put
+unfolding reply_of output output_after put
 opened = tt

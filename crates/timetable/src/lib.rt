@@ -38,16 +38,6 @@ pub struct Tally {
     pub removed: u32,
 }
 
-// What a call that fills a lent buffer answers.
-#[derive(Clone, Copy, Debug, PartialEq, Eq, Hash)]
-pub enum Output {
-    // How many numbers it wrote, from the buffer's start.
-    Written(usize),
-    Refused(u8),
-    // 13, with the needed length.
-    TooShort(usize),
-}
-
 // The forms of a network file, by what a line's row has; a later one is one more case.
 #[derive(Clone, Copy, Debug, PartialEq, Eq, Hash)]
 pub enum NetworkForm {
