@@ -2,8 +2,6 @@
 ghost use Rattle.std.specs.Prelude.{◌≡◌};
 ghost use Rattle.base.specs.RefusalNumbers.{number_of, HasNumber};
 
-use std::fmt;
-
 /// Why a file, a buffer or an edit is turned down; each case has its number.
 #[derive(Clone, Copy, Debug, PartialEq, Eq, Hash)]
 pub enum Refusal {
@@ -85,11 +83,5 @@ impl TryFrom<u8> for Refusal {
             15 => Ok(Refusal::FromTheFuture),
             _ => Err(UnknownRefusal(number)),
         }
-    }
-}
-
-impl fmt::Display for Refusal {
-    fn fmt<W: fmt::Write>(&self, f: &mut fmt::Formatter<W>) -> fmt::Result {
-        write!(f, "refused with {}", u8::from(*self))
     }
 }

@@ -6,9 +6,6 @@ ghost use Rattle.std.specs.Prelude.{◌≡◌, ◌≤◌, ◌+◌, ◌%◌};
 ghost use Rattle.numbers.specs.Answers.{number_outcome, refusal_of};
 ghost use Rattle.numbers.specs.Numbers.{read_groups, read_number, width, with_number};
 
-use std::error::Error;
-use std::fmt;
-
 /// Why no number stands at the head of some bytes.
 #[derive(Clone, Copy, Debug, PartialEq, Eq, Hash)]
 pub enum NumberError {
@@ -29,17 +26,6 @@ impl From<NumberError> for u8 {
         }
     }
 }
-
-impl fmt::Display for NumberError {
-    fn fmt<W: fmt::Write>(&self, f: &mut fmt::Formatter<W>) -> fmt::Result {
-        f.write_str(match self {
-            NumberError::EndsEarly => "the bytes end early",
-            NumberError::NotShortest => "the number is not shortest",
-        })
-    }
-}
-
-impl Error for NumberError {}
 
 // The number in the rest, where `left` groups more are permitted, and how many bytes it takes.
 fn read_groups(bytes: &[u8], left: u8) -> Result<(u32, usize), NumberError>

@@ -3,12 +3,12 @@
 
 ghost use Rattle.std.specs.Prelude.{◌≡◌};
 ghost use Rattle.base.specs.declared.refusal.OutputError.{OutputError};
-ghost use Rattle.timetable.specs.Outputs.{reply, reply_of};
+ghost use Rattle.timetable.specs.Outputs.{reply_of};
 ghost use Rattle.replies.specs.Replies.{sized, plain, placed, of_answer, of_reply};
 ghost use Rattle.replies.specs.Calls.{told_error, output_error, removed_reply, length_reply};
 
 use base::refusal::{FileError, OutputError, Refusal};
-use timetable::{Answer, Output};
+use timetable::Answer;
 
 // By value, as C has it: 24 bytes.
 #[repr(C)]
@@ -130,17 +130,6 @@ pub fn of_answer(a: Answer) -> Reply
     Reply {
         removed: a.removed,
         ..plain(a.refusal)
-    }
-}
-
-#[tactic(auto, unfolding(timetable::specs::Outputs::opened, crate::specs::Replies::opened))]
-pub fn of_output(o: Output) -> Reply
-    ensures { result ≡ of_reply (reply o) }
-{
-    match o {
-        Output::Written(k) => sized(0, k),
-        Output::Refused(k) => plain(k),
-        Output::TooShort(k) => sized(13, k),
     }
 }
 

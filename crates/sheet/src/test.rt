@@ -358,7 +358,7 @@ fn page_under(page: &[u8], network: &Network, s: Station, good: bool) -> bool
 pub fn good_page(page: &[u8], network: &Network, s: Station) -> bool
     ensures { result ≡ good_page network.now s page.now }
 {
-    page_under(page, network, s, network.refusal() == 0)
+    page_under(page, network, s, network.check().is_ok())
 }
 
 // The stations that a sheet is over: all that are listed, or those of an area.
@@ -418,7 +418,7 @@ fn sheet_under(sheet: &[u8], network: &Network, extent: Extent, good: bool) -> b
 pub fn good_sheet(sheet: &[u8], network: &Network, extent: Extent) -> bool
     ensures { result ≡ sheet_passes network.now extent sheet.now }
 {
-    sheet_under(sheet, network, extent, network.refusal() == 0)
+    sheet_under(sheet, network, extent, network.check().is_ok())
 }
 
 // What refuses a sheet under a network, which is asked once: 3 and 4 of the network, then 6.
@@ -438,7 +438,7 @@ pub fn good_division(division: &[u8], network: &Network) -> bool
     if division.len() != 49152 {
         return false;
     }
-    let good = network.refusal() == 0;
+    let good = network.check().is_ok();
     let mut i: usize = 0;
     let mut a: u8 = 1;
     while i < 6 {

@@ -59,15 +59,17 @@ needed_alone (Ok j) k e = let z : ◌≡◌ {A = ℕ} 0 13 = ap (λ (r : Reply).
 needed_alone (Err (OutputError.Refused q)) k e = clash k (ap (λ (r : Reply). r.size) e)
 needed_alone (Err (OutputError.TooShort j)) k e = ap (λ i. Err (OutputError.TooShort i)) (same_size (needed j) (needed k) j k e refl refl)
 
-pub refused_alone : (r : Result ℕ OutputError) (q : Refusal) → reply_of r ≡ refused (number_of q) → r ≡ Err (OutputError.Refused q)
+pub refused_alone : (r : Result ℕ OutputError) (k : ℕ) → reply_of r ≡ refused k → (q : Refusal) × (r ≡ Err (OutputError.Refused q)) × (number_of q ≡ k)
 unfolding reply_of
-refused_alone (Ok j) q e = clash j (sym (ap (λ (r : Reply). r.size) e))
-refused_alone (Err (OutputError.Refused p)) q e = ap (λ x. Err (OutputError.Refused x)) (number_fixes p q (ap (λ (r : Reply). r.number) e))
-refused_alone (Err (OutputError.TooShort j)) q e = clash j (sym (ap (λ (r : Reply). r.size) e))
+refused_alone (Ok j) k e = clash j (sym (ap (λ (r : Reply). r.size) e))
+refused_alone (Err (OutputError.Refused q)) k e = (q, refl, ap (λ (r : Reply). r.number) e)
+refused_alone (Err (OutputError.TooShort j)) k e = clash j (sym (ap (λ (r : Reply). r.size) e))
 
 -- so answers with one reply are one answer
 pub reply_fixes : (r s : Result ℕ OutputError) → reply_of r ≡ reply_of s → r ≡ s
 unfolding reply_of
 reply_fixes r (Ok k) e = written_alone r k e
-reply_fixes r (Err (OutputError.Refused q)) e = refused_alone r q e
+reply_fixes r (Err (OutputError.Refused q)) e =
+    let x = refused_alone r (number_of q) e in
+    x.1 ∙ ap (λ y. Err (OutputError.Refused y)) (number_fixes x.0 q x.2)
 reply_fixes r (Err (OutputError.TooShort k)) e = needed_alone r k e

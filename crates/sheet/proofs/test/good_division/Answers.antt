@@ -12,9 +12,6 @@ returns-then-division-ne49152 c =
     let s = c.args in
     division_short s.network.now s.division.now c.if-division-ne49152.true
 
-pub refusal-good-requires : goal.refusal-good-requires
-refusal-good-requires c = search rules
-
 pub loop-i-init : goal.loop-i-init
 loop-i-init c =
     let s = c.args in
@@ -34,9 +31,6 @@ slice_bounds-sheet_under-start c = omega arith
 
 pub slice_bounds-sheet_under-end : goal.slice_bounds-sheet_under-end
 slice_bounds-sheet_under-end c = omega arith
-
-pub sheet_under-requires : goal.sheet_under-requires
-sheet_under-requires c = λ e. sym c.refusal-good.ensures ∙ eqb-true _ _ e
 
 pub overflow_add-i : goal.overflow_add-i
 overflow_add-i c = omega arith
