@@ -32,6 +32,10 @@ refused_alone (Err (RunError.Refused x)) k p e =
     (x, refl, ap (λ (r : Reply). r.number) e, cc)
 refused_alone (Err (RunError.TooShort j)) k p e = clash p (ap (λ (r : Reply). r.place) e)
 
+-- two refusals of a list with one refusal and one place are one
+one_refusal : (y x : FileError) → y.refusal ≡ x.refusal → y.place ≡ x.place → ◌≡◌ {A = Result ℕ RunError} (Err (RunError.Refused y)) (Err (RunError.Refused x))
+one_refusal y x same place = rw (same, place)
+
 -- so answers with one reply are one answer
 pub reply_fixes : (r s : Result ℕ RunError) → reply r ≡ reply s → r ≡ s
 unfolding reply
@@ -39,5 +43,5 @@ reply_fixes r (Ok k) e = answered_alone r k e
 reply_fixes r (Err (RunError.Refused x)) e =
     let y = refused_alone r (number_of x.refusal) x.place e in
     let same : y.0.refusal ≡ x.refusal = number_fixes y.0.refusal x.refusal y.2 in
-    y.1 ∙ rw (same, y.3)
+    y.1 ∙ one_refusal y.0 x same y.3
 reply_fixes r (Err (RunError.TooShort k)) e = short_alone r k e
