@@ -119,7 +119,7 @@ def tests():
         cells = []
         for size in SIZES:
             whole = of_call(name, size, 'library') - of_call('network', size, 'library')
-            refusal = turned(name, size, 'network::Network::refusal') / asked
+            refusal = turned(name, size, 'network::Network::check') / asked
             tested = turned(name, size, 'sheet::test::sheet_under') + refusal
             cells.append(f'{short(whole)}, {short(tested)} ({whole / tested:.2f})')
         row(f'`{name}`', *cells)
