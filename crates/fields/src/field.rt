@@ -1,9 +1,9 @@
 // One number of a file, and rows of numbers, each with its range.
-ghost use Rattle.std.specs.Prelude.{◌≡◌, [], map, ◌%◌};
+ghost use Rattle.std.specs.Prelude.{◌≡◌, [], map, take, length, ◌%◌};
 ghost use Rattle.std.specs.Prelude.{if◌then◌else◌};
 ghost use Rattle.base.specs.Lists.{within};
 ghost use Rattle.timetable.specs.Formats.{field_at, read, row, accepted, refused};
-ghost use Rattle.fields.specs.between.Answers.{outcome, range_of, EndsAt};
+ghost use Rattle.fields.specs.between.Answers.{outcome, filled, range_of, EndsAt};
 
 use base::refusal::{FileError, Refusal};
 use numbers::NumberError;
@@ -66,18 +66,21 @@ pub fn field(file: &[u8], at: usize, lo: u32, hi: u16) -> Result<(u16, usize), F
     }
 }
 
-/// A row of numbers from a place of the file on, one for each range, and the place behind them.
+/// A row of numbers from a place of the file on, one for each range, and the place behind them. How many ranges there
+/// are need not be known before: the row has room for N numbers, and holds zeros behind those that it reads.
 pub fn row<const N: usize>(
     file: &[u8],
     at: usize,
-    spans: &[Span; N],
+    spans: &[Span],
 ) -> Result<([u16; N], usize), FileError>
-    ensures { outcome result ≡ read (row (map range_of spans.now) []) file.now at }
+    ensures told { outcome result ≡ filled N (read (row (map range_of (take N spans.now)) []) file.now at) }
+    ensures whole { length spans.now ≡ N → outcome result ≡ read (row (map range_of spans.now) []) file.now at }
 {
+    let used = &spans[..N.min(spans.len())];
     let mut values = [0; N];
     let mut place = at;
-    for i in 0..N {
-        let (value, next) = field(file, place, spans[i].lo, spans[i].hi)?;
+    for i in 0..used.len() {
+        let (value, next) = field(file, place, used[i].lo, used[i].hi)?;
         values[i] = value;
         place = next;
     }

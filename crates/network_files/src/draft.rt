@@ -80,7 +80,7 @@ fn station_row(file: &[u8], at: usize, before: u8) -> Result<(StationRow, usize)
     };
     let area = Span { lo: 1, hi: 6 };
     let tracks = Span { lo: 1, hi: 8 };
-    let ([station, area, tracks], place) = row(file, at, &[number, area, tracks])?;
+    let ([station, area, tracks], place) = row::<3>(file, at, &[number, area, tracks])?;
     let row = StationRow {
         station: Station(narrow(station)),
         area: Area(narrow(area)),
@@ -143,7 +143,7 @@ fn line_row(
     match form {
         NetworkForm::OneTime => {
             let spans = [number, end, end, kind, least, capacity];
-            let ([l, a, b, k, time, c], place) = row(file, at, &spans)?;
+            let ([l, a, b, k, time, c], place) = row::<6>(file, at, &spans)?;
             Ok((line_from([l, a, b, k, time, time, c]), place))
         }
         NetworkForm::TwoTimes => {

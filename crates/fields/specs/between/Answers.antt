@@ -23,6 +23,11 @@ range_of s = s.lo to s.hi
 unfoldable pub padded : {A : Type 0} → ℕ → A → List A → List A
 padded k d xs = xs ++ replicate (k - length xs) d
 
+-- what a row with room for k numbers holds where these are read
+unfoldable pub filled : ℕ → Outcome (List ℕ) → Outcome (List ℕ)
+filled k (accepted ns next) = accepted (padded k 0 ns) next
+filled k (refused n p) = refused n p
+
 -- the numbers of a row that are there
 unfoldable pub in_use : Numbers → List ℕ
 in_use f = take f.count f.values
@@ -33,5 +38,5 @@ row_of ns = record { count = length ns; values = padded 13 0 ns }
 
 -- The key ring of this module: `unfolding opened` opens every definition above.
 unfoldable pub opened : Unit {0}
-unfolding padded in_use row_of
+unfolding padded filled in_use row_of
 opened = tt

@@ -3,7 +3,7 @@
 use Prim.Native.Nat.{ℕ}
 use mathlib.Core.Path.{◌≡◌}
 use mathlib.Core.List.{List, [], map}
-use lib.ListN.{length, drop}
+use lib.ListN.{drop}
 use Rattle.timetable.specs.Formats.{Outcome, read, row}
 use Rattle.fields.specs.declared.field.Span.{Span}
 use Rattle.fields.specs.between.Answers.{padded, range_of}
@@ -15,4 +15,4 @@ left_at file spans i place = read (row (map range_of (drop i spans)) []) file pl
 
 abbrev pub invariant-loop-i : goal.invariant-loop-i
 invariant-loop-i g l =
-    (s : SoFar (left_at l.file l.spans 0 l.at) l.i (left_at l.file l.spans l.i l.place)) × (l.values ≡ padded (length l.spans) 0 s.elements)
+    (s : SoFar (left_at l.file l.used 0 l.at) l.i (left_at l.file l.used l.i l.place)) × (l.values ≡ padded g.row.N 0 s.elements)

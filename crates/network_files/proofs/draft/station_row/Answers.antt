@@ -1,7 +1,7 @@
 -- `network_files::draft::station_row` meets its contract: the row of numbers decides, and an accepted one is the
 -- station of its numbers, which all fit bytes. Assumes nothing.
 use Prim.Native.Nat.{ℕ, ◌+◌}
-use mathlib.Core.Path.{◌≡◌, sym, ◌∙◌, ap}
+use mathlib.Core.Path.{◌≡◌, refl, sym, ◌∙◌, ap}
 use mathlib.Core.List.{List, [], ◌∷◌}
 use Rattle.base.specs.Lists.{every}
 use Rattle.base.specs.RefusalNumbers.{number_of}
@@ -25,12 +25,12 @@ returns-in_err-station c =
     let s = c.args in
     let e = c.in_err-station.field-0.0 in
     refused_told c.from_residual.result e c.from_residual.ensures.1
-    ∙ row_unmade station_of station_ranges tt tt s.before s.file.now s.at (ranges c.from.result) (raised c.from.result s.before c.from.ensures) (number_of e.refusal) e.place (sym c.in_err-station.ensures)
+    ∙ row_unmade station_of station_ranges tt tt s.before s.file.now s.at (ranges c.from.result) (raised c.from.result s.before c.from.ensures) (number_of e.refusal) e.place (sym (c.in_err-station.ensures.whole refl))
 
 pub returns : goal.returns
 unfolding station_entry station_ranges every
 returns c =
     let s = c.args in
     let r = c.in_ok-station in
-    row_made station_of station_ranges tt tt s.before s.file.now s.at (ranges c.from.result) (raised c.from.result s.before c.from.ensures) r.field-0-0 r.place (sym r.ensures)
+    row_made station_of station_ranges tt tt s.before s.file.now s.at (ranges c.from.result) (raised c.from.result s.before c.from.ensures) r.field-0-0 r.place (sym (r.ensures.whole refl))
     _ (station_bytes r.field-0-0 c.narrow.result c.narrow-2.result c.narrow-3.result c.narrow.ensures c.narrow-2.ensures c.narrow-3.ensures)
