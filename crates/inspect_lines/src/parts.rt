@@ -51,6 +51,30 @@ fn put_part(out: &mut [u8], k: usize, sheet: &[u8], n: &Network, bytes: &[u8]) -
     }
 }
 
+// A part of what is printed of a sheet that can be printed, as a text.
+#[derive(Clone, Copy, Debug, PartialEq, Eq, Hash)]
+struct Part<'a> {
+    k: usize,
+    sheet: &'a [u8],
+    n: &'a Network,
+    bytes: &'a [u8],
+    ghost printable: { (sheet_list_refusal n.now sheet.now ≡ 0) × (length bytes.now ≤ 16384) },
+}
+
+impl draft::Text for Part<'_> {
+    ghost text = { λ p. part_text p.n.now p.sheet.now p.bytes.now p.k };
+
+    ghost bound = { part_most };
+
+    fn most(&self) -> usize {
+        MOST
+    }
+
+    fn put(&self, out: &mut [u8]) -> usize {
+        put_part(out, self.k, self.sheet, self.n, self.bytes)
+    }
+}
+
 // The part with index k of what is printed of a sheet and the bytes that were read as its timetable. Where the buffer
 // may be too short the bytes are counted first, so that it is then left as it was.
 pub fn inspect_part(
@@ -67,12 +91,7 @@ pub fn inspect_part(
         return Err(OutputError::Refused(Refusal::WrongLength));
     }
     calls::sheet_refusal(sheet, n)?;
-    draft::drafted(
-        out,
-        MOST,
-        &mut [],
-        |buffer| put_part(buffer, k, sheet, n, bytes),
-    )
+    draft::drafted(out, &mut [], &Part { k, sheet, n, bytes })
 }
 
 // The input, read into the lent sheet: 5 for one that is too long, as for a sheet of another length.

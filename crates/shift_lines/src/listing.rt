@@ -120,15 +120,30 @@ fn put_listing(out: &mut [u8], input: &[u8]) -> usize
     }
 }
 
+// What is printed, as a text.
+#[derive(Clone, Copy, Debug, PartialEq, Eq, Hash)]
+struct Listing<'a> {
+    input: &'a [u8],
+}
+
+impl draft::Text for Listing<'_> {
+    ghost text = { λ l. shift_text l.input.now };
+
+    ghost bound = { shift_most };
+
+    fn most(&self) -> usize {
+        MOST
+    }
+
+    fn put(&self, out: &mut [u8]) -> usize {
+        put_listing(out, self.input)
+    }
+}
+
 // All lines.
 pub fn write_listing(input: &[u8], out: &mut [u8]) -> Result<usize, OutputError>
     ensures { (reply_of result ≡ output 0 (shift_text input.now) out.old)
         × (out.new ≡ output_after 0 (shift_text input.now) out.old) }
 {
-    draft::drafted(
-        out,
-        MOST,
-        &mut [0u8; SHORT],
-        |buffer| put_listing(buffer, input),
-    )
+    draft::drafted(out, &mut [0u8; SHORT], &Listing { input })
 }

@@ -27,6 +27,27 @@ pub fn put_refusal(out: &mut [u8], number: u8, place: usize) -> usize
     line_of(out, number, place)
 }
 
+// The line of a refusal, as a text; nothing for a place that no input has.
+#[derive(Clone, Copy, Debug, PartialEq, Eq, Hash)]
+struct RefusalLine {
+    number: u8,
+    place: usize,
+}
+
+impl draft::Text for RefusalLine {
+    ghost text = { λ l. refusal_at l.number l.place };
+
+    ghost bound = { 68 };
+
+    fn most(&self) -> usize {
+        68
+    }
+
+    fn put(&self, out: &mut [u8]) -> usize {
+        put_refusal(out, self.number, self.place)
+    }
+}
+
 // The line of a refusal; 3 for a place that no input has.
 pub fn refusal_line(number: u8, place: usize, out: &mut [u8]) -> Result<usize, OutputError>
     ensures { (reply_of result ≡ output (line_refusal place) (refusal_text number place) out.old)
@@ -35,5 +56,5 @@ pub fn refusal_line(number: u8, place: usize, out: &mut [u8]) -> Result<usize, O
     if 16384 < place {
         return Err(OutputError::Refused(Refusal::OutOfRange));
     }
-    draft::drafted(out, 68, &mut [], |buffer| line_of(buffer, number, place))
+    draft::drafted(out, &mut [], &RefusalLine { number, place })
 }

@@ -1,7 +1,6 @@
 -- `inspect_lines::parts::inspect_part` meets its contract: refused by the tests, or the part of a good sheet. Assumes
 -- nothing.
 use mathlib.Core.Path.{sym}
-use borrow.Author.Rules.{rules}
 use Rattle.std.proofs.lemmas.Result.{err_from_is_err_and}
 use Rattle.inspect_lines.specs.Parts.{part_text}
 use Rattle.inspect_lines.proofs.InputPrinted.{too_long_part, sheet_part, answers_as}
@@ -23,4 +22,4 @@ pub returns : goal.returns
 unfolding part_text
 returns c =
     let s = c.args in
-    answers_as s.n.now s.sheet.now s.bytes.now c.if-bytes-gt16384.false (sym c.in_ok-sheet_refusal.ensures) _ s.out.now _ _ (c.drafted.ensures (part_text s.n.now s.sheet.now s.bytes.now s.k) (search rules))
+    answers_as s.n.now s.sheet.now s.bytes.now c.if-bytes-gt16384.false (sym c.in_ok-sheet_refusal.ensures) _ s.out.now _ _ (c.drafted.ensures.answer, c.drafted.ensures.after)

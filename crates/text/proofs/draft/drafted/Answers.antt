@@ -1,33 +1,37 @@
 -- `text::draft::drafted` meets its contract: there is room for any text, or it was counted in the draft, and the buffer
 -- has room for it or not. Assumes nothing.
-use Prim.Native.Nat.{ℕ}
-use mathlib.Core.Path.{◌∙◌, ap}
-use mathlib.Core.List.{List, ◌++◌}
 use native.Mathlib.Omega.{arith}
-use lib.ListN.{drop}
-use Rattle.text.proofs.OutputLaws.{put_at_once, left_short, put_counted, copied}
+use Rattle.text.proofs.OutputLaws.{put_at_once, left_short, put_counted, handed}
 use Rattle.text.proofs.draft.drafted.Goals as goal
-use Rattle.text.proofs.draft.drafted.Goals.{then-needed-draft, else-needed-draft}
 
-pub returns-then-most-out : goal.returns-then-most-out
-returns-then-most-out g c = λ text puts.
-    let a = c.args in
-    put_at_once text a.out.now a.most _ _ (puts _ _ _ c.put.ensures) c.if-most-out.true
+pub returns-then-most-out-clause-answer : goal.returns-then-most-out-clause-answer
+returns-then-most-out-clause-answer g c =
+    (put_at_once (g.T.Text.text c.args.text.now) c.args.out.now g.T.Text.bound _ _ c.put.ensures (omega (arith, c.if-most-out.true, c.most-most.ensures))).0
 
-pub returns-then-out-needed : goal.returns-then-out-needed
-returns-then-out-needed g c = λ text puts.
-    let a = c.args in
-    left_short text a.out.now a.most _ _ _ (puts _ _ _ c.put-needed.ensures) c.if-out-needed.true
+pub returns-then-most-out-clause-after : goal.returns-then-most-out-clause-after
+returns-then-most-out-clause-after g c =
+    (put_at_once (g.T.Text.text c.args.text.now) c.args.out.now g.T.Text.bound _ _ c.put.ensures (omega (arith, c.if-most-out.true, c.most-most.ensures))).1
 
-pub returns : goal.returns
-returns g c = λ text puts.
-    let a = c.args in
-    let counted = puts _ _ _ c.put-needed.ensures in
-    elim c.if-needed-draft.branch [
-      | then-needed-draft w ↦
-          let done = copied text a.out.now a.most a.draft.now _ _ counted (omega (arith, w.if-needed-draft.true, c.put-needed.auto.arg2)) c.if-out-needed.false in
-          (done.0, w.out-is ∙ ap (λ (k : List ℕ). k ++ drop c.put-needed.result a.out.now) w.copy_from_slice.ensures.after ∙ done.1)
-      | else-needed-draft w ↦
-          let done = put_counted text a.out.now a.most _ _ _ counted _ _ c.if-out-needed.false (puts _ _ _ w.put-else-needed-draft.ensures) in
-          (done.0, w.out-is ∙ done.1)
-    ]
+pub returns-then-needed-draft-clause-answer : goal.returns-then-needed-draft-clause-answer
+returns-then-needed-draft-clause-answer g c =
+    (handed (g.T.Text.text c.args.text.now) c.args.out.now g.T.Text.bound c.args.draft.now _ _ c.put-needed.ensures (omega (arith, c.if-needed-draft.true, c.put-needed.auto.out)) _ _ c.hand_over.ensures).0
+
+pub returns-then-needed-draft-clause-after : goal.returns-then-needed-draft-clause-after
+returns-then-needed-draft-clause-after g c =
+    (handed (g.T.Text.text c.args.text.now) c.args.out.now g.T.Text.bound c.args.draft.now _ _ c.put-needed.ensures (omega (arith, c.if-needed-draft.true, c.put-needed.auto.out)) _ _ c.hand_over.ensures).1
+
+pub returns-then-out-needed-clause-answer : goal.returns-then-out-needed-clause-answer
+returns-then-out-needed-clause-answer g c =
+    (left_short (g.T.Text.text c.args.text.now) c.args.out.now g.T.Text.bound _ _ _ c.put-needed.ensures c.if-out-needed.true).0
+
+pub returns-then-out-needed-clause-after : goal.returns-then-out-needed-clause-after
+returns-then-out-needed-clause-after g c =
+    (left_short (g.T.Text.text c.args.text.now) c.args.out.now g.T.Text.bound _ _ _ c.put-needed.ensures c.if-out-needed.true).1
+
+pub returns-clause-answer : goal.returns-clause-answer
+returns-clause-answer g c =
+    (put_counted (g.T.Text.text c.args.text.now) c.args.out.now g.T.Text.bound _ _ _ c.put-needed.ensures _ _ c.if-out-needed.false c.put-2.ensures).0
+
+pub returns-clause-after : goal.returns-clause-after
+returns-clause-after g c =
+    (put_counted (g.T.Text.text c.args.text.now) c.args.out.now g.T.Text.bound _ _ _ c.put-needed.ensures _ _ c.if-out-needed.false c.put-2.ensures).1
