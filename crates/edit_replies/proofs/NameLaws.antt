@@ -1,14 +1,10 @@
 -- The areas that an edit names: its refusal, or the bits that the code adds up. Assumes nothing.
 use Prim.Native.Nat.{ℕ}
 use mathlib.Core.Path.{◌≡◌, sym, ◌∙◌, ap}
-use mathlib.Core.Bool.{false}
-use lib.Dec.{eqb}
-use Rattle.base.specs.declared.refusal.Refusal.{Refusal}
-use Rattle.base.specs.RefusalNumbers.{number_of}
+use borrow.Author.Tests.{ne_eqb}
 use Rattle.network.specs.Networks.{area_of}
 use Rattle.timetable.specs.Groups.{names_group}
 use Rattle.actions.specs.Early.{early_refusal}
-use Rattle.actions.proofs.OrderLaws.{not_nought}
 use Rattle.actions.proofs.EarlyLaws.{Early, early_facts}
 use Rattle.named_sheets.specs.between.Named.{touches_area}
 use Rattle.edit_calls.proofs.CallTests.{area_named}
@@ -22,11 +18,9 @@ module _ (n : Network) (e : Edit) where
   same_bits early =
       rw (area_named n e early 1, area_named n e early 2, area_named n e early 3, area_named n e early 4, area_named n e early 5, area_named n e early 6)
 
-  pub names_none : (r : Refusal) → number_of r ≡ early_refusal n e → plain (number_of r) ≡ named n e
+  pub names_none : (k : ℕ) → k ≡ early_refusal n e → ¬ (k ≡ 0) → plain k ≡ named n e
   unfolding named
-  names_none r q =
-      let z : eqb (early_refusal n e) 0 ≡ false = ap (λ (k : ℕ). eqb k 0) (sym q) ∙ not_nought r in
-      sym (rw (z, ← q))
+  names_none k q z = ap (λ (x : ℕ). plain x) q ∙ sym (rw (ne_eqb (early_refusal n e) 0 (λ w. z (q ∙ w))))
 
   pub names_some : 0 ≡ early_refusal n e → (m : ℕ) → m ≡ bits (touches_area n e) → sized 0 m ≡ named n e
   unfolding named

@@ -15,14 +15,16 @@ use Rattle.base.proofs.Tests.{T_true, every_true}
 use Rattle.railway.specs.Ranges.{same_train}
 use Rattle.railway.specs.Relations.{present, used}
 use Rattle.timetable.specs.Tables.{Entry, Table, visit_of}
-use Rattle.timetable.specs.Rules.{both_visit, ahead, caught, others}
+use Rattle.timetable.specs.Visits.{leaves}
+use Rattle.timetable.specs.Rules.{both_visit, ahead, caught, others, breaks_6}
+use Rattle.visits.proofs.LinkLaws.{leaves_at, leaves_none}
 use Rattle.records.specs.Records.{decode_train, decode_visit}
 use Rattle.page.specs.between.Changes.{table_in}
 use Rattle.page.specs.between.Entries.{entry_bytes, entry_at}
 use Rattle.page.proofs.EntryLaws.{entries_next, entries_over, entry_of, entry_parts}
-use Rattle.page_rules.specs.Types.{Train, Outward, Visit, Trains}
+use Rattle.page_rules.specs.Types.{Train, OutLink, Outward, Visit, Trains, Network}
 use Rattle.rules.specs.between.Parts.{entry, leads, catches}
-use Rattle.page_rules.specs.between.Parts.{one_met, two_met, leaders}
+use Rattle.page_rules.specs.between.Parts.{one_met, two_met, leaders, crowds}
 
 -- rule 6
 
@@ -59,6 +61,16 @@ leaders_none t v o = refl
 pub none_caught : (t : Train) (v : Visit) (o : Outward) → any (caught v o) (leaders t v o []) ≡ false
 unfolding leaders others keep any
 none_caught t v o = refl
+
+-- a visit whose departure is pending, by its link
+module _ (n : Network) (es : List Entry) (t : Train) (v : Visit) (pending : v.departed ≡ false) where
+  pub six_none : v.outward ≡ OutLink.Nothing → breaks_6 n es (entry t v) ≡ false
+  unfolding breaks_6 crowds leaders
+  six_none e = ap (λ b. not b && leaves (λ q. crowds n t v q es) v) pending ∙ leaves_none (λ q. crowds n t v q es) v e
+
+  pub six_at : (o : Outward) → v.outward ≡ OutLink.To o → breaks_6 n es (entry t v) ≡ crowds n t v o es
+  unfolding breaks_6 crowds leaders
+  six_at o e = ap (λ b. not b && leaves (λ q. crowds n t v q es) v) pending ∙ leaves_at (λ q. crowds n t v q es) v o e
 
 -- the entries of a page from an index on, gone through by their indices
 module _ (t : Train) (v : Visit) (o : Outward) (page : List ℕ) where

@@ -1,1 +1,2 @@
 pub mod HeldLaws
+pub mod NumbersBeside

@@ -12,6 +12,11 @@ module _ {X : Type 0} (fits : Bool) (o : Outcome Network) (buffer : X) (call : N
   abbrev pub Ends : Reply → X → Type 0
   Ends x y = (x ≡ told fits o call) × (y ≡ left fits o buffer after)
 
+  -- whatever the network's file holds
+  pub unfit : fits ≡ false → Ends (plain 5) buffer
+  unfolding told left
+  unfit f = (sym (rw f), sym (rw f))
+
   -- r is where the call entered
   module _ (r : Result Network Reply) (fit : Bool) (same : fit ≡ fits) (entered : r ≡ entering fit o) where
     entry : r ≡ entering fits o

@@ -1,1 +1,2 @@
 pub mod TurnLaws
+pub mod ReplyFixesTurn

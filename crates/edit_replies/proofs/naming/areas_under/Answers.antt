@@ -4,6 +4,7 @@ use mathlib.Core.Path.{refl}
 use Rattle.std.proofs.lemmas.Result.{err_from_is_err_and}
 use Rattle.replies.specs.Replies.{by_file}
 use Rattle.edit_replies.specs.Replies.{named_under}
+use Rattle.timetable.proofs.OutputLaws.{number_there}
 use Rattle.edit_replies.proofs.NameLaws.{names_none, names_some}
 use Rattle.edit_replies.proofs.naming.areas_under.Goals as goal
 
@@ -20,7 +21,7 @@ returns-in_err-early_refusal c =
     let b = c.from_residual-in_err-early_refusal in
     let p = err_from_is_err_and b.result b.ensures.1 in
     let r = c.in_err-early_refusal in
-    rw (p.1, p.2, c.in_ok-e.ensures) (names_none c.args.n.now c.in_ok-e.e r.field-0.0 r.ensures)
+    rw (p.1, p.2, c.in_ok-e.ensures) (names_none c.args.n.now c.in_ok-e.e _ r.ensures (number_there r.field-0.0))
 
 pub returns : goal.returns
 unfolding named_under by_file

@@ -1,0 +1,47 @@
+-- Document 01's number and values of a turned file leave nothing open: they tell each case of its answer from the
+-- others. A place comes along with a refusal alone, and a length with the two others, whose numbers differ. Assumes
+-- nothing.
+use Prim.Native.Nat.{ℕ}
+use mathlib.Core.Path.{◌≡◌, refl, sym, ◌∙◌, ap}
+use native.Mathlib.Omega.{arith}
+use Rattle.std.specs.Prelude.{Some, Result, Ok, Err}
+use Rattle.base.specs.RefusalNumbers.{number_of}
+use Rattle.base.specs.declared.refusal.FileError.{FileError}
+use Rattle.timetable.specs.Outputs.{Reply, written, needed, refused_at}
+use Rattle.timetable.proofs.ReplyLaws.{clash, same_size, number_fixes}
+use Rattle.turning.specs.declared.TurnError.{TurnError}
+use Rattle.turning.specs.Answers.{reply}
+
+pub turned_alone : (r : Result ℕ TurnError) (k : ℕ) → reply r ≡ written k → r ≡ Ok k
+unfolding reply
+turned_alone (Ok j) k e = ap Ok (same_size (written j) (written k) j k e refl refl)
+turned_alone (Err (TurnError.InFile x)) k e = clash k (ap (λ (r : Reply). r.size) e)
+turned_alone (Err (TurnError.TooShort j)) k e = let z : ◌≡◌ {A = ℕ} 13 0 = ap (λ (r : Reply). r.number) e in absurd (omega (arith, z))
+
+pub short_alone : (r : Result ℕ TurnError) (k : ℕ) → reply r ≡ needed k → r ≡ Err (TurnError.TooShort k)
+unfolding reply
+short_alone (Ok j) k e = let z : ◌≡◌ {A = ℕ} 0 13 = ap (λ (r : Reply). r.number) e in absurd (omega (arith, z))
+short_alone (Err (TurnError.InFile x)) k e = clash k (ap (λ (r : Reply). r.size) e)
+short_alone (Err (TurnError.TooShort j)) k e = ap (λ (i : ℕ). Err (TurnError.TooShort i)) (same_size (needed j) (needed k) j k e refl refl)
+
+pub refused_alone : (r : Result ℕ TurnError) (k p : ℕ) → reply r ≡ refused_at k p → (x : FileError) × (r ≡ Err (TurnError.InFile x)) × (number_of x.refusal ≡ k) × (x.place ≡ p)
+unfolding reply
+refused_alone (Ok j) k p e = clash p (ap (λ (r : Reply). r.place) e)
+refused_alone (Err (TurnError.InFile x)) k p e =
+    let places : Some x.place ≡ Some p = ap (λ (r : Reply). r.place) e in
+    (x, refl, ap (λ (r : Reply). r.number) e, cc)
+refused_alone (Err (TurnError.TooShort j)) k p e = clash p (ap (λ (r : Reply). r.place) e)
+
+-- two refusals of a file with one refusal and one place are one
+one_refusal : (y x : FileError) → y.refusal ≡ x.refusal → y.place ≡ x.place → ◌≡◌ {A = Result ℕ TurnError} (Err (TurnError.InFile y)) (Err (TurnError.InFile x))
+one_refusal y x same place = rw (same, place)
+
+-- so answers with one reply are one answer
+pub reply_fixes : (r s : Result ℕ TurnError) → reply r ≡ reply s → r ≡ s
+unfolding reply
+reply_fixes r (Ok k) e = turned_alone r k e
+reply_fixes r (Err (TurnError.InFile x)) e =
+    let y = refused_alone r (number_of x.refusal) x.place e in
+    let same : y.0.refusal ≡ x.refusal = number_fixes y.0.refusal x.refusal y.2 in
+    y.1 ∙ one_refusal y.0 x same y.3
+reply_fixes r (Err (TurnError.TooShort k)) e = short_alone r k e
