@@ -44,7 +44,8 @@ struct Lister<'a> {
 }
 
 impl<'a> Lister<'a> {
-    // t with each train of a page from an index on.
+    // t with each train of a page from an index on. Merged into its callers, as it is passed two visits by value.
+    #[inline(always)]
     fn list_against(
         &self,
         out: &mut [u16],

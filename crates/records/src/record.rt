@@ -111,7 +111,9 @@ fn visit_by<F: Fn(usize) -> u8>(byte: F) -> Visit
     }
 }
 
-// The visit of a visit record; of other bytes those past the end read as zeros.
+// The visit of a visit record; of other bytes those past the end read as zeros. It is merged into its callers: they read
+// a record for each two trains, of which a rule needs few bytes, and a call would build the whole visit.
+#[inline(always)]
 pub fn visit_in(r: &[u8]) -> Visit
     ensures { result ≡ decode_visit r.now }
 {
