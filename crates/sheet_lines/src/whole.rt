@@ -55,8 +55,9 @@ fn put_listed(
     }
 }
 
-// In an array that has room for any list, so that it never calls itself. A function that may call itself is not merged
-// into its caller: the array's pages are touched only where it is needed.
+// In an array that has room for any list, so that it never calls itself. It is kept out of its caller, so that the
+// array's pages are touched only where it is needed: a call of itself that comes last does not keep it out.
+#[inline(never)]
 fn put_any(out: &mut [u8], at: usize, sheet: &[u8], n: &Network) -> Whole
     requires { at ≤ far }
     ensures { PutsWhole at n.now sheet.now out.old result out.new }
