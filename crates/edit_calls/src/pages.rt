@@ -14,6 +14,8 @@ pub(crate) fn edit_pages(b: &mut [u8], layout: Layout, n: &Network, e: Edit) -> 
     ensures after { b.new ≡ frames_after layout n.now e b.old }
     ensures err { OnErr result (b.new ≡ b.old) }
 {
-    page_edits::refusal_on(b, layout, n, e)?;
-    Ok(page_edits::change_on(b, layout, n, e))
+    match page_edits::refusal_on(b, layout, n, e) {
+        Ok(()) => Ok(page_edits::change_on(b, layout, n, e)),
+        Err(refusal) => Err(refusal),
+    }
 }

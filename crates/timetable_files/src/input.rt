@@ -30,10 +30,12 @@ pub fn read_inspect(file: &[u8], sheet: &mut [u8]) -> Result<InspectRead, FileEr
     }
     let (head, first) = draft::read_draft(file)?;
     let network = head.network;
-    let place = rest::read_rest(file, first, FileForm::Newest, &network, head.fault, sheet)?;
-    Ok(InspectRead {
-        network,
-        first,
-        place,
-    })
+    match rest::read_rest(file, first, FileForm::Newest, &network, head.fault, sheet) {
+        Ok(place) => Ok(InspectRead {
+            network,
+            first,
+            place,
+        }),
+        Err(fault) => Err(fault),
+    }
 }
