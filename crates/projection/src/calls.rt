@@ -21,6 +21,7 @@ fn are_valid(s: Station, t: Train, a: Minute) -> bool
 }
 
 // 3, 14, 4 or 7: what refuses before the sheet is looked at.
+#[tactic(auto, using(crate::proofs::ProjectionCall::early_values, crate::proofs::ProjectionCall::early_network, crate::proofs::ProjectionCall::early_unknown, crate::proofs::ProjectionCall::early_none))]
 fn early_refusal(n: &Network, s: Station, t: Train, a: Minute) -> Result<(), Refusal>
     ensures { refusal_number result ≡ early_refusal n.now s t a }
 {
