@@ -3,3 +3,4 @@ pub mod KnownGood
 pub mod TakenLaws
 pub mod RunLaws
 pub mod ReplyFixesRun
+pub mod PairAnswers

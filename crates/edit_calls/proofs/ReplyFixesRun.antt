@@ -2,7 +2,7 @@
 -- others. A place comes along with a refusal alone, and a length with the two others, whose numbers differ. Assumes
 -- nothing.
 use Prim.Native.Nat.{ℕ}
-use mathlib.Core.Path.{◌≡◌, refl, sym, ◌∙◌, ap}
+use mathlib.Core.Path.{◌≡◌, refl, ◌∙◌, ap}
 use native.Mathlib.Omega.{arith}
 use Rattle.std.specs.Prelude.{Some, Result, Ok, Err}
 use Rattle.base.specs.RefusalNumbers.{number_of}

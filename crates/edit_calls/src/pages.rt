@@ -9,13 +9,12 @@ use network::Network;
 use page_edits::Layout;
 use railway::edit::Edit;
 
+#[tactic(auto, using(crate::proofs::PairAnswers::refusal_told, crate::proofs::PairAnswers::refusal_left, timetable::proofs::OutputLaws::number_there, crate::proofs::PairAnswers::removed_told, crate::proofs::PairAnswers::changed_left))]
 pub(crate) fn edit_pages(b: &mut [u8], layout: Layout, n: &Network, e: Edit) -> Result<u8, Refusal>
     ensures answer { answer_of result ≡ frames_answer layout n.now e b.old }
     ensures after { b.new ≡ frames_after layout n.now e b.old }
     ensures err { OnErr result (b.new ≡ b.old) }
 {
-    match page_edits::refusal_on(b, layout, n, e) {
-        Ok(()) => Ok(page_edits::change_on(b, layout, n, e)),
-        Err(refusal) => Err(refusal),
-    }
+    page_edits::refusal_on(b, layout, n, e)?;
+    Ok(page_edits::change_on(b, layout, n, e))
 }
