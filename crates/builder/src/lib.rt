@@ -44,7 +44,8 @@ struct Lister<'a> {
 }
 
 impl<'a> Lister<'a> {
-    // t with each train of a page from an index on. Merged into its callers, as it is passed two visits by value.
+    // t with each train of a page from an index on. Merged into its callers: a rule needs few of t's values, and a call
+    // would pass them all.
     #[inline(always)]
     fn list_against(
         &self,
