@@ -2,6 +2,7 @@
 ghost use Rattle.std.specs.Prelude.{◌≡◌, [], map, take, length, ◌%◌};
 ghost use Rattle.std.specs.Prelude.{if◌then◌else◌};
 ghost use Rattle.base.specs.Lists.{within};
+ghost use Rattle.base.specs.RefusalNumbers.{number_of};
 ghost use Rattle.timetable.specs.Formats.{field_at, read, row, accepted, refused};
 ghost use Rattle.fields.specs.between.Answers.{outcome, filled, range_of, EndsAt};
 
@@ -22,6 +23,18 @@ pub fn narrow(n: u16) -> u8
     (n % 256) as u8
 }
 
+// The refusal of a number that stands at a place and is out of range. It is kept out of its caller: merged into it, the
+// compiler chooses between two places by the number, and the next number is not read before this one is known.
+#[inline(never)]
+fn out_of_range(place: usize) -> FileError
+    ensures { (number_of result.refusal ≡ 3) × (result.place ≡ place) }
+{
+    FileError {
+        refusal: Refusal::OutOfRange,
+        place,
+    }
+}
+
 // A number that stands at a place, with the place behind it, where it is of lo..hi.
 fn ranged(n: u32, place: usize, next: usize, lo: u32, hi: u16) -> Result<(u16, usize), FileError>
     ensures { outcome result ≡ (if within lo hi n then accepted n next else refused 3 place) }
@@ -29,10 +42,7 @@ fn ranged(n: u32, place: usize, next: usize, lo: u32, hi: u16) -> Result<(u16, u
     if lo <= n && n <= u32::from(hi) {
         Ok((n as u16, next))
     } else {
-        Err(FileError {
-            refusal: Refusal::OutOfRange,
-            place,
-        })
+        Err(out_of_range(place))
     }
 }
 
