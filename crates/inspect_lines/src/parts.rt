@@ -91,7 +91,7 @@ pub fn inspect_part(
         return Err(OutputError::Refused(Refusal::WrongLength));
     }
     calls::sheet_refusal(sheet, n)?;
-    draft::drafted(out, &mut [], &Part { k, sheet, n, bytes })
+    draft::write_text(out, &mut [], &Part { k, sheet, n, bytes })
 }
 
 // The input, read into the lent sheet: 5 for one that is too long, as for a sheet of another length.

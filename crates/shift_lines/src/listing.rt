@@ -145,5 +145,5 @@ pub fn write_listing(input: &[u8], out: &mut [u8]) -> Result<usize, OutputError>
     ensures { (reply_of result ≡ output 0 (shift_text input.now) out.old)
         × (out.new ≡ output_after 0 (shift_text input.now) out.old) }
 {
-    draft::drafted(out, &mut [0u8; SHORT], &Listing { input })
+    draft::write_text(out, &mut [0u8; SHORT], &Listing { input })
 }

@@ -108,6 +108,14 @@ module _ (xs b : List ℕ) (most : ℕ) where
     pub put_counted : (r : ℕ) (later : List ℕ) → needed ≤ length b → Puts 0 xs b r later most → Answers (Ok needed) later
     put_counted r later h w = let x = filled xs b needed (omega (arith, counted.0)) h in (x.0, w.1 ∙ x.1)
 
+    -- the other buffer is a draft that has room for the text, and its head is copied
+    pub copied : needed ≤ length c → needed ≤ length b → Answers (Ok needed) (take needed d ++ drop needed b)
+    copied h l =
+        let many : needed ≡ length xs = omega (arith, counted.0) in
+        let held : take needed d ≡ xs = ap (take needed) counted.1 ∙ draft_holds xs c needed counted.0 h in
+        let x = filled xs b needed many l in
+        (x.0, ap (λ (k : List ℕ). k ++ drop needed b) held ∙ ap (λ (j : ℕ). xs ++ drop j b) many ∙ sym (put_whole xs b (omega (arith, many, l))) ∙ x.1)
+
     -- the other buffer is a draft that has room for the text
     pub handed : needed ≤ length c → (r : Result ℕ OutputError) (later : List ℕ) → (reply_of r ≡ output 0 (take needed d) b) × (later ≡ output_after 0 (take needed d) b)
         → Answers r later

@@ -56,5 +56,5 @@ pub fn refusal_line(number: u8, place: usize, out: &mut [u8]) -> Result<usize, O
     if 16384 < place {
         return Err(OutputError::Refused(Refusal::OutOfRange));
     }
-    draft::drafted(out, &mut [], &RefusalLine { number, place })
+    draft::write_text(out, &mut [], &RefusalLine { number, place })
 }

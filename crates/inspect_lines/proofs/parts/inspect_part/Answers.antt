@@ -22,4 +22,4 @@ pub returns : goal.returns
 unfolding part_text
 returns c =
     let s = c.args in
-    answers_as s.n.now s.sheet.now s.bytes.now c.if-bytes-gt16384.false (sym c.in_ok-sheet_refusal.ensures) _ s.out.now _ _ (c.drafted.ensures.answer, c.drafted.ensures.after)
+    answers_as s.n.now s.sheet.now s.bytes.now c.if-bytes-gt16384.false (sym c.in_ok-sheet_refusal.ensures) _ s.out.now _ _ (c.write_text.ensures.answer, c.write_text.ensures.after)

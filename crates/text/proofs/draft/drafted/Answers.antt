@@ -1,37 +1,33 @@
 -- `text::draft::drafted` meets its contract: there is room for any text, or it was counted in the draft, and the buffer
 -- has room for it or not. Assumes nothing.
+use Prim.Native.Nat.{ℕ}
+use mathlib.Core.Path.{◌∙◌, ap}
+use mathlib.Core.List.{List, ◌++◌}
 use native.Mathlib.Omega.{arith}
-use Rattle.text.proofs.OutputLaws.{put_at_once, left_short, put_counted, handed}
+use lib.ListN.{drop}
+use Rattle.text.proofs.OutputLaws.{put_at_once, left_short, put_counted, copied}
 use Rattle.text.proofs.draft.drafted.Goals as goal
+use Rattle.text.proofs.draft.drafted.Goals.{then-length-draft, else-length-draft}
 
-pub returns-then-most-out-clause-answer : goal.returns-then-most-out-clause-answer
-returns-then-most-out-clause-answer g c =
-    (put_at_once (g.T.Text.text c.args.text.now) c.args.out.now g.T.Text.bound _ _ c.put.ensures (omega (arith, c.if-most-out.true, c.most-most.ensures))).0
+pub returns-then-most-out-clause-text : goal.returns-then-most-out-clause-text
+returns-then-most-out-clause-text g c = λ text puts.
+    let a = c.args in
+    put_at_once text a.out.now a.most _ _ (puts _ _ _ c.put.ensures) c.if-most-out.true
 
-pub returns-then-most-out-clause-after : goal.returns-then-most-out-clause-after
-returns-then-most-out-clause-after g c =
-    (put_at_once (g.T.Text.text c.args.text.now) c.args.out.now g.T.Text.bound _ _ c.put.ensures (omega (arith, c.if-most-out.true, c.most-most.ensures))).1
+pub returns-then-out-length-clause-text : goal.returns-then-out-length-clause-text
+returns-then-out-length-clause-text g c = λ text puts.
+    let a = c.args in
+    left_short text a.out.now a.most _ _ _ (puts _ _ _ c.put-length.ensures) c.if-out-length.true
 
-pub returns-then-needed-draft-clause-answer : goal.returns-then-needed-draft-clause-answer
-returns-then-needed-draft-clause-answer g c =
-    (handed (g.T.Text.text c.args.text.now) c.args.out.now g.T.Text.bound c.args.draft.now _ _ c.put-needed.ensures (omega (arith, c.if-needed-draft.true, c.put-needed.auto.out)) _ _ c.hand_over.ensures).0
-
-pub returns-then-needed-draft-clause-after : goal.returns-then-needed-draft-clause-after
-returns-then-needed-draft-clause-after g c =
-    (handed (g.T.Text.text c.args.text.now) c.args.out.now g.T.Text.bound c.args.draft.now _ _ c.put-needed.ensures (omega (arith, c.if-needed-draft.true, c.put-needed.auto.out)) _ _ c.hand_over.ensures).1
-
-pub returns-then-out-needed-clause-answer : goal.returns-then-out-needed-clause-answer
-returns-then-out-needed-clause-answer g c =
-    (left_short (g.T.Text.text c.args.text.now) c.args.out.now g.T.Text.bound _ _ _ c.put-needed.ensures c.if-out-needed.true).0
-
-pub returns-then-out-needed-clause-after : goal.returns-then-out-needed-clause-after
-returns-then-out-needed-clause-after g c =
-    (left_short (g.T.Text.text c.args.text.now) c.args.out.now g.T.Text.bound _ _ _ c.put-needed.ensures c.if-out-needed.true).1
-
-pub returns-clause-answer : goal.returns-clause-answer
-returns-clause-answer g c =
-    (put_counted (g.T.Text.text c.args.text.now) c.args.out.now g.T.Text.bound _ _ _ c.put-needed.ensures _ _ c.if-out-needed.false c.put-2.ensures).0
-
-pub returns-clause-after : goal.returns-clause-after
-returns-clause-after g c =
-    (put_counted (g.T.Text.text c.args.text.now) c.args.out.now g.T.Text.bound _ _ _ c.put-needed.ensures _ _ c.if-out-needed.false c.put-2.ensures).1
+pub returns-clause-text : goal.returns-clause-text
+returns-clause-text g c = λ text puts.
+    let a = c.args in
+    let counted = puts _ _ _ c.put-length.ensures in
+    elim c.if-length-draft.branch [
+      | then-length-draft w ↦
+          let done = copied text a.out.now a.most a.draft.now _ _ counted (omega (arith, w.if-length-draft.true, c.put-length.auto.arg2)) c.if-out-length.false in
+          (done.0, w.out-is ∙ ap (λ (k : List ℕ). k ++ drop c.put-length.result a.out.now) w.copy_from_slice.ensures.after ∙ done.1)
+      | else-length-draft w ↦
+          let done = put_counted text a.out.now a.most _ _ _ counted _ _ c.if-out-length.false (puts _ _ _ w.put-else-length-draft.ensures) in
+          (done.0, w.out-is ∙ done.1)
+    ]

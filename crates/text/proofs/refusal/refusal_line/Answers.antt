@@ -23,6 +23,6 @@ returns c =
     let s = c.args in
     let text : refusal_at s.number s.place ≡ refusal_text s.number s.place = rw (le-leb s.place 16384 c.if-place-gt16384.false) refl in
     rw (le-ltb 16384 s.place c.if-place-gt16384.false) (
-      c.drafted.ensures.answer ∙ ap (λ (t : List ℕ). output 0 t s.out.now) text,
-      c.drafted.ensures.after ∙ ap (λ (t : List ℕ). output_after 0 t s.out.now) text,
+      c.write_text.ensures.answer ∙ ap (λ (t : List ℕ). output 0 t s.out.now) text,
+      c.write_text.ensures.after ∙ ap (λ (t : List ℕ). output_after 0 t s.out.now) text,
     )
