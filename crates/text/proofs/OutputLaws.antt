@@ -92,6 +92,12 @@ module _ {X : Type 0} (refusal : ℕ) (xs b : List X) (free : refusal ≡ 0) (fi
     pub never_refused {ℓ} : {P : Type ℓ} (k : OutputError) → r ≡ Err k → P
     never_refused k e = let q : ◌≡◌ {A = Result ℕ OutputError} (Err k) (Ok (length xs)) = sym e ∙ is_written in cc
 
+-- a text of k bytes, for which a buffer has room, stands before what that holds behind them
+pub in_front : (xs b : List ℕ) (k : ℕ) → k ≡ length xs → k ≤ length b → (reply_of (Ok k) ≡ output 0 xs b) × (xs ++ drop k b ≡ output_after 0 xs b)
+in_front xs b k many h =
+    let x = filled xs b k many h in
+    (x.0, ap (λ (j : ℕ). xs ++ drop j b) many ∙ sym (put_whole xs b (omega (arith, many, h))) ∙ x.1)
+
 -- a call that puts a text into a buffer with room for any; or counts first, and then leaves the buffer or puts the text
 module _ (xs b : List ℕ) (most : ℕ) where
   abbrev Answers : Result ℕ OutputError → List ℕ → Type 0
@@ -108,17 +114,17 @@ module _ (xs b : List ℕ) (most : ℕ) where
     pub put_counted : (r : ℕ) (later : List ℕ) → needed ≤ length b → Puts 0 xs b r later most → Answers (Ok needed) later
     put_counted r later h w = let x = filled xs b needed (omega (arith, counted.0)) h in (x.0, w.1 ∙ x.1)
 
-    -- the other buffer is a draft that has room for the text, and its head is copied
+    -- the other buffer is a draft that has room for the text: its head is the text
+    head_is : needed ≤ length c → take needed d ≡ xs
+    head_is h = ap (take needed) counted.1 ∙ draft_holds xs c needed counted.0 h
+
+    -- and is copied
     pub copied : needed ≤ length c → needed ≤ length b → Answers (Ok needed) (take needed d ++ drop needed b)
     copied h l =
-        let many : needed ≡ length xs = omega (arith, counted.0) in
-        let held : take needed d ≡ xs = ap (take needed) counted.1 ∙ draft_holds xs c needed counted.0 h in
-        let x = filled xs b needed many l in
-        (x.0, ap (λ (k : List ℕ). k ++ drop needed b) held ∙ ap (λ (j : ℕ). xs ++ drop j b) many ∙ sym (put_whole xs b (omega (arith, many, l))) ∙ x.1)
+        let x = in_front xs b needed (omega (arith, counted.0)) l in
+        (x.0, ap (λ (k : List ℕ). k ++ drop needed b) (head_is h) ∙ x.1)
 
-    -- the other buffer is a draft that has room for the text
+    -- or is handed over
     pub handed : needed ≤ length c → (r : Result ℕ OutputError) (later : List ℕ) → (reply_of r ≡ output 0 (take needed d) b) × (later ≡ output_after 0 (take needed d) b)
         → Answers r later
-    handed h r later a =
-        let e : take needed d ≡ xs = ap (take needed) counted.1 ∙ draft_holds xs c needed counted.0 h in
-        rw (← e) a
+    handed h r later a = rw (← head_is h) a

@@ -5,8 +5,8 @@ use mathlib.Core.Path.{◌≡◌, sym, ◌∙◌, ap}
 use mathlib.Core.List.{List, ◌++◌}
 use lib.ListN.{length, take, drop}
 use Rattle.std.proofs.lemmas.List.{take_min, length-take}
-use Rattle.timetable.proofs.OutputLaws.{short_of, filled}
-use Rattle.timetable.proofs.BuffersFilled.{put_whole}
+use Rattle.timetable.proofs.OutputLaws.{short_of}
+use Rattle.text.proofs.OutputLaws.{in_front}
 use Rattle.text.proofs.draft.hand_over.Goals as goal
 
 pub returns-then-out-count : goal.returns-then-out-count
@@ -20,6 +20,5 @@ returns c =
     let text = take s.k s.draft.now in
     let many : c.min-count.result ≡ length text = c.min-count.ensures ∙ sym (length-take s.k s.draft.now) in
     let head : take c.min-count.result s.draft.now ≡ text = ap (λ (n : ℕ). take n s.draft.now) c.min-count.ensures ∙ take_min s.k s.draft.now in
-    let x = filled text s.out.now _ many c.if-out-count.false in
-    let whole = put_whole text s.out.now (rw (← many) c.if-out-count.false) in
-    (x.0, ap (λ (l : List ℕ). l ++ drop c.min-count.result s.out.now) (c.copy_from_slice.ensures.after ∙ head) ∙ ap (λ (n : ℕ). text ++ drop n s.out.now) many ∙ sym whole ∙ x.1)
+    let x = in_front text s.out.now _ many c.if-out-count.false in
+    (x.0, ap (λ (l : List ℕ). l ++ drop c.min-count.result s.out.now) (c.copy_from_slice.ensures.after ∙ head) ∙ x.1)
